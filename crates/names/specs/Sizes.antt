@@ -1,0 +1,15 @@
+-- Document 01, "Sizes: 64 items (0 to 63), 16 slots for live transactions, 16 versions an item."
+-- Every rule takes the sizes as its first argument, so that it holds of other sizes too. Assumes nothing.
+use Prim.Native.Nat.{ℕ}
+use Rattle.names.specs.declared.Sizes.{Sizes}
+
+-- the appliance's sizes
+abbrev pub base : Sizes
+base = record { slots = 16; items = 64; places = 16 }
+
+-- "The first stamp is 0 and the last is 4,294,967,295. Transaction numbers run from 1 to 4,294,967,295"
+abbrev pub firstStamp : ℕ
+firstStamp = 0
+
+abbrev pub lastWord : ℕ
+lastWord = 4294967295

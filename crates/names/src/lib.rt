@@ -1,0 +1,118 @@
+// The words of the keeper: transaction numbers, stamps, items and slots, each a struct of its own
+// so that none can stand in for another, the four numbers of an answer, and the sizes.
+//
+// Every function is proved against a definition of specs/, and none has a `requires`.
+ghost use mathlib.Core.Path.{_≡_};
+ghost use Rattle.names.specs.Sizes.{base};
+ghost use Rattle.names.specs.Words.{nextStamp, itemOf, numberOf};
+
+// Live transactions at most, items, and versions an item at most.
+pub const SLOTS: u64 = 16;
+pub const ITEMS: u64 = 64;
+pub const PLACES: u64 = 16;
+
+// The greatest transaction number and the greatest stamp.
+pub const LAST_WORD: u64 = 4294967295;
+
+// The sizes that the definitions go by.
+pub struct Sizes {
+    pub slots: u64,
+    pub items: u64,
+    pub places: u64,
+}
+
+impl Sizes {
+    // The appliance's sizes: what ties the constants of this file to the definitions.
+    pub fn base() -> Self
+        ensures { λ r. ⌜ r ≡ base ⌝ }
+    {
+        Sizes {
+            slots: SLOTS,
+            items: ITEMS,
+            places: PLACES,
+        }
+    }
+}
+
+// The number of a transaction, from 1 to the last word; it is never given twice.
+pub struct Number(pub u64);
+
+// When an update committed.
+pub struct Stamp(pub u64);
+
+// One of the items.
+pub struct Item(pub u64);
+
+// The place of a live transaction.
+pub struct Slot(pub u64);
+
+// The stamp after another, if there is one.
+pub enum NextStamp {
+    At(Stamp),
+    Spent,
+}
+
+// What a word says of an item.
+pub enum ItemOf {
+    Known(Item),
+    Unknown,
+}
+
+// What a word says of a transaction's number.
+pub enum NumberOf {
+    Possible(Number),
+    Impossible,
+}
+
+// The four numbers of an answer.
+#[repr(C)]
+pub struct Answer {
+    pub code: u64,
+    pub value: u64,
+    pub number: u64,
+    pub looked: u64,
+}
+
+impl Stamp {
+    pub const FIRST: Stamp = Stamp(0);
+    pub const LAST: Stamp = Stamp(LAST_WORD);
+
+    pub fn next(self) -> NextStamp
+        ensures { λ r. ⌜ r ≡ nextStamp self ⌝ }
+    {
+        let stamp = self.0;
+        if stamp < Stamp::LAST.0 {
+            NextStamp::At(Stamp(stamp + 1))
+        } else {
+            NextStamp::Spent
+        }
+    }
+}
+
+impl Item {
+    // A word of a call as an item, if it is one.
+    pub fn of(word: u64) -> ItemOf
+        ensures { λ r. ⌜ r ≡ itemOf word ⌝ }
+    {
+        if word < ITEMS {
+            ItemOf::Known(Item(word))
+        } else {
+            ItemOf::Unknown
+        }
+    }
+}
+
+impl Number {
+    // A word of a call as a transaction's number, if one can have it.
+    pub fn of(word: u64) -> NumberOf
+        ensures { λ r. ⌜ r ≡ numberOf word ⌝ }
+    {
+        if word == 0 {
+            return NumberOf::Impossible;
+        }
+        if LAST_WORD < word {
+            return NumberOf::Impossible;
+        }
+        NumberOf::Possible(Number(word))
+    }
+}

@@ -1,0 +1,178 @@
+-- Document 01, "Three lent tables of 64-bit words". A table is the list of its words; rows are read and written through
+-- the records below, so that where a word stands is said here alone. Assumes nothing.
+use Prim.Native.Nat.{ℕ, zero, suc, _+_, _*_}
+use mathlib.Core.Bool.{Bool, _&&_, _||_, not, cond}
+use mathlib.Core.List.{List, [], _∷_}
+use lib.ListN.{getD, set, drop, replicate}
+use lib.Dec.{eqb}
+use Rattle.names.specs.declared.Sizes.{Sizes}
+use Rattle.rules.specs.Words.{firstFrom, mapRows, bit, withoutBit}
+
+pub record Tables : Type 0 where
+  pub txns : List ℕ
+  pub locks : List ℕ
+  pub versions : List ℕ
+
+abbrev pub tables : List ℕ → List ℕ → List ℕ → Tables
+tables t l v = record { txns = t; locks = l; versions = v }
+
+-- ---- "Transactions, 82 words: last number given; clock (stamp of the latest update commit); then 16 rows of 5"
+abbrev pub lastNumber : List ℕ → ℕ
+lastNumber t = getD t 0 0
+
+abbrev pub clock : List ℕ → ℕ
+clock t = getD t 1 0
+
+abbrev pub txnAt : ℕ → ℕ
+txnAt s = 2 + 5 * s
+
+abbrev pub txnWords : Sizes → ℕ
+txnWords S = txnAt (S .slots)
+
+-- "number (0 is free), kind (0 update, 1 query), start stamp (0 for an update), awaited lock (0 none, 1 shared, 2 exclusive),
+-- awaited item (0 if none)"
+pub record Txn : Type 0 where
+  pub number : ℕ
+  pub kind : ℕ
+  pub start : ℕ
+  pub awaitedLock : ℕ
+  pub awaitedItem : ℕ
+
+abbrev pub anUpdate : ℕ
+anUpdate = 0
+
+abbrev pub aQuery : ℕ
+aQuery = 1
+
+abbrev pub noLock : ℕ
+noLock = 0
+
+abbrev pub sharedLock : ℕ
+sharedLock = 1
+
+abbrev pub exclusiveLock : ℕ
+exclusiveLock = 2
+
+-- the row of slot s, read and written
+unfoldable pub txn : List ℕ → ℕ → Txn
+txn t s =
+    record
+      { number = getD t (txnAt s) 0
+      ; kind = getD t (txnAt s + 1) 0
+      ; start = getD t (txnAt s + 2) 0
+      ; awaitedLock = getD t (txnAt s + 3) 0
+      ; awaitedItem = getD t (txnAt s + 4) 0
+      }
+
+unfoldable pub setTxn : List ℕ → ℕ → Txn → List ℕ
+setTxn t s r =
+    set
+    (set
+    (set (set (set t (txnAt s) (r .number)) (txnAt s + 1) (r .kind)) (txnAt s + 2) (r .start))
+    (txnAt s + 3)
+    (r .awaitedLock))
+    (txnAt s + 4)
+    (r .awaitedItem)
+
+-- the awaited fields alone
+unfoldable pub setAwaited : List ℕ → ℕ → ℕ → ℕ → List ℕ
+setAwaited t s k x = set (set t (txnAt s + 3) k) (txnAt s + 4) x
+
+-- a free row
+abbrev pub noTxn : Txn
+noTxn = record { number = 0; kind = 0; start = 0; awaitedLock = 0; awaitedItem = 0 }
+
+unfoldable pub live : Txn → Bool
+live r = not (eqb (r .number) 0)
+
+unfoldable pub liveUpdate : Txn → Bool
+liveUpdate r = live r && eqb (r .kind) anUpdate
+
+unfoldable pub liveQuery : Txn → Bool
+liveQuery r = live r && eqb (r .kind) aQuery
+
+-- the slot of the live transaction with the number n, or the number of slots where there is none
+unfoldable pub slotOf : Sizes → List ℕ → ℕ → ℕ
+slotOf S t n = firstFrom (λ s. live (txn t s) && eqb ((txn t s) .number) n) 0 (S .slots)
+
+-- the lowest free slot, or the number of slots where there is none
+unfoldable pub freeSlot : Sizes → List ℕ → ℕ
+freeSlot S t = firstFrom (λ s. not (live (txn t s))) 0 (S .slots)
+
+-- the starts of the live queries in n slots from slot s on
+unfoldable pub startsFrom : List ℕ → ℕ → ℕ → List ℕ
+startsFrom t s zero = []
+startsFrom t s (suc n) =
+    let rest = startsFrom t (suc s) n in
+    cond (liveQuery (txn t s)) ((txn t s) .start ∷ rest) rest
+
+-- the starts of all who read by a start: the live queries
+unfoldable pub starts : Sizes → List ℕ → List ℕ
+starts S t = startsFrom t 0 (S .slots)
+
+-- ---- "Locks, 192 words: 64 rows of 3: shared holders (bit i for slot i), exclusive holder (slot plus 1, 0 for none), working value."
+pub record Lock : Type 0 where
+  pub shared : ℕ
+  pub exclusive : ℕ
+  pub working : ℕ
+
+abbrev pub lockRow : ℕ
+lockRow = 3
+
+abbrev pub lockWords : Sizes → ℕ
+lockWords S = lockRow * S .items
+
+-- the row of item x, read and written
+unfoldable pub lock : List ℕ → ℕ → Lock
+lock l x =
+    record
+      { shared = getD l (lockRow * x) 0
+      ; exclusive = getD l (lockRow * x + 1) 0
+      ; working = getD l (lockRow * x + 2) 0
+      }
+
+unfoldable pub setLock : List ℕ → ℕ → Lock → List ℕ
+setLock l x h =
+    set (set (set l (lockRow * x) (h .shared)) (lockRow * x + 1) (h .exclusive)) (lockRow * x + 2) (h .working)
+
+unfoldable pub holdsShared : Lock → ℕ → Bool
+holdsShared h s = bit (h .shared) s
+
+unfoldable pub holdsExclusive : Lock → ℕ → Bool
+holdsExclusive h s = eqb (h .exclusive) (suc s)
+
+unfoldable pub holds : Lock → ℕ → Bool
+holds h s = holdsShared h s || holdsExclusive h s
+
+-- the words of a row as a lock, and back
+unfoldable pub lockIn : List ℕ → Lock
+lockIn r = record { shared = getD r 0 0; exclusive = getD r 1 0; working = getD r 2 0 }
+
+unfoldable pub lockWordsOf : Lock → List ℕ
+lockWordsOf h = h .shared ∷ h .exclusive ∷ h .working ∷ []
+
+-- a lock without the slot s: "Its locks, working values .. go"
+unfoldable pub released : ℕ → Lock → Lock
+released s h =
+    cond (holdsExclusive h s)
+    (record { shared = withoutBit (h .shared) s; exclusive = 0; working = 0 })
+    (record { shared = withoutBit (h .shared) s; exclusive = h .exclusive; working = h .working })
+
+unfoldable pub release : Sizes → ℕ → List ℕ → List ℕ
+release S s l = mapRows (S .items) lockRow (λ x r. lockWordsOf (released s (lockIn r))) 0 l
+
+-- ---- "Versions, 2,112 words: 64 rows of 33: a count, then 16 pairs of stamp and value, newest first, unused pairs zero."
+abbrev pub versionRow : Sizes → ℕ
+versionRow S = 1 + 2 * S .places
+
+abbrev pub versionWords : Sizes → ℕ
+versionWords S = versionRow S * S .items
+
+-- ---- "Fresh tables hold zeros, but each version row has count 1 with the pair (0, 0)."
+unfoldable pub fresh : Sizes → Tables
+fresh S =
+    record
+      { txns = replicate (txnWords S) 0
+      ; locks = replicate (lockWords S) 0
+      ; versions = mapRows (S .items) (versionRow S) (λ x r. 1 ∷ drop 1 r) 0 (replicate (versionWords S) 0)
+      }

@@ -1,0 +1,110 @@
+-- The test of all tables: the clauses of Good, in the same order, as it is computed. Assumes nothing.
+use Prim.Native.Nat.{ℕ, zero, suc, _+_, _-_, _*_, _^_}
+use mathlib.Core.Bool.{Bool, true, _&&_, _||_, not, cond}
+use mathlib.Core.List.{List, [], _∷_}
+use lib.ListN.{getD, drop, length}
+use lib.Dec.{eqb, leb, ltb}
+use Rattle.names.specs.declared.Sizes.{Sizes}
+use Rattle.names.specs.Sizes.{lastWord}
+use Rattle.rules.specs.Words.{implies, every, everyBelow, everyRow}
+use Rattle.rules.specs.Tables.{Tables, txnWords, lockWords, versionWords, versionRow}
+use Rattle.rules.specs.Tables.{lastNumber, clock, Txn, txn, live, liveUpdate, liveQuery, starts}
+use Rattle.rules.specs.Tables.{aQuery, noLock, sharedLock, exclusiveLock, Lock, lock, holds, holdsExclusive}
+use Rattle.rules.specs.Versions.{Version, versionsIn, stampAt, readBySome}
+use Rattle.rules.specs.Waits.{noCircle}
+
+-- "The sizes are exact."
+unfoldable pub sizesExact : Sizes → Tables → Bool
+sizesExact S G =
+    eqb (length (G .txns)) (txnWords S) && (eqb (length (G .locks)) (lockWords S) && eqb (length (G .versions)) (versionWords S))
+
+-- "Last number and clock are at most 4,294,967,295."
+unfoldable pub topsMost : List ℕ → Bool
+topsMost t = leb (lastNumber t) lastWord && leb (clock t) lastWord
+
+-- ---- one row of the transactions
+-- "A free row is all zeros"
+unfoldable pub freeZero : Txn → Bool
+freeZero r =
+    implies (not (live r)) (eqb (r .kind) 0 && (eqb (r .start) 0 && (eqb (r .awaitedLock) 0 && eqb (r .awaitedItem) 0)))
+
+-- "kinds and awaited locks are as listed"
+unfoldable pub listed : Txn → Bool
+listed r = leb (r .kind) aQuery && leb (r .awaitedLock) exclusiveLock
+
+-- "an update's start is 0, a query's is at most the clock, and a query awaits nothing"
+unfoldable pub startGood : ℕ → Txn → Bool
+startGood now r =
+    implies (liveUpdate r) (eqb (r .start) 0) && implies (liveQuery r) (leb (r .start) now && eqb (r .awaitedLock) noLock)
+
+-- "an awaited item is below 64, and 0 where nothing is awaited"
+unfoldable pub awaitedGood : Sizes → Txn → Bool
+awaitedGood S r = cond (eqb (r .awaitedLock) noLock) (eqb (r .awaitedItem) 0) (ltb (r .awaitedItem) (S .items))
+
+-- "who awaits shared holds nothing on that item, who awaits exclusive does not hold it exclusively"
+unfoldable pub awaiterGood : ℕ → Txn → Lock → Bool
+awaiterGood s r h =
+    implies (eqb (r .awaitedLock) sharedLock) (not (holds h s))
+    && implies (eqb (r .awaitedLock) exclusiveLock) (not (holdsExclusive h s))
+
+-- "live numbers are .. from 1 to the last given", and the row's other clauses
+unfoldable pub txnGood : Sizes → List ℕ → List ℕ → ℕ → Txn → Bool
+txnGood S t l s r =
+    freeZero r
+    && (leb (r .number) (lastNumber t)
+    && (listed r && (startGood (clock t) r && (awaitedGood S r && awaiterGood s r (lock l (r .awaitedItem))))))
+
+-- "live numbers are distinct"
+unfoldable pub distinct : Sizes → List ℕ → Bool
+distinct S t =
+    everyBelow (S .slots) (λ s. everyBelow s (λ r. implies (live (txn t s)) (not (eqb ((txn t r) .number) ((txn t s) .number)))))
+
+-- ---- one lock
+-- "Lock holders are slots of live updates"
+unfoldable pub holdersLive : Sizes → List ℕ → Lock → Bool
+holdersLive S t h =
+    ltb (h .shared) (2 ^ S .slots)
+    && (leb (h .exclusive) (S .slots)
+    && everyBelow (S .slots) (λ s. implies (holds h s) (liveUpdate (txn t s))))
+
+-- "a row has shared holders or an exclusive one, never both; without an exclusive holder the working value is 0"
+unfoldable pub lockGood : Sizes → List ℕ → Lock → Bool
+lockGood S t h =
+    holdersLive S t h
+    && ((eqb (h .shared) 0 || eqb (h .exclusive) 0) && implies (eqb (h .exclusive) 0) (eqb (h .working) 0))
+
+-- ---- one row of versions
+-- "stamps fall strictly"
+unfoldable pub falls : List Version → Bool
+falls [] = true
+falls (v ∷ []) = true
+falls (v ∷ w ∷ vs) = let older = falls (w ∷ vs) in ltb (w .stamp) (v .stamp) && older
+
+-- "the last is at most every live query's start"
+unfoldable pub lastOld : List ℕ → List Version → Bool
+lastOld qs vs = every (λ q. leb (stampAt vs (length vs - 1)) q) qs
+
+-- "A version that is not the newest is there exactly if some live query reads it.": those from place k on
+unfoldable pub allRead : List ℕ → List Version → ℕ → List Version → Bool
+allRead qs vs k [] = true
+allRead qs vs k (v ∷ rest) = let older = allRead qs vs (suc k) rest in (eqb k 0 || readBySome qs vs k) && older
+
+-- "A version count is 1 to 16, unused pairs are zero, stamps fall strictly, the first is at most the clock, the last .."
+unfoldable pub versionsGood : Sizes → ℕ → List ℕ → List ℕ → Bool
+versionsGood S now qs r =
+    leb 1 (getD r 0 0)
+    && (leb (getD r 0 0) (S .places)
+    && (every (λ w. eqb w 0) (drop (1 + 2 * getD r 0 0) r)
+    && (let vs = versionsIn r in falls vs && (leb (stampAt vs 0) now && (lastOld qs vs && allRead qs vs 0 vs)))))
+
+-- ---- "Tables are good when all of this holds."
+unfoldable pub good : Sizes → Tables → Bool
+good S G =
+    sizesExact S G
+    && (topsMost (G .txns)
+    && (everyBelow (S .slots) (λ s. txnGood S (G .txns) (G .locks) s (txn (G .txns) s))
+    && (distinct S (G .txns)
+    && (everyBelow (S .items) (λ x. lockGood S (G .txns) (lock (G .locks) x))
+    && ((let qs = starts S (G .txns) in
+    everyRow (S .items) (versionRow S) (λ x r. versionsGood S (clock (G .txns)) qs r) 0 (G .versions))
+    && noCircle S (G .txns) (G .locks))))))

@@ -1,0 +1,2 @@
+-- The starred trials pass.
+pub mod Pass

@@ -1,0 +1,85 @@
+-- The starred trials pass. Assumes nothing.
+use mathlib.Core.Bool.{Bool}
+use mathlib.Core.List.{List}
+use lib.Dec.{T}
+use Rattle.rules.specs.Words.{implies, everyBelow, someBelow, firstFrom, every, some, tabulateFrom, row, everyRow, mapRows, bit, withBit, withoutBit}
+use Rattle.rules.specs.Tables.{txn, setTxn, setAwaited, live, liveUpdate, liveQuery, slotOf, freeSlot, startsFrom, starts, lock, setLock, holdsShared, holdsExclusive, holds, lockIn, lockWordsOf, released, release, fresh}
+use Rattle.rules.specs.Versions.{pairs, versionsIn, versionsOf, pairWords, rowOf, stampAt, newest, place, choice, readBySome, keptFrom, kept, rewritten}
+use Rattle.rules.specs.Waits.{conflicts, blocks, blocked, waitsFor, marked, spread, rounds, reached, circleAt, noCircle}
+use Rattle.rules.specs.Tested.{sizesExact, topsMost, freeZero, listed, startGood, awaitedGood, awaiterGood, txnGood, distinct, holdersLive, lockGood, falls, lastOld, allRead, versionsGood, good}
+use Rattle.rules.specs.Locks.{heldBy, decide, anotherShares, anotherExcludes, decision}
+use Rattle.rules.specs.Step.{begun, begin, conflicted, cleared, locked, carriedOut, access, awaitsOther, queryRead, readBy, writeBy, withNew, committed, ended, commitBy, aborted, abortBy, act, step}
+use Rattle.rules.specs.Tables.{Tables}
+use Rattle.names.specs.Sizes.{base}
+use Rattle.starred.specs.Plays.{Line, answers, passes, AllPass, none, also}
+use Rattle.starred.specs.Trials.{trialA, trialB, trialC, trialD, trialE, trialF, begins, trialG, trialH, turns, trialI, fullRow, trialJ, clockSpent, trialK, trialL, uncounted, anyEnd, trials}
+
+-- a trial, as it is computed: whoever unfolds this computes with all the rules
+unfoldable computed : List Line → (Tables → Bool) → Tables → Bool
+unfolding passes answers implies everyBelow someBelow firstFrom every some tabulateFrom row everyRow mapRows bit withBit withoutBit txn setTxn setAwaited live liveUpdate liveQuery slotOf freeSlot startsFrom starts lock setLock holdsShared holdsExclusive holds lockIn lockWordsOf released release fresh pairs versionsIn versionsOf pairWords rowOf stampAt newest place choice readBySome keptFrom kept rewritten conflicts blocks blocked waitsFor marked spread rounds reached circleAt noCircle sizesExact topsMost freeZero listed startGood awaitedGood awaiterGood txnGood distinct holdersLive lockGood falls lastOld allRead versionsGood good heldBy decide anotherShares anotherExcludes decision begun begin conflicted cleared locked carriedOut access awaitsOther queryRead readBy writeBy withNew committed ended commitBy aborted abortBy act step
+computed ls end G = passes ls end G
+
+pass-A : T (passes trialA anyEnd (fresh base))
+unfolding computed trialA
+pass-A = tt
+
+pass-B : T (passes trialB anyEnd (fresh base))
+unfolding computed trialB
+pass-B = tt
+
+pass-C : T (passes trialC anyEnd (fresh base))
+unfolding computed trialC
+pass-C = tt
+
+pass-D : T (passes trialD anyEnd (fresh base))
+unfolding computed trialD
+pass-D = tt
+
+pass-E : T (passes trialE anyEnd (fresh base))
+unfolding computed trialE
+pass-E = tt
+
+pass-F : T (passes trialF anyEnd (fresh base))
+unfolding computed trialF
+pass-F = tt
+
+pass-G : T (passes trialG anyEnd (fresh base))
+unfolding computed begins trialG
+pass-G = tt
+
+pass-H : T (passes trialH anyEnd (fresh base))
+unfolding computed trialH
+pass-H = tt
+
+pass-I : T (passes trialI fullRow (fresh base))
+unfolding computed turns trialI fullRow
+pass-I = tt
+
+pass-J : T (passes trialJ anyEnd clockSpent)
+unfolding computed trialJ clockSpent
+pass-J = tt
+
+pass-K : T (passes trialK anyEnd (fresh base))
+unfolding computed trialK
+pass-K = tt
+
+pass-L : T (passes trialL anyEnd uncounted)
+unfolding computed trialL uncounted
+pass-L = tt
+
+pub all-trials : AllPass trials
+unfolding trials
+all-trials =
+    also pass-A
+    (also pass-B
+    (also pass-C
+    (also pass-D
+    (also pass-E
+    (also pass-F
+    (also pass-G
+    (also pass-H
+    (also pass-I
+    (also pass-J
+    (also pass-K
+    (also pass-L
+    none)))))))))))

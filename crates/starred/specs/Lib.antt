@@ -1,0 +1,3 @@
+-- The starred trials of document 01.
+pub mod Plays
+pub mod Trials
