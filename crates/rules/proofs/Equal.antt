@@ -1,13 +1,115 @@
 -- The test of all tables says what Good says. Assumes nothing.
-use mathlib.Core.Bool.{Bool}
-use lib.Dec.{T}
+use Prim.Native.Nat.{ℕ, _≤_, _<_}
+use mathlib.Core.Path.{_≡_, refl, sym}
+use mathlib.Core.Logic.{_≢_, _⊎_, inl, inr, _↔_}
+use mathlib.Core.Bool.{Bool, true, false, _&&_, not}
+use mathlib.Core.List.{List}
+use native.Mathlib.Omega.{arith}
+use native.Mathlib.Nat.{zero-add}
+use lib.ListN.{length}
+use lib.Dec.{T, eqb, leb, ltb, eqb→eq, leb→le, le→leb}
+use borrow.Author.Tests.{ltb-true, ltb-false}
 use Rattle.names.specs.declared.Sizes.{Sizes}
-use Rattle.rules.specs.Tables.{Tables}
-use Rattle.rules.specs.Good.{Good}
-use Rattle.rules.specs.Tested.{good}
+use Rattle.names.specs.Sizes.{lastWord}
+use Rattle.rules.specs.Words.{implies, everyBelow, everyRow, row}
+use Rattle.rules.specs.Tables.{Tables, txnWords, lockWords, versionWords, versionRow, lastNumber, clock, txn, live, starts, lock}
+use Rattle.rules.specs.Waits.{noCircle, waitsFor, Walk}
+use Rattle.rules.specs.Good.{Good, GoodTxn, GoodLock}
+use Rattle.rules.specs.Tested.{sizesExact, topsMost, txnGood, distinct, lockGood, versionsGood, good}
+use Rattle.rules.proofs.Tests.{and-left, and-right, and-both, implies-use, implies-make, ne-make, ne-use, eq-make}
+use Rattle.rules.proofs.Counts.{everyBelow→, →everyBelow}
+use Rattle.rules.proofs.Rows.{everyRow→, →everyRow}
+use Rattle.rules.proofs.EqualRows.{txn→Good, Good→txn, lock→Good, Good→lock, live-number, number-live}
+use Rattle.rules.proofs.EqualVersions.{versions→Good, Good→versions}
+use Rattle.rules.proofs.Walks.{no-circle→, →no-circle}
 
-pub good→Good : (S : Sizes) (G : Tables) → T (good S G) → Good S G
-good→Good S G h = ?
+module _ (S : Sizes) (G : Tables) where
+  abbrev t : List ℕ
+  t = G .txns
 
-pub Good→good : (S : Sizes) (G : Tables) → Good S G → T (good S G)
-Good→good S G g = ?
+  abbrev l : List ℕ
+  l = G .locks
+
+  -- the tests, as they are put together
+  abbrev rowsTest : Bool
+  rowsTest = everyBelow (S .slots) (λ s. txnGood S t l s (txn t s))
+
+  abbrev locksTest : Bool
+  locksTest = everyBelow (S .items) (λ x. lockGood S t (lock l x))
+
+  abbrev versionsTest : Bool
+  versionsTest = everyRow (S .items) (versionRow S) (λ x r. versionsGood S (clock t) (starts S t) r) 0 (G .versions)
+
+  -- two slots: which of them is the higher
+  order : (r s : ℕ) → r ≢ s → (r < s) ⊎ (s < r)
+  order r s d = go (ltb r s) refl
+    where
+      go : (b : Bool) → ltb r s ≡ b → (r < s) ⊎ (s < r)
+      go true e = inl (ltb-true r s e)
+      go false e = inr (let k = ltb-false r s e in omega arith)
+
+  apart : T (distinct S t) → (r s : ℕ) → r < s → s < S .slots → T (live (txn t s)) → (txn t r) .number ≢ (txn t s) .number
+  unfolding distinct
+  apart h r s k i a =
+      ne-use ((txn t r) .number) ((txn t s) .number)
+      (implies-use (live (txn t s)) _
+      (everyBelow→ s (λ r. implies (live (txn t s)) (not (eqb ((txn t r) .number) ((txn t s) .number))))
+      (everyBelow→ (S .slots) (λ s. everyBelow s (λ r. implies (live (txn t s)) (not (eqb ((txn t r) .number) ((txn t s) .number))))) h s i)
+      r k) a)
+
+  pub good→Good : T (good S G) → Good S G
+  unfolding good sizesExact topsMost
+  good→Good h =
+      let h₁ = and-right (sizesExact S G) _ h in
+      let h₂ = and-right (topsMost t) _ h₁ in
+      let h₃ = and-right rowsTest _ h₂ in
+      let h₄ = and-right (distinct S t) _ h₃ in
+      let h₅ = and-right locksTest _ h₄ in
+      let h₆ = and-right versionsTest _ h₅ in
+      let a = and-left (sizesExact S G) _ h in
+      let b = and-right (eqb (length t) (txnWords S)) _ a in
+      let c = and-left (topsMost t) _ h₁ in
+      let size = eqb→eq (length t) (txnWords S) (and-left (eqb (length t) (txnWords S)) _ a) in
+      let rows : (s : ℕ) → s < S .slots → GoodTxn S t l s (txn t s)
+               = λ s i. txn→Good S t l s (txn t s) (everyBelow→ (S .slots) (λ s. txnGood S t l s (txn t s)) (and-left rowsTest _ h₂) s i) in
+      let locks : (x : ℕ) → x < S .items → GoodLock S t (lock l x)
+                = λ x i. lock→Good S t (lock l x) (everyBelow→ (S .items) (λ x. lockGood S t (lock l x)) (and-left locksTest _ h₄) x i) in
+      record
+        { txnsExact = size
+        ; locksExact = eqb→eq (length l) (lockWords S) (and-left (eqb (length l) (lockWords S)) _ b)
+        ; versionsExact = eqb→eq (length (G .versions)) (versionWords S) (and-right (eqb (length l) (lockWords S)) _ b)
+        ; lastMost = leb→le (lastNumber t) lastWord (and-left (leb (lastNumber t) lastWord) _ c)
+        ; clockMost = leb→le (clock t) lastWord (and-right (leb (lastNumber t) lastWord) _ c)
+        ; txnGood = rows
+        ; distinct = λ r s j i d a. pick (and-left (distinct S t) _ h₃) r s j i a (order r s d)
+        ; lockGood = locks
+        ; versionsGood = λ x i. versions→Good S t (row (versionRow S) x (G .versions))
+            (everyRow→ (S .items) (versionRow S) (λ x r. versionsGood S (clock t) (starts S t) r) 0 (G .versions) (and-left versionsTest _ h₅) x i)
+        ; noCircle = no-circle→ S t l size (λ s i. rows s i .itemKnown) (λ x i b h. locks x i .holders b h .0) h₆
+        }
+    where
+      pick : T (distinct S t) → (r s : ℕ) → r < S .slots → s < S .slots → T (live (txn t s)) → (r < s) ⊎ (s < r) → (txn t r) .number ≢ (txn t s) .number
+      pick h r s j i a (inl k) = apart h r s k i a
+      pick h r s j i a (inr k) =
+          λ e. apart h s r k j (number-live (txn t r) (λ z. live-number (txn t s) a (omega arith))) (sym e)
+
+  pub Good→good : Good S G → T (good S G)
+  unfolding good sizesExact topsMost distinct
+  Good→good g =
+      and-both (sizesExact S G) _
+        (and-both (eqb (length t) (txnWords S)) _ (eq-make (length t) (txnWords S) (g .txnsExact))
+        (and-both (eqb (length l) (lockWords S)) _ (eq-make (length l) (lockWords S) (g .locksExact)) (eq-make (length (G .versions)) (versionWords S) (g .versionsExact))))
+      (and-both (topsMost t) _
+        (and-both (leb (lastNumber t) lastWord) _ (le→leb (lastNumber t) lastWord (g .lastMost)) (le→leb (clock t) lastWord (g .clockMost)))
+      (and-both rowsTest _ (→everyBelow (S .slots) (λ s. txnGood S t l s (txn t s)) (λ s i. Good→txn S t l s (txn t s) (g .txnGood s i)))
+      (and-both (distinct S t) _
+        (→everyBelow (S .slots) _ (λ s i. →everyBelow s (λ r. implies (live (txn t s)) (not (eqb ((txn t r) .number) ((txn t s) .number))))
+          (λ r k. implies-make (live (txn t s)) _ (λ a. ne-make ((txn t r) .number) ((txn t s) .number) (g .distinct r s (omega arith) i (omega arith) a)))))
+      (and-both locksTest _ (→everyBelow (S .items) (λ x. lockGood S t (lock l x)) (λ x i. Good→lock S t (lock l x) (g .lockGood x i)))
+      (and-both versionsTest _
+        (→everyRow (S .items) (versionRow S) (λ x r. versionsGood S (clock t) (starts S t) r) 0 (G .versions) (λ x i. Good→versions S t (row (versionRow S) x (G .versions)) (g .versionsGood x i)))
+        (→no-circle S t l (g .txnsExact) (λ s i. g .txnGood s i .itemKnown) (λ x i b h. g .lockGood x i .holders b h .0) (g .noCircle)))))))
+
+-- the computed test and the document's sentences
+pub good↔Good : (S : Sizes) (G : Tables) → T (good S G) ↔ Good S G
+good↔Good S G = (good→Good S G, Good→good S G)

@@ -1,0 +1,173 @@
+-- The tests of one transaction row and of one lock say what GoodTxn and GoodLock say. Assumes nothing.
+use Prim.Native.Nat.{ℕ, suc, _^_, _≤_, _<_}
+use mathlib.Core.Path.{_≡_, refl, sym, ap, subst}
+use mathlib.Core.Logic.{_≢_, _⊎_, inl, inr}
+use mathlib.Core.Bool.{Bool, true, false, _&&_, _||_, not, cond}
+use mathlib.Core.List.{List}
+use native.Mathlib.Omega.{arith}
+use lib.Dec.{T, eqb, leb, ltb, eqb→eq, leb→le, le→leb, ltb→lt, lt→ltb}
+use borrow.Author.Tests.{eq-eqb, ne-eqb}
+use Rattle.names.specs.declared.Sizes.{Sizes}
+use Rattle.rules.specs.Words.{implies, everyBelow, bit}
+use Rattle.rules.specs.Tables.{lastNumber, clock, Txn, txn, noTxn, live, liveUpdate, liveQuery}
+use Rattle.rules.specs.Tables.{anUpdate, aQuery, noLock, sharedLock, exclusiveLock, Lock, lock, holdsShared, holdsExclusive, holds}
+use Rattle.rules.specs.Good.{GoodTxn, GoodLock}
+use Rattle.rules.specs.Tested.{freeZero, listed, startGood, awaitedGood, awaiterGood, txnGood, holdersLive, lockGood}
+use Rattle.rules.proofs.Tests.{and-left, and-right, and-both, or-cases, or-left, or-right, implies-use, implies-make}
+use Rattle.rules.proofs.Tests.{not-make, not-use, eq-make, ne-make, ne-use, same?}
+use Rattle.rules.proofs.Counts.{everyBelow→, →everyBelow}
+use Rattle.rules.proofs.Bits.{bit-below, below-bits}
+
+-- ---- small things of a row
+-- a row is free or live
+pub free-or-live : (r : Txn) → (r .number ≡ 0) ⊎ T (live r)
+unfolding live
+free-or-live r = go (same? (r .number) 0)
+  where
+    go : (r .number ≡ 0) ⊎ (r .number ≢ 0) → (r .number ≡ 0) ⊎ T (not (eqb (r .number) 0))
+    go (inl e) = inl e
+    go (inr d) = inr (ne-make (r .number) 0 d)
+
+pub live-number : (r : Txn) → T (live r) → r .number ≢ 0
+unfolding live
+live-number r h = ne-use (r .number) 0 h
+
+pub number-live : (r : Txn) → r .number ≢ 0 → T (live r)
+unfolding live
+number-live r d = ne-make (r .number) 0 d
+
+pub update-live : (r : Txn) → T (liveUpdate r) → T (live r) × (r .kind ≡ anUpdate)
+unfolding liveUpdate
+update-live r h = (and-left (live r) _ h, eqb→eq (r .kind) anUpdate (and-right (live r) _ h))
+
+pub live-update : (r : Txn) → T (live r) → r .kind ≡ anUpdate → T (liveUpdate r)
+unfolding liveUpdate
+live-update r h e = and-both (live r) _ h (eq-make (r .kind) anUpdate e)
+
+pub query-live : (r : Txn) → T (liveQuery r) → T (live r) × (r .kind ≡ aQuery)
+unfolding liveQuery
+query-live r h = (and-left (live r) _ h, eqb→eq (r .kind) aQuery (and-right (live r) _ h))
+
+pub live-query : (r : Txn) → T (live r) → r .kind ≡ aQuery → T (liveQuery r)
+unfolding liveQuery
+live-query r h e = and-both (live r) _ h (eq-make (r .kind) aQuery e)
+
+-- ---- a transaction row
+module _ (S : Sizes) (t l : List ℕ) (s : ℕ) (r : Txn) where
+  abbrev h : Lock
+  h = lock l (r .awaitedItem)
+
+  pub txn→Good : T (txnGood S t l s r) → GoodTxn S t l s r
+  unfolding txnGood freeZero listed startGood awaitedGood awaiterGood live
+  txn→Good a =
+      let a₁ = and-right (freeZero r) _ a in
+      let a₂ = and-right (leb (r .number) (lastNumber t)) _ a₁ in
+      let a₃ = and-right (listed r) _ a₂ in
+      let a₄ = and-right (startGood (clock t) r) _ a₃ in
+      let b₁ = and-left (listed r) _ a₂ in
+      let b₂ = and-left (startGood (clock t) r) _ a₃ in
+      let b₃ = and-left (awaitedGood S r) _ a₄ in
+      let b₄ = and-right (awaitedGood S r) _ a₄ in
+      let queried = and-right (implies (liveUpdate r) (eqb (r .start) 0)) _ b₂ in
+      let u = implies (eqb (r .awaitedLock) sharedLock) (not (holds h s)) in
+      record
+        { free = λ e. zeros e (implies-use (not (live r)) _ (and-left (freeZero r) _ a) (not-make (live r) (λ z. ne-use (r .number) 0 z e)))
+        ; given = leb→le (r .number) (lastNumber t) (and-left (leb (r .number) (lastNumber t)) _ a₁)
+        ; kindListed = two (r .kind) (leb→le (r .kind) aQuery (and-left (leb (r .kind) aQuery) _ b₁))
+        ; lockListed = leb→le (r .awaitedLock) exclusiveLock (and-right (leb (r .kind) aQuery) _ b₁)
+        ; updateStart = λ z. eqb→eq (r .start) 0 (implies-use (liveUpdate r) _ (and-left (implies (liveUpdate r) (eqb (r .start) 0)) _ b₂) z)
+        ; queryStart = λ z. leb→le (r .start) (clock t) (and-left (leb (r .start) (clock t)) _ (implies-use (liveQuery r) _ queried z))
+        ; queryIdle = λ z. eqb→eq (r .awaitedLock) noLock (and-right (leb (r .start) (clock t)) _ (implies-use (liveQuery r) _ queried z))
+        ; itemKnown = λ d. ltb→lt (r .awaitedItem) (S .items) (rw (ne-eqb (r .awaitedLock) noLock d) at b₃)
+        ; itemUnused = λ e. eqb→eq (r .awaitedItem) 0 (rw (eq-eqb (r .awaitedLock) noLock e) at b₃)
+        ; awaitsShared = λ e. not-use (holds h s) (implies-use (eqb (r .awaitedLock) sharedLock) _ (and-left u _ b₄) (eq-make (r .awaitedLock) sharedLock e))
+        ; awaitsExclusive = λ e. not-use (holdsExclusive h s) (implies-use (eqb (r .awaitedLock) exclusiveLock) _ (and-right u _ b₄) (eq-make (r .awaitedLock) exclusiveLock e))
+        }
+    where
+      two : (k : ℕ) → k ≤ aQuery → (k ≡ anUpdate) ⊎ (k ≡ aQuery)
+      two k b = go (same? k anUpdate)
+        where
+          go : (k ≡ anUpdate) ⊎ (k ≢ anUpdate) → (k ≡ anUpdate) ⊎ (k ≡ aQuery)
+          go (inl e) = inl e
+          go (inr d) = inr (omega arith)
+      zeros : r .number ≡ 0 → T (eqb (r .kind) 0 && (eqb (r .start) 0 && (eqb (r .awaitedLock) 0 && eqb (r .awaitedItem) 0))) → r ≡ noTxn
+      zeros e z =
+          let z₁ = and-right (eqb (r .kind) 0) _ z in
+          let z₂ = and-right (eqb (r .start) 0) _ z₁ in
+          let k = eqb→eq (r .kind) 0 (and-left (eqb (r .kind) 0) _ z) in
+          let q = eqb→eq (r .start) 0 (and-left (eqb (r .start) 0) _ z₁) in
+          let a = eqb→eq (r .awaitedLock) 0 (and-left (eqb (r .awaitedLock) 0) _ z₂) in
+          let x = eqb→eq (r .awaitedItem) 0 (and-right (eqb (r .awaitedLock) 0) _ z₂) in
+          λ i. record { number = e i; kind = k i; start = q i; awaitedLock = a i; awaitedItem = x i }
+
+  pub Good→txn : GoodTxn S t l s r → T (txnGood S t l s r)
+  unfolding txnGood freeZero listed startGood awaitedGood awaiterGood live
+  Good→txn g =
+      and-both (freeZero r) _ free
+      (and-both (leb (r .number) (lastNumber t)) _ (le→leb (r .number) (lastNumber t) (g .given))
+      (and-both (listed r) _
+        (and-both (leb (r .kind) aQuery) _ (le→leb (r .kind) aQuery (kinds (g .kindListed))) (le→leb (r .awaitedLock) exclusiveLock (g .lockListed)))
+      (and-both (startGood (clock t) r) _
+        (and-both (implies (liveUpdate r) (eqb (r .start) 0)) _
+          (implies-make (liveUpdate r) _ (λ z. eq-make (r .start) 0 (g .updateStart z)))
+          (implies-make (liveQuery r) _ (λ z. and-both (leb (r .start) (clock t)) _ (le→leb (r .start) (clock t) (g .queryStart z)) (eq-make (r .awaitedLock) noLock (g .queryIdle z)))))
+      (and-both (awaitedGood S r) _ (awaited (same? (r .awaitedLock) noLock))
+        (and-both (implies (eqb (r .awaitedLock) sharedLock) (not (holds h s))) _
+          (implies-make (eqb (r .awaitedLock) sharedLock) _ (λ z. not-make (holds h s) (g .awaitsShared (eqb→eq (r .awaitedLock) sharedLock z))))
+          (implies-make (eqb (r .awaitedLock) exclusiveLock) _ (λ z. not-make (holdsExclusive h s) (g .awaitsExclusive (eqb→eq (r .awaitedLock) exclusiveLock z)))))))))
+    where
+      kinds : (r .kind ≡ anUpdate) ⊎ (r .kind ≡ aQuery) → r .kind ≤ aQuery
+      kinds (inl e) = omega arith
+      kinds (inr e) = omega arith
+      free : T (implies (not (not (eqb (r .number) 0))) (eqb (r .kind) 0 && (eqb (r .start) 0 && (eqb (r .awaitedLock) 0 && eqb (r .awaitedItem) 0))))
+      free = implies-make (not (not (eqb (r .number) 0))) _ (λ z. go (same? (r .number) 0) z)
+        where
+          go : (r .number ≡ 0) ⊎ (r .number ≢ 0) → T (not (not (eqb (r .number) 0))) → T (eqb (r .kind) 0 && (eqb (r .start) 0 && (eqb (r .awaitedLock) 0 && eqb (r .awaitedItem) 0)))
+          go (inl e) z = subst (λ (w : Txn). T (eqb (w .kind) 0 && (eqb (w .start) 0 && (eqb (w .awaitedLock) 0 && eqb (w .awaitedItem) 0)))) (sym (g .free e)) tt
+          go (inr d) z = absurd (not-use (not (eqb (r .number) 0)) z (ne-make (r .number) 0 d))
+      awaited : (r .awaitedLock ≡ noLock) ⊎ (r .awaitedLock ≢ noLock) → T (cond (eqb (r .awaitedLock) noLock) (eqb (r .awaitedItem) 0) (ltb (r .awaitedItem) (S .items)))
+      awaited (inl e) = rw (eq-eqb (r .awaitedLock) noLock e) (eq-make (r .awaitedItem) 0 (g .itemUnused e))
+      awaited (inr d) = rw (ne-eqb (r .awaitedLock) noLock d) (lt→ltb (r .awaitedItem) (S .items) (g .itemKnown d))
+
+-- ---- a lock
+module _ (S : Sizes) (t : List ℕ) (o : Lock) where
+  pub lock→Good : T (lockGood S t o) → GoodLock S t o
+  unfolding lockGood holdersLive holds holdsShared holdsExclusive
+  lock→Good a =
+      let a₁ = and-right (holdersLive S t o) _ a in
+      let b = and-left (holdersLive S t o) _ a in
+      let b₁ = and-right (ltb (o .shared) (2 ^ S .slots)) _ b in
+      let b₂ = and-right (leb (o .exclusive) (S .slots)) _ b₁ in
+      record
+        { holders = λ s h.
+            let i = below s (ltb→lt (o .shared) (2 ^ S .slots) (and-left (ltb (o .shared) (2 ^ S .slots)) _ b)) (leb→le (o .exclusive) (S .slots) (and-left (leb (o .exclusive) (S .slots)) _ b₁)) (or-cases (holdsShared o s) _ h) in
+            (i, implies-use (holds o s) _ (everyBelow→ (S .slots) (λ s. implies (holds o s) (liveUpdate (txn t s))) b₂ s i) h)
+        ; neverBoth = either (or-cases (eqb (o .shared) 0) _ (and-left (eqb (o .shared) 0 || eqb (o .exclusive) 0) _ a₁))
+        ; noWorking = λ e. eqb→eq (o .working) 0 (implies-use (eqb (o .exclusive) 0) _ (and-right (eqb (o .shared) 0 || eqb (o .exclusive) 0) _ a₁) (eq-make (o .exclusive) 0 e))
+        }
+    where
+      below : (s : ℕ) → o .shared < 2 ^ S .slots → o .exclusive ≤ S .slots → T (bit (o .shared) s) ⊎ T (eqb (o .exclusive) (suc s)) → s < S .slots
+      below s p q (inl h) = bit-below (o .shared) s (S .slots) p h
+      below s p q (inr h) = let e = eqb→eq (o .exclusive) (suc s) h in omega arith
+      either : T (eqb (o .shared) 0) ⊎ T (eqb (o .exclusive) 0) → (o .shared ≡ 0) ⊎ (o .exclusive ≡ 0)
+      either (inl h) = inl (eqb→eq (o .shared) 0 h)
+      either (inr h) = inr (eqb→eq (o .exclusive) 0 h)
+
+  pub Good→lock : GoodLock S t o → T (lockGood S t o)
+  unfolding lockGood holdersLive holds holdsShared holdsExclusive
+  Good→lock g =
+      and-both (holdersLive S t o) _
+        (and-both (ltb (o .shared) (2 ^ S .slots)) _
+          (lt→ltb (o .shared) (2 ^ S .slots) (below-bits (S .slots) (o .shared) (λ b h. g .holders b (or-left (bit (o .shared) b) _ h) .0)))
+        (and-both (leb (o .exclusive) (S .slots)) _
+          (le→leb (o .exclusive) (S .slots) (few (o .exclusive) refl))
+          (→everyBelow (S .slots) (λ s. implies (holds o s) (liveUpdate (txn t s))) (λ s i. implies-make (holds o s) _ (λ h. g .holders s h .1)))))
+      (and-both (eqb (o .shared) 0 || eqb (o .exclusive) 0) _ (either (g .neverBoth))
+        (implies-make (eqb (o .exclusive) 0) _ (λ h. eq-make (o .working) 0 (g .noWorking (eqb→eq (o .exclusive) 0 h)))))
+    where
+      few : (e : ℕ) → o .exclusive ≡ e → e ≤ S .slots
+      few ℕ.zero q = omega arith
+      few (suc b) q = g .holders b (or-right (bit (o .shared) b) _ (eq-make (o .exclusive) (suc b) q)) .0
+      either : (o .shared ≡ 0) ⊎ (o .exclusive ≡ 0) → T (eqb (o .shared) 0 || eqb (o .exclusive) 0)
+      either (inl e) = or-left (eqb (o .shared) 0) _ (eq-make (o .shared) 0 e)
+      either (inr e) = or-right (eqb (o .shared) 0) _ (eq-make (o .exclusive) 0 e)
