@@ -11,3 +11,5 @@ pub mod EqualRows
 pub mod Equal
 pub mod Carried
 pub mod Deadlock
+pub mod Begins
+pub mod Awaits
