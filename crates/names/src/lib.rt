@@ -8,7 +8,9 @@ ghost use Rattle.names.specs.Words.{nextStamp, itemOf, numberOf};
 
 // Live transactions at most, items, and versions an item at most.
 pub const SLOTS: u64 = 16;
+
 pub const ITEMS: u64 = 64;
+
 pub const PLACES: u64 = 16;
 
 // The greatest transaction number and the greatest stamp.
@@ -75,6 +77,7 @@ pub struct Answer {
 
 impl Stamp {
     pub const FIRST: Stamp = Stamp(0);
+
     pub const LAST: Stamp = Stamp(LAST_WORD);
 
     pub fn next(self) -> NextStamp

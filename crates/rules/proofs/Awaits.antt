@@ -38,6 +38,18 @@ module _ (S : Sizes) (t : List ℕ) (size : length t ≡ txnWords S) (s k x : �
   awaiting-there r d =
       ap (λ (u : List ℕ). txn u r) (setAwaited-row t s k x) ∙ txn-setTxn-other t s (awaiting (txn t s) k x) r d
 
+  -- what does not look at the awaited fields is as it was in every row
+  pub awaiting-same : {A : Type 0} (f : Txn → A) → ((r : Txn) (k x : ℕ) → f (awaiting r k x) ≡ f r) → (r : ℕ) → f (txn (setAwaited t s k x) r) ≡ f (txn t r)
+  awaiting-same f e r = go (same? r s)
+    where
+      go : (r ≡ s) ⊎ (r ≢ s) → f (txn (setAwaited t s k x) r) ≡ f (txn t r)
+      go (inl q) = subst (λ (m : ℕ). f (txn (setAwaited t s k x) m) ≡ f (txn t m)) (sym q) (ap f awaiting-here ∙ e (txn t s) k x)
+      go (inr d) = ap f (awaiting-there r d)
+
+  pub awaiting-update : (r : ℕ) → liveUpdate (txn (setAwaited t s k x) r) ≡ liveUpdate (txn t r)
+  unfolding liveUpdate live
+  awaiting-update = awaiting-same liveUpdate (λ w k x. refl)
+
 module _ (S : Sizes) (G : Tables) (g : Good S G) (s k x : ℕ) (inside : s < S .slots) (update : T (liveUpdate (txn (G .txns) s)))
     (may : MayAwait S G s k x) where
   abbrev t : List ℕ
@@ -63,11 +75,7 @@ module _ (S : Sizes) (G : Tables) (g : Good S G) (s k x : ℕ) (inside : s < S .
 
   -- number, kind and start of every row are as they were
   same : {A : Type 0} (f : Txn → A) → ((r : Txn) (k x : ℕ) → f (awaiting r k x) ≡ f r) → (r : ℕ) → f (txn t′ r) ≡ f (txn t r)
-  same f e r = go (same? r s)
-    where
-      go : (r ≡ s) ⊎ (r ≢ s) → f (txn t′ r) ≡ f (txn t r)
-      go (inl q) = subst (λ (m : ℕ). f (txn t′ m) ≡ f (txn t m)) (sym q) (ap f here ∙ e (txn t s) k x)
-      go (inr d) = ap f (there r d)
+  same f e r = awaiting-same S t (g .txnsExact) s k x inside f e r
 
   number′ : (r : ℕ) → (txn t′ r) .number ≡ (txn t r) .number
   number′ = same (λ (w : Txn). w .number) (λ w k x. refl)
@@ -77,19 +85,19 @@ module _ (S : Sizes) (G : Tables) (g : Good S G) (s k x : ℕ) (inside : s < S .
   new-row =
       let o = g .txnGood s inside in
       let a = update-live (txn t s) update in
-      record
-        { free = λ e. absurd (live-number (txn t s) (a .0) e)
-        ; given = let b = o .given in let c = last′ in omega arith
-        ; kindListed = inl (a .1)
-        ; lockListed = may .listed
-        ; updateStart = λ h. o .updateStart update
-        ; queryStart = λ h. absurd (let b = query-live R h .1 in let c = a .1 in omega arith)
-        ; queryIdle = λ h. absurd (let b = query-live R h .1 in let c = a .1 in omega arith)
-        ; itemKnown = may .known
-        ; itemUnused = may .none
-        ; awaitsShared = may .shared
-        ; awaitsExclusive = may .exclusive
-        }
+      record {
+        free = λ e. absurd (live-number (txn t s) (a .0) e);
+        given = let b = o .given in let c = last′ in omega arith;
+        kindListed = inl (a .1);
+        lockListed = may .listed;
+        updateStart = λ h. o .updateStart update;
+        queryStart = λ h. absurd (let b = query-live R h .1 in let c = a .1 in omega arith);
+        queryIdle = λ h. absurd (let b = query-live R h .1 in let c = a .1 in omega arith);
+        itemKnown = may .known;
+        itemUnused = may .none;
+        awaitsShared = may .shared;
+        awaitsExclusive = may .exclusive;
+      }
 
   rows : (r : ℕ) → r < S .slots → GoodTxn S t′ (G .locks) r (txn t′ r)
   rows r i = go (same? r s)
@@ -107,24 +115,24 @@ module _ (S : Sizes) (G : Tables) (g : Good S G) (s k x : ℕ) (inside : s < S .
   pub awaiting-good : ((a : ℕ) → Walk (waitsFor t′ (G .locks)) a a → ⊥) → Good S (withTxns G (setAwaited (G .txns) s k x))
   unfolding liveQuery liveUpdate live
   awaiting-good uncircled =
-      record
-        { txnsExact = ap length (setAwaited-row t s k x) ∙ length-setTxn t s R ∙ g .txnsExact
-        ; locksExact = g .locksExact
-        ; versionsExact = g .versionsExact
-        ; lastMost = let a = last′ in let b = g .lastMost in omega arith
-        ; clockMost = let a = clock′ in let b = g .clockMost in omega arith
-        ; txnGood = rows
-        ; distinct = λ a b i j d h e. g .distinct a b i j d (subst T (same live (λ w k x. refl) b) h) (sym (number′ a) ∙ e ∙ number′ b)
-        ; lockGood = λ x i. lock-carried S t t′ (lock (G .locks) x) (λ r h u. subst T (sym (same liveUpdate (λ w k x. refl) r)) u) (g .lockGood x i)
-        ; versionsGood = λ x i. versions-carried S t t′ _ (let a = clock′ in omega arith) (λ r j h. query-there r h)
-            (λ r j h. inl (query-there r (subst T (same liveQuery (λ w k x. refl) r) h))) (g .versionsGood x i)
-        ; noCircle = uncircled
-        }
+      record {
+        txnsExact = ap length (setAwaited-row t s k x) ∙ length-setTxn t s R ∙ g .txnsExact;
+        locksExact = g .locksExact;
+        versionsExact = g .versionsExact;
+        lastMost = let a = last′ in let b = g .lastMost in omega arith;
+        clockMost = let a = clock′ in let b = g .clockMost in omega arith;
+        txnGood = rows;
+        distinct = λ a b i j d h e. g .distinct a b i j d (subst T (same live (λ w k x. refl) b) h) (sym (number′ a) ∙ e ∙ number′ b);
+        lockGood = λ y i. lock-carried S t t′ (lock (G .locks) y) (λ r h u. subst T (sym (awaiting-update S t (g .txnsExact) s k x inside r)) u) (g .lockGood y i);
+        versionsGood = λ x i. versions-carried S t t′ _ (let a = clock′ in omega arith) (λ r j h. query-there r h)
+            (λ r j h. inl (query-there r (subst T (same liveQuery (λ w k x. refl) r) h))) (g .versionsGood x i);
+        noCircle = uncircled;
+      }
 
 -- ---- a wait, and the clearing of a grant
 module _ (S : Sizes) (G : Tables) (g : Good S G) (s : ℕ) (inside : s < S .slots) (update : T (liveUpdate (txn (G .txns) s))) where
   pub waited-good :
-    (k x : ℕ) → k ≢ noLock → MayAwait S G s k x → (Circle G s k x → ⊥) → Good S (withTxns G (setAwaited (G .txns) s k x))
+      (k x : ℕ) → k ≢ noLock → MayAwait S G s k x → (Circle G s k x → ⊥) → Good S (withTxns G (setAwaited (G .txns) s k x))
   waited-good k x d may f =
       awaiting-good S G g s k x inside update may (no-new-circle S G g s k x inside (may .known d) d f)
 
@@ -137,8 +145,10 @@ module _ (S : Sizes) (G : Tables) (g : Good S G) (s : ℕ) (inside : s < S .slot
     where
       t′ : List ℕ
       t′ = setAwaited (G .txns) s noLock 0
+
       idle : (txn t′ s) .awaitedLock ≡ noLock
       idle = ap (λ (w : Txn). w .awaitedLock) (awaiting-here S (G .txns) (g .txnsExact) s noLock 0 inside)
+
       links : (a b : ℕ) → T (waitsFor t′ (G .locks) a b) → T (waitsFor (G .txns) (G .locks) a b)
       links a b h = go (same? a s)
         where

@@ -66,19 +66,19 @@ module _ (S : Sizes) (G : Tables) (g : Good S G) (k q s : ℕ) (inside : s < S .
 
   new-row : GoodTxn S t′ (G .locks) s R
   new-row =
-      record
-        { free = λ e. absurd (omega arith)
-        ; given = let a = last′ in omega arith
-        ; kindListed = kind-listed kinds
-        ; lockListed = omega arith
-        ; updateStart = λ h. update-start kinds (update-live R h .1)
-        ; queryStart = λ h. let a = query-start kinds (query-live R h .1) in let b = clock′ in omega arith
-        ; queryIdle = λ h. refl
-        ; itemKnown = λ d. absurd (d refl)
-        ; itemUnused = λ e. refl
-        ; awaitsShared = λ e. absurd (omega arith)
-        ; awaitsExclusive = λ e. absurd (omega arith)
-        }
+      record {
+        free = λ e. absurd (omega arith);
+        given = let a = last′ in omega arith;
+        kindListed = kind-listed kinds;
+        lockListed = omega arith;
+        updateStart = λ h. update-start kinds (update-live R h .1);
+        queryStart = λ h. let a = query-start kinds (query-live R h .1) in let b = clock′ in omega arith;
+        queryIdle = λ h. refl;
+        itemKnown = λ d. absurd (d refl);
+        itemUnused = λ e. refl;
+        awaitsShared = λ e. absurd (omega arith);
+        awaitsExclusive = λ e. absurd (omega arith);
+      }
 
   rows : (r : ℕ) → r < S .slots → GoodTxn S t′ (G .locks) r (txn t′ r)
   rows r i = go (same? r s)
@@ -94,6 +94,7 @@ module _ (S : Sizes) (G : Tables) (g : Good S G) (k q s : ℕ) (inside : s < S .
     where
       below : (r : ℕ) → r < S .slots → (txn t r) .number < n
       below r c = let e = g .txnGood r c .given in omega arith
+
       go : (a ≡ s) ⊎ (a ≢ s) → (b ≡ s) ⊎ (b ≢ s) → T (live (txn t′ b)) → (txn t′ a) .number ≢ (txn t′ b) .number
       go (inl e) (inl f) h z = absurd (d (e ∙ sym f))
       go (inl e) (inr f) h z =
@@ -133,15 +134,15 @@ module _ (S : Sizes) (G : Tables) (g : Good S G) (k q s : ℕ) (inside : s < S .
   pub begun-good : Good S (begun k q s G)
   unfolding begun
   begun-good =
-      record
-        { txnsExact = length-setTxn (set t 0 n) s R ∙ size
-        ; locksExact = g .locksExact
-        ; versionsExact = g .versionsExact
-        ; lastMost = let a = last′ in omega arith
-        ; clockMost = let a = clock′ in let b = g .clockMost in omega arith
-        ; txnGood = rows
-        ; distinct = apart
-        ; lockGood = λ x i. lock-carried S t t′ (lock (G .locks) x) (λ r h u. rw (alive r (update-live (txn t r) u .0)) u) (g .lockGood x i)
-        ; versionsGood = λ x i. versions-carried S t t′ _ (let a = clock′ in omega arith) (λ r j h. alive r (query-live (txn t r) h .0)) (λ r j h. fresh-start r h) (g .versionsGood x i)
-        ; noCircle = fewer-no-circle S G g t′ (G .locks) links
-        }
+      record {
+        txnsExact = length-setTxn (set t 0 n) s R ∙ size;
+        locksExact = g .locksExact;
+        versionsExact = g .versionsExact;
+        lastMost = let a = last′ in omega arith;
+        clockMost = let a = clock′ in let b = g .clockMost in omega arith;
+        txnGood = rows;
+        distinct = apart;
+        lockGood = λ x i. lock-carried S t t′ (lock (G .locks) x) (λ r h u. rw (alive r (update-live (txn t r) u .0)) u) (g .lockGood x i);
+        versionsGood = λ x i. versions-carried S t t′ _ (let a = clock′ in omega arith) (λ r j h. alive r (query-live (txn t r) h .0)) (λ r j h. fresh-start r h) (g .versionsGood x i);
+        noCircle = fewer-no-circle S G g t′ (G .locks) links;
+      }

@@ -43,65 +43,70 @@ reads-first q (v ∷ vs) b = rw (le-leb (v .stamp) q b)
 module _ (S : Sizes) (t t′ : List ℕ) where
   -- a row: the last number and the clock did not fall, and what its slot holds of the item that it awaits did not grow
   pub txn-carried :
-    (l l′ : List ℕ) (s : ℕ) (r : Txn) → lastNumber t ≤ lastNumber t′ → clock t ≤ clock t′
-    → (r .awaitedLock ≢ noLock → NoMore s (lock l (r .awaitedItem)) (lock l′ (r .awaitedItem)))
-    → GoodTxn S t l s r → GoodTxn S t′ l′ s r
+      (l l′ : List ℕ) (s : ℕ) (r : Txn) → lastNumber t ≤ lastNumber t′ → clock t ≤ clock t′
+      → (r .awaitedLock ≢ noLock → NoMore s (lock l (r .awaitedItem)) (lock l′ (r .awaitedItem)))
+      → GoodTxn S t l s r → GoodTxn S t′ l′ s r
   txn-carried l l′ s r a b n g =
-      record
-        { free = g .free
-        ; given = let c = g .given in omega arith
-        ; kindListed = g .kindListed
-        ; lockListed = g .lockListed
-        ; updateStart = g .updateStart
-        ; queryStart = λ z. let c = g .queryStart z in omega arith
-        ; queryIdle = g .queryIdle
-        ; itemKnown = g .itemKnown
-        ; itemUnused = g .itemUnused
-        ; awaitsShared = λ e h. g .awaitsShared e (no-more-holds s _ _ (n (λ z. absurd (omega arith))) h)
-        ; awaitsExclusive = λ e h. g .awaitsExclusive e (n (λ z. absurd (omega arith)) .exclusive h)
-        }
+      record {
+        free = g .free;
+        given = let c = g .given in omega arith;
+        kindListed = g .kindListed;
+        lockListed = g .lockListed;
+        updateStart = g .updateStart;
+        queryStart = λ z. let c = g .queryStart z in omega arith;
+        queryIdle = g .queryIdle;
+        itemKnown = g .itemKnown;
+        itemUnused = g .itemUnused;
+        awaitsShared = λ e h. g .awaitsShared e (no-more-holds s _ _ (n (λ z. absurd (omega arith))) h);
+        awaitsExclusive = λ e h. g .awaitsExclusive e (n (λ z. absurd (omega arith)) .exclusive h);
+      }
 
   -- a lock: its holders live on
   pub lock-carried :
-    (h : Lock) → ((s : ℕ) → T (holds h s) → T (liveUpdate (txn t s)) → T (liveUpdate (txn t′ s))) → GoodLock S t h → GoodLock S t′ h
+      (h : Lock) → ((s : ℕ) → T (holds h s) → T (liveUpdate (txn t s)) → T (liveUpdate (txn t′ s))) → GoodLock S t h → GoodLock S t′ h
   lock-carried h f g =
-      record
-        { holders = λ s a. let b = g .holders s a in (b .0, f s a (b .1))
-        ; neverBoth = g .neverBoth
-        ; noWorking = g .noWorking
-        }
+      record {
+        holders = λ s a. let b = g .holders s a in (b .0, f s a (b .1));
+        neverBoth = g .neverBoth;
+        noWorking = g .noWorking;
+      }
 
   -- a row of versions: the clock did not fall, the queries live on as they are, and a new one starts no earlier than at the clock
   pub versions-carried :
-    (r : List ℕ) → clock t ≤ clock t′
-    → ((s : ℕ) → s < S .slots → T (liveQuery (txn t s)) → txn t′ s ≡ txn t s)
-    → ((s : ℕ) → s < S .slots → T (liveQuery (txn t′ s)) → (txn t′ s ≡ txn t s) ⊎ (clock t ≤ (txn t′ s) .start))
-    → GoodVersions S t r → GoodVersions S t′ r
+      (r : List ℕ) → clock t ≤ clock t′
+      → ((s : ℕ) → s < S .slots → T (liveQuery (txn t s)) → txn t′ s ≡ txn t s)
+      → ((s : ℕ) → s < S .slots → T (liveQuery (txn t′ s)) → (txn t′ s ≡ txn t s) ⊎ (clock t ≤ (txn t′ s) .start))
+      → GoodVersions S t r → GoodVersions S t′ r
   versions-carried r up kept new g =
-      record
-        { countLeast = g .countLeast
-        ; countMost = g .countMost
-        ; unused = g .unused
-        ; fall = g .fall
-        ; first = let c = g .first in omega arith
-        ; last = λ s i q. old s i q (new s i q)
-        ; reads = λ k pos. (λ there. here k (g .reads k pos .0 there), λ w. back k pos (w .0) (w .1) (w .2) (w .3) (new (w .0) (w .1) (w .2)))
-        }
+      record {
+        countLeast = g .countLeast;
+        countMost = g .countMost;
+        unused = g .unused;
+        fall = g .fall;
+        first = let c = g .first in omega arith;
+        last = λ s i q. old s i q (new s i q);
+        reads = λ k pos. (λ there. here k (g .reads k pos .0 there), λ w. back k pos (w .0) (w .1) (w .2) (w .3) (new (w .0) (w .1) (w .2)));
+      }
     where
       vs : List Version
       vs = versionsIn r
+
       -- no stamp is above the clock
       low : (k : ℕ) → k < length vs → stampAt vs k ≤ clock t
       low zero b = g .first
       low (suc k) b = let c = g .fall 0 (suc k) (omega arith) b in let d = g .first in omega arith
+
       lowest : (k : ℕ) → (k ≢ 0 → k < length vs) → (k ≡ 0) ⊎ (k ≢ 0) → stampAt vs k ≤ clock t
       lowest k b (inl e) = rw e (g .first)
       lowest k b (inr d) = low k (b d)
+
       old : (s : ℕ) → s < S .slots → T (liveQuery (txn t′ s)) → (txn t′ s ≡ txn t s) ⊎ (clock t ≤ (txn t′ s) .start) → stampAt vs (length vs - 1) ≤ (txn t′ s) .start
       old s i q (inl e) = rw e (g .last s i (subst (λ (w : Txn). T (liveQuery w)) e q))
       old s i q (inr b) = let c = lowest (length vs - 1) (λ d. omega arith) (same? (length vs - 1) 0) in omega arith
+
       here : (k : ℕ) → ((s : ℕ) × (s < S .slots) × T (liveQuery (txn t s)) × (place ((txn t s) .start) vs ≡ k)) → ((s : ℕ) × (s < S .slots) × T (liveQuery (txn t′ s)) × (place ((txn t′ s) .start) vs ≡ k))
       here k (s, i, q, e) = let f = kept s i q in (s, i, rw f q, rw f e)
+
       back : (k : ℕ) → 0 < k → (s : ℕ) → s < S .slots → T (liveQuery (txn t′ s)) → place ((txn t′ s) .start) vs ≡ k → (txn t′ s ≡ txn t s) ⊎ (clock t ≤ (txn t′ s) .start) → k < length vs
       back k pos s i q e (inl f) = g .reads k pos .1 (s, i, subst (λ (w : Txn). T (liveQuery w)) f q, subst (λ (w : Txn). place (w .start) vs ≡ k) f e)
       back k pos s i q e (inr b) = absurd (let c = reads-first ((txn t′ s) .start) vs (let d = g .first in omega arith) in omega arith)

@@ -70,8 +70,8 @@ first-passes p s zero h = absurd (omega arith)
 first-passes p s (suc n) h = go (p s) refl (first-passes p (suc s) n)
   where
     go :
-      (b : Bool) → p s ≡ b → (firstFrom p (suc s) n < suc s + n → T (p (firstFrom p (suc s) n)))
-      → T (p (cond (p s) s (firstFrom p (suc s) n)))
+        (b : Bool) → p s ≡ b → (firstFrom p (suc s) n < suc s + n → T (p (firstFrom p (suc s) n)))
+        → T (p (cond (p s) s (firstFrom p (suc s) n)))
     go true e f = rw e (true-is e)
     go false e f = rw e (f (let k : firstFrom p s (suc n) ≡ firstFrom p (suc s) n = rw e in omega arith))
 

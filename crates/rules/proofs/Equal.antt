@@ -71,22 +71,22 @@ module _ (S : Sizes) (G : Tables) where
       let c = and-left (topsMost t) _ h₁ in
       let size = eqb→eq (length t) (txnWords S) (and-left (eqb (length t) (txnWords S)) _ a) in
       let rows : (s : ℕ) → s < S .slots → GoodTxn S t l s (txn t s)
-               = λ s i. txn→Good S t l s (txn t s) (everyBelow→ (S .slots) (λ s. txnGood S t l s (txn t s)) (and-left rowsTest _ h₂) s i) in
+      = λ s i. txn→Good S t l s (txn t s) (everyBelow→ (S .slots) (λ s. txnGood S t l s (txn t s)) (and-left rowsTest _ h₂) s i) in
       let locks : (x : ℕ) → x < S .items → GoodLock S t (lock l x)
-                = λ x i. lock→Good S t (lock l x) (everyBelow→ (S .items) (λ x. lockGood S t (lock l x)) (and-left locksTest _ h₄) x i) in
-      record
-        { txnsExact = size
-        ; locksExact = eqb→eq (length l) (lockWords S) (and-left (eqb (length l) (lockWords S)) _ b)
-        ; versionsExact = eqb→eq (length (G .versions)) (versionWords S) (and-right (eqb (length l) (lockWords S)) _ b)
-        ; lastMost = leb→le (lastNumber t) lastWord (and-left (leb (lastNumber t) lastWord) _ c)
-        ; clockMost = leb→le (clock t) lastWord (and-right (leb (lastNumber t) lastWord) _ c)
-        ; txnGood = rows
-        ; distinct = λ r s j i d a. pick (and-left (distinct S t) _ h₃) r s j i a (order r s d)
-        ; lockGood = locks
-        ; versionsGood = λ x i. versions→Good S t (row (versionRow S) x (G .versions))
-            (everyRow→ (S .items) (versionRow S) (λ x r. versionsGood S (clock t) (starts S t) r) 0 (G .versions) (and-left versionsTest _ h₅) x i)
-        ; noCircle = no-circle→ S t l size (λ s i. rows s i .itemKnown) (λ x i b h. locks x i .holders b h .0) h₆
-        }
+      = λ x i. lock→Good S t (lock l x) (everyBelow→ (S .items) (λ x. lockGood S t (lock l x)) (and-left locksTest _ h₄) x i) in
+      record {
+        txnsExact = size;
+        locksExact = eqb→eq (length l) (lockWords S) (and-left (eqb (length l) (lockWords S)) _ b);
+        versionsExact = eqb→eq (length (G .versions)) (versionWords S) (and-right (eqb (length l) (lockWords S)) _ b);
+        lastMost = leb→le (lastNumber t) lastWord (and-left (leb (lastNumber t) lastWord) _ c);
+        clockMost = leb→le (clock t) lastWord (and-right (leb (lastNumber t) lastWord) _ c);
+        txnGood = rows;
+        distinct = λ r s j i d a. pick (and-left (distinct S t) _ h₃) r s j i a (order r s d);
+        lockGood = locks;
+        versionsGood = λ x i. versions→Good S t (row (versionRow S) x (G .versions))
+            (everyRow→ (S .items) (versionRow S) (λ x r. versionsGood S (clock t) (starts S t) r) 0 (G .versions) (and-left versionsTest _ h₅) x i);
+        noCircle = no-circle→ S t l size (λ s i. rows s i .itemKnown) (λ x i b h. locks x i .holders b h .0) h₆;
+      }
     where
       pick : T (distinct S t) → (r s : ℕ) → r < S .slots → s < S .slots → T (live (txn t s)) → (r < s) ⊎ (s < r) → (txn t r) .number ≢ (txn t s) .number
       pick h r s j i a (inl k) = apart h r s k i a
@@ -97,18 +97,18 @@ module _ (S : Sizes) (G : Tables) where
   unfolding good sizesExact topsMost distinct
   Good→good g =
       and-both (sizesExact S G) _
-        (and-both (eqb (length t) (txnWords S)) _ (eq-make (length t) (txnWords S) (g .txnsExact))
-        (and-both (eqb (length l) (lockWords S)) _ (eq-make (length l) (lockWords S) (g .locksExact)) (eq-make (length (G .versions)) (versionWords S) (g .versionsExact))))
+      (and-both (eqb (length t) (txnWords S)) _ (eq-make (length t) (txnWords S) (g .txnsExact))
+      (and-both (eqb (length l) (lockWords S)) _ (eq-make (length l) (lockWords S) (g .locksExact)) (eq-make (length (G .versions)) (versionWords S) (g .versionsExact))))
       (and-both (topsMost t) _
-        (and-both (leb (lastNumber t) lastWord) _ (le→leb (lastNumber t) lastWord (g .lastMost)) (le→leb (clock t) lastWord (g .clockMost)))
+      (and-both (leb (lastNumber t) lastWord) _ (le→leb (lastNumber t) lastWord (g .lastMost)) (le→leb (clock t) lastWord (g .clockMost)))
       (and-both rowsTest _ (→everyBelow (S .slots) (λ s. txnGood S t l s (txn t s)) (λ s i. Good→txn S t l s (txn t s) (g .txnGood s i)))
       (and-both (distinct S t) _
-        (→everyBelow (S .slots) _ (λ s i. →everyBelow s (λ r. implies (live (txn t s)) (not (eqb ((txn t r) .number) ((txn t s) .number))))
-          (λ r k. implies-make (live (txn t s)) _ (λ a. ne-make ((txn t r) .number) ((txn t s) .number) (g .distinct r s (omega arith) i (omega arith) a)))))
+      (→everyBelow (S .slots) _ (λ s i. →everyBelow s (λ r. implies (live (txn t s)) (not (eqb ((txn t r) .number) ((txn t s) .number))))
+      (λ r k. implies-make (live (txn t s)) _ (λ a. ne-make ((txn t r) .number) ((txn t s) .number) (g .distinct r s (omega arith) i (omega arith) a)))))
       (and-both locksTest _ (→everyBelow (S .items) (λ x. lockGood S t (lock l x)) (λ x i. Good→lock S t (lock l x) (g .lockGood x i)))
       (and-both versionsTest _
-        (→everyRow (S .items) (versionRow S) (λ x r. versionsGood S (clock t) (starts S t) r) 0 (G .versions) (λ x i. Good→versions S t (row (versionRow S) x (G .versions)) (g .versionsGood x i)))
-        (→no-circle S t l (g .txnsExact) (λ s i. g .txnGood s i .itemKnown) (λ x i b h. g .lockGood x i .holders b h .0) (g .noCircle)))))))
+      (→everyRow (S .items) (versionRow S) (λ x r. versionsGood S (clock t) (starts S t) r) 0 (G .versions) (λ x i. Good→versions S t (row (versionRow S) x (G .versions)) (g .versionsGood x i)))
+      (→no-circle S t l (g .txnsExact) (λ s i. g .txnGood s i .itemKnown) (λ x i b h. g .lockGood x i .holders b h .0) (g .noCircle)))))))
 
 -- the computed test and the document's sentences
 pub good↔Good : (S : Sizes) (G : Tables) → T (good S G) ↔ Good S G

@@ -70,19 +70,19 @@ module _ (S : Sizes) (t l : List ℕ) (s : ℕ) (r : Txn) where
       let b₄ = and-right (awaitedGood S r) _ a₄ in
       let queried = and-right (implies (liveUpdate r) (eqb (r .start) 0)) _ b₂ in
       let u = implies (eqb (r .awaitedLock) sharedLock) (not (holds h s)) in
-      record
-        { free = λ e. zeros e (implies-use (not (live r)) _ (and-left (freeZero r) _ a) (not-make (live r) (λ z. ne-use (r .number) 0 z e)))
-        ; given = leb→le (r .number) (lastNumber t) (and-left (leb (r .number) (lastNumber t)) _ a₁)
-        ; kindListed = two (r .kind) (leb→le (r .kind) aQuery (and-left (leb (r .kind) aQuery) _ b₁))
-        ; lockListed = leb→le (r .awaitedLock) exclusiveLock (and-right (leb (r .kind) aQuery) _ b₁)
-        ; updateStart = λ z. eqb→eq (r .start) 0 (implies-use (liveUpdate r) _ (and-left (implies (liveUpdate r) (eqb (r .start) 0)) _ b₂) z)
-        ; queryStart = λ z. leb→le (r .start) (clock t) (and-left (leb (r .start) (clock t)) _ (implies-use (liveQuery r) _ queried z))
-        ; queryIdle = λ z. eqb→eq (r .awaitedLock) noLock (and-right (leb (r .start) (clock t)) _ (implies-use (liveQuery r) _ queried z))
-        ; itemKnown = λ d. ltb→lt (r .awaitedItem) (S .items) (rw (ne-eqb (r .awaitedLock) noLock d) at b₃)
-        ; itemUnused = λ e. eqb→eq (r .awaitedItem) 0 (rw (eq-eqb (r .awaitedLock) noLock e) at b₃)
-        ; awaitsShared = λ e. not-use (holds h s) (implies-use (eqb (r .awaitedLock) sharedLock) _ (and-left u _ b₄) (eq-make (r .awaitedLock) sharedLock e))
-        ; awaitsExclusive = λ e. not-use (holdsExclusive h s) (implies-use (eqb (r .awaitedLock) exclusiveLock) _ (and-right u _ b₄) (eq-make (r .awaitedLock) exclusiveLock e))
-        }
+      record {
+        free = λ e. zeros e (implies-use (not (live r)) _ (and-left (freeZero r) _ a) (not-make (live r) (λ z. ne-use (r .number) 0 z e)));
+        given = leb→le (r .number) (lastNumber t) (and-left (leb (r .number) (lastNumber t)) _ a₁);
+        kindListed = two (r .kind) (leb→le (r .kind) aQuery (and-left (leb (r .kind) aQuery) _ b₁));
+        lockListed = leb→le (r .awaitedLock) exclusiveLock (and-right (leb (r .kind) aQuery) _ b₁);
+        updateStart = λ z. eqb→eq (r .start) 0 (implies-use (liveUpdate r) _ (and-left (implies (liveUpdate r) (eqb (r .start) 0)) _ b₂) z);
+        queryStart = λ z. leb→le (r .start) (clock t) (and-left (leb (r .start) (clock t)) _ (implies-use (liveQuery r) _ queried z));
+        queryIdle = λ z. eqb→eq (r .awaitedLock) noLock (and-right (leb (r .start) (clock t)) _ (implies-use (liveQuery r) _ queried z));
+        itemKnown = λ d. ltb→lt (r .awaitedItem) (S .items) (rw (ne-eqb (r .awaitedLock) noLock d) at b₃);
+        itemUnused = λ e. eqb→eq (r .awaitedItem) 0 (rw (eq-eqb (r .awaitedLock) noLock e) at b₃);
+        awaitsShared = λ e. not-use (holds h s) (implies-use (eqb (r .awaitedLock) sharedLock) _ (and-left u _ b₄) (eq-make (r .awaitedLock) sharedLock e));
+        awaitsExclusive = λ e. not-use (holdsExclusive h s) (implies-use (eqb (r .awaitedLock) exclusiveLock) _ (and-right u _ b₄) (eq-make (r .awaitedLock) exclusiveLock e));
+      }
     where
       two : (k : ℕ) → k ≤ aQuery → (k ≡ anUpdate) ⊎ (k ≡ aQuery)
       two k b = go (same? k anUpdate)
@@ -90,6 +90,7 @@ module _ (S : Sizes) (t l : List ℕ) (s : ℕ) (r : Txn) where
           go : (k ≡ anUpdate) ⊎ (k ≢ anUpdate) → (k ≡ anUpdate) ⊎ (k ≡ aQuery)
           go (inl e) = inl e
           go (inr d) = inr (omega arith)
+
       zeros : r .number ≡ 0 → T (eqb (r .kind) 0 && (eqb (r .start) 0 && (eqb (r .awaitedLock) 0 && eqb (r .awaitedItem) 0))) → r ≡ noTxn
       zeros e z =
           let z₁ = and-right (eqb (r .kind) 0) _ z in
@@ -106,25 +107,27 @@ module _ (S : Sizes) (t l : List ℕ) (s : ℕ) (r : Txn) where
       and-both (freeZero r) _ free
       (and-both (leb (r .number) (lastNumber t)) _ (le→leb (r .number) (lastNumber t) (g .given))
       (and-both (listed r) _
-        (and-both (leb (r .kind) aQuery) _ (le→leb (r .kind) aQuery (kinds (g .kindListed))) (le→leb (r .awaitedLock) exclusiveLock (g .lockListed)))
+      (and-both (leb (r .kind) aQuery) _ (le→leb (r .kind) aQuery (kinds (g .kindListed))) (le→leb (r .awaitedLock) exclusiveLock (g .lockListed)))
       (and-both (startGood (clock t) r) _
-        (and-both (implies (liveUpdate r) (eqb (r .start) 0)) _
-          (implies-make (liveUpdate r) _ (λ z. eq-make (r .start) 0 (g .updateStart z)))
-          (implies-make (liveQuery r) _ (λ z. and-both (leb (r .start) (clock t)) _ (le→leb (r .start) (clock t) (g .queryStart z)) (eq-make (r .awaitedLock) noLock (g .queryIdle z)))))
+      (and-both (implies (liveUpdate r) (eqb (r .start) 0)) _
+      (implies-make (liveUpdate r) _ (λ z. eq-make (r .start) 0 (g .updateStart z)))
+      (implies-make (liveQuery r) _ (λ z. and-both (leb (r .start) (clock t)) _ (le→leb (r .start) (clock t) (g .queryStart z)) (eq-make (r .awaitedLock) noLock (g .queryIdle z)))))
       (and-both (awaitedGood S r) _ (awaited (same? (r .awaitedLock) noLock))
-        (and-both (implies (eqb (r .awaitedLock) sharedLock) (not (holds h s))) _
-          (implies-make (eqb (r .awaitedLock) sharedLock) _ (λ z. not-make (holds h s) (g .awaitsShared (eqb→eq (r .awaitedLock) sharedLock z))))
-          (implies-make (eqb (r .awaitedLock) exclusiveLock) _ (λ z. not-make (holdsExclusive h s) (g .awaitsExclusive (eqb→eq (r .awaitedLock) exclusiveLock z)))))))))
+      (and-both (implies (eqb (r .awaitedLock) sharedLock) (not (holds h s))) _
+      (implies-make (eqb (r .awaitedLock) sharedLock) _ (λ z. not-make (holds h s) (g .awaitsShared (eqb→eq (r .awaitedLock) sharedLock z))))
+      (implies-make (eqb (r .awaitedLock) exclusiveLock) _ (λ z. not-make (holdsExclusive h s) (g .awaitsExclusive (eqb→eq (r .awaitedLock) exclusiveLock z)))))))))
     where
       kinds : (r .kind ≡ anUpdate) ⊎ (r .kind ≡ aQuery) → r .kind ≤ aQuery
       kinds (inl e) = omega arith
       kinds (inr e) = omega arith
+
       free : T (implies (not (not (eqb (r .number) 0))) (eqb (r .kind) 0 && (eqb (r .start) 0 && (eqb (r .awaitedLock) 0 && eqb (r .awaitedItem) 0))))
       free = implies-make (not (not (eqb (r .number) 0))) _ (λ z. go (same? (r .number) 0) z)
         where
           go : (r .number ≡ 0) ⊎ (r .number ≢ 0) → T (not (not (eqb (r .number) 0))) → T (eqb (r .kind) 0 && (eqb (r .start) 0 && (eqb (r .awaitedLock) 0 && eqb (r .awaitedItem) 0)))
           go (inl e) z = subst (λ (w : Txn). T (eqb (w .kind) 0 && (eqb (w .start) 0 && (eqb (w .awaitedLock) 0 && eqb (w .awaitedItem) 0)))) (sym (g .free e)) tt
           go (inr d) z = absurd (not-use (not (eqb (r .number) 0)) z (ne-make (r .number) 0 d))
+
       awaited : (r .awaitedLock ≡ noLock) ⊎ (r .awaitedLock ≢ noLock) → T (cond (eqb (r .awaitedLock) noLock) (eqb (r .awaitedItem) 0) (ltb (r .awaitedItem) (S .items)))
       awaited (inl e) = rw (eq-eqb (r .awaitedLock) noLock e) (eq-make (r .awaitedItem) 0 (g .itemUnused e))
       awaited (inr d) = rw (ne-eqb (r .awaitedLock) noLock d) (lt→ltb (r .awaitedItem) (S .items) (g .itemKnown d))
@@ -138,17 +141,18 @@ module _ (S : Sizes) (t : List ℕ) (o : Lock) where
       let b = and-left (holdersLive S t o) _ a in
       let b₁ = and-right (ltb (o .shared) (2 ^ S .slots)) _ b in
       let b₂ = and-right (leb (o .exclusive) (S .slots)) _ b₁ in
-      record
-        { holders = λ s h.
+      record {
+        holders = λ s h.
             let i = below s (ltb→lt (o .shared) (2 ^ S .slots) (and-left (ltb (o .shared) (2 ^ S .slots)) _ b)) (leb→le (o .exclusive) (S .slots) (and-left (leb (o .exclusive) (S .slots)) _ b₁)) (or-cases (holdsShared o s) _ h) in
-            (i, implies-use (holds o s) _ (everyBelow→ (S .slots) (λ s. implies (holds o s) (liveUpdate (txn t s))) b₂ s i) h)
-        ; neverBoth = either (or-cases (eqb (o .shared) 0) _ (and-left (eqb (o .shared) 0 || eqb (o .exclusive) 0) _ a₁))
-        ; noWorking = λ e. eqb→eq (o .working) 0 (implies-use (eqb (o .exclusive) 0) _ (and-right (eqb (o .shared) 0 || eqb (o .exclusive) 0) _ a₁) (eq-make (o .exclusive) 0 e))
-        }
+            (i, implies-use (holds o s) _ (everyBelow→ (S .slots) (λ s. implies (holds o s) (liveUpdate (txn t s))) b₂ s i) h);
+        neverBoth = either (or-cases (eqb (o .shared) 0) _ (and-left (eqb (o .shared) 0 || eqb (o .exclusive) 0) _ a₁));
+        noWorking = λ e. eqb→eq (o .working) 0 (implies-use (eqb (o .exclusive) 0) _ (and-right (eqb (o .shared) 0 || eqb (o .exclusive) 0) _ a₁) (eq-make (o .exclusive) 0 e));
+      }
     where
       below : (s : ℕ) → o .shared < 2 ^ S .slots → o .exclusive ≤ S .slots → T (bit (o .shared) s) ⊎ T (eqb (o .exclusive) (suc s)) → s < S .slots
       below s p q (inl h) = bit-below (o .shared) s (S .slots) p h
       below s p q (inr h) = let e = eqb→eq (o .exclusive) (suc s) h in omega arith
+
       either : T (eqb (o .shared) 0) ⊎ T (eqb (o .exclusive) 0) → (o .shared ≡ 0) ⊎ (o .exclusive ≡ 0)
       either (inl h) = inl (eqb→eq (o .shared) 0 h)
       either (inr h) = inr (eqb→eq (o .exclusive) 0 h)
@@ -157,17 +161,18 @@ module _ (S : Sizes) (t : List ℕ) (o : Lock) where
   unfolding lockGood holdersLive holds holdsShared holdsExclusive
   Good→lock g =
       and-both (holdersLive S t o) _
-        (and-both (ltb (o .shared) (2 ^ S .slots)) _
-          (lt→ltb (o .shared) (2 ^ S .slots) (below-bits (S .slots) (o .shared) (λ b h. g .holders b (or-left (bit (o .shared) b) _ h) .0)))
-        (and-both (leb (o .exclusive) (S .slots)) _
-          (le→leb (o .exclusive) (S .slots) (few (o .exclusive) refl))
-          (→everyBelow (S .slots) (λ s. implies (holds o s) (liveUpdate (txn t s))) (λ s i. implies-make (holds o s) _ (λ h. g .holders s h .1)))))
+      (and-both (ltb (o .shared) (2 ^ S .slots)) _
+      (lt→ltb (o .shared) (2 ^ S .slots) (below-bits (S .slots) (o .shared) (λ b h. g .holders b (or-left (bit (o .shared) b) _ h) .0)))
+      (and-both (leb (o .exclusive) (S .slots)) _
+      (le→leb (o .exclusive) (S .slots) (few (o .exclusive) refl))
+      (→everyBelow (S .slots) (λ s. implies (holds o s) (liveUpdate (txn t s))) (λ s i. implies-make (holds o s) _ (λ h. g .holders s h .1)))))
       (and-both (eqb (o .shared) 0 || eqb (o .exclusive) 0) _ (either (g .neverBoth))
-        (implies-make (eqb (o .exclusive) 0) _ (λ h. eq-make (o .working) 0 (g .noWorking (eqb→eq (o .exclusive) 0 h)))))
+      (implies-make (eqb (o .exclusive) 0) _ (λ h. eq-make (o .working) 0 (g .noWorking (eqb→eq (o .exclusive) 0 h)))))
     where
       few : (e : ℕ) → o .exclusive ≡ e → e ≤ S .slots
       few ℕ.zero q = omega arith
       few (suc b) q = g .holders b (or-right (bit (o .shared) b) _ (eq-make (o .exclusive) (suc b) q)) .0
+
       either : (o .shared ≡ 0) ⊎ (o .exclusive ≡ 0) → T (eqb (o .shared) 0 || eqb (o .exclusive) 0)
       either (inl e) = or-left (eqb (o .shared) 0) _ (eq-make (o .shared) 0 e)
       either (inr e) = or-right (eqb (o .shared) 0) _ (eq-make (o .exclusive) 0 e)

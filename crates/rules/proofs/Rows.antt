@@ -43,9 +43,9 @@ module _ (w : ℕ) (f : ℕ → List ℕ → List ℕ) (keeps : (i : ℕ) (r : L
   length-mapRows (suc n) i l h =
       length-append (f i (take w l)) (mapRows n w f (suc i) (drop w l))
       ∙ (let a : w ≤ length l = omega arith in
-         let b : length (f i (take w l)) ≡ w = keeps i (take w l) (length-take-le w l a) in
-         let c : length (mapRows n w f (suc i) (drop w l)) ≡ length (drop w l) = length-mapRows n (suc i) (drop w l) (rw length-drop (omega arith)) in
-         omega (arith, length-drop w l))
+      let b : length (f i (take w l)) ≡ w = keeps i (take w l) (length-take-le w l a) in
+      let c : length (mapRows n w f (suc i) (drop w l)) ≡ length (drop w l) = length-mapRows n (suc i) (drop w l) (rw length-drop (omega arith)) in
+      omega (arith, length-drop w l))
 
   pub row-mapRows : (n i : ℕ) (l : List ℕ) → w * n ≤ length l → (k : ℕ) → k < n → row w k (mapRows n w f i l) ≡ f (i + k) (row w k l)
   unfolding mapRows

@@ -30,12 +30,16 @@ module _ (t : List ℕ) (b v₀ v₁ v₂ v₃ v₄ : ℕ) where
   module _ (fits : b + 4 < length t) where
     five-0 : getD five b 0 ≡ v₀
     five-0 = rw (getD-set-other _ (b + 4) b v₄ 0 (omega arith), getD-set-other _ (b + 3) b v₃ 0 (omega arith), getD-set-other _ (b + 2) b v₂ 0 (omega arith), getD-set-other _ (b + 1) b v₁ 0 (omega arith)) (getD-set-same t b v₀ 0 (omega arith))
+
     five-1 : getD five (b + 1) 0 ≡ v₁
     five-1 = rw (getD-set-other _ (b + 4) (b + 1) v₄ 0 (omega arith), getD-set-other _ (b + 3) (b + 1) v₃ 0 (omega arith), getD-set-other _ (b + 2) (b + 1) v₂ 0 (omega arith)) (getD-set-same (set t b v₀) (b + 1) v₁ 0 (simp length-set (omega arith)))
+
     five-2 : getD five (b + 2) 0 ≡ v₂
     five-2 = rw (getD-set-other _ (b + 4) (b + 2) v₄ 0 (omega arith), getD-set-other _ (b + 3) (b + 2) v₃ 0 (omega arith)) (getD-set-same (set (set t b v₀) (b + 1) v₁) (b + 2) v₂ 0 (simp length-set (omega arith)))
+
     five-3 : getD five (b + 3) 0 ≡ v₃
     five-3 = rw (getD-set-other _ (b + 4) (b + 3) v₄ 0 (omega arith)) (getD-set-same (set (set (set t b v₀) (b + 1) v₁) (b + 2) v₂) (b + 3) v₃ 0 (simp length-set (omega arith)))
+
     five-4 : getD five (b + 4) 0 ≡ v₄
     five-4 = getD-set-same (set (set (set (set t b v₀) (b + 1) v₁) (b + 2) v₂) (b + 3) v₃) (b + 4) v₄ 0 (simp length-set (omega arith))
 
@@ -69,14 +73,13 @@ module _ (t : List ℕ) (s : ℕ) (r : Txn) where
   unfolding txn setTxn
   txn-setTxn S e h =
       let f : txnAt s + 4 < length t = omega arith in
-      λ i. record
-        { number = five-0 t (txnAt s) (r .number) (r .kind) (r .start) (r .awaitedLock) (r .awaitedItem) f i
-        ; kind = five-1 t (txnAt s) (r .number) (r .kind) (r .start) (r .awaitedLock) (r .awaitedItem) f i
-        ; start = five-2 t (txnAt s) (r .number) (r .kind) (r .start) (r .awaitedLock) (r .awaitedItem) f i
-        ; awaitedLock = five-3 t (txnAt s) (r .number) (r .kind) (r .start) (r .awaitedLock) (r .awaitedItem) f i
-        ; awaitedItem = five-4 t (txnAt s) (r .number) (r .kind) (r .start) (r .awaitedLock) (r .awaitedItem) f i
-        }
-
+      λ i. record {
+        number = five-0 t (txnAt s) (r .number) (r .kind) (r .start) (r .awaitedLock) (r .awaitedItem) f i;
+        kind = five-1 t (txnAt s) (r .number) (r .kind) (r .start) (r .awaitedLock) (r .awaitedItem) f i;
+        start = five-2 t (txnAt s) (r .number) (r .kind) (r .start) (r .awaitedLock) (r .awaitedItem) f i;
+        awaitedLock = five-3 t (txnAt s) (r .number) (r .kind) (r .start) (r .awaitedLock) (r .awaitedItem) f i;
+        awaitedItem = five-4 t (txnAt s) (r .number) (r .kind) (r .start) (r .awaitedLock) (r .awaitedItem) f i;
+      }
 
 -- the row with other awaited fields
 abbrev pub awaiting : Txn → ℕ → ℕ → Txn
@@ -97,13 +100,13 @@ pub txn-top : (t : List ℕ) (j w q : ℕ) → j < 2 → txn (set t j w) q ≡ t
 unfolding txn
 txn-top t j w q h =
     λ i.
-    record
-      { number = getD-set-other t j (txnAt q) w 0 (omega arith) i
-      ; kind = getD-set-other t j (txnAt q + 1) w 0 (omega arith) i
-      ; start = getD-set-other t j (txnAt q + 2) w 0 (omega arith) i
-      ; awaitedLock = getD-set-other t j (txnAt q + 3) w 0 (omega arith) i
-      ; awaitedItem = getD-set-other t j (txnAt q + 4) w 0 (omega arith) i
-      }
+    record {
+      number = getD-set-other t j (txnAt q) w 0 (omega arith) i;
+      kind = getD-set-other t j (txnAt q + 1) w 0 (omega arith) i;
+      start = getD-set-other t j (txnAt q + 2) w 0 (omega arith) i;
+      awaitedLock = getD-set-other t j (txnAt q + 3) w 0 (omega arith) i;
+      awaitedItem = getD-set-other t j (txnAt q + 4) w 0 (omega arith) i;
+    }
 
 -- past the rows there is nothing
 pub beyond : (S : Sizes) (t : List ℕ) → length t ≡ txnWords S → (a : ℕ) → S .slots ≤ a → (txn t a) .awaitedLock ≡ 0
@@ -147,7 +150,6 @@ lock-release S s l e x h =
   where
     len : (r : Lock) → length (lockWordsOf r) ≡ 3
     len r = unfold lockWordsOf in refl
-
 
 pub length-setLock : (l : List ℕ) (x : ℕ) (h : Lock) → length (setLock l x h) ≡ length l
 unfolding setLock

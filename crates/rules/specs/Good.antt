@@ -59,8 +59,8 @@ pub record GoodVersions (S : Sizes) (t r : List ℕ) : Type 0 where
   pub last : (s : ℕ) → s < S .slots → T (liveQuery (txn t s)) → stampAt (versionsIn r) (length (versionsIn r) - 1) ≤ (txn t s) .start
   -- "A version that is not the newest is there exactly if some live query reads it."
   pub reads :
-    (k : ℕ) → 0 < k
-    → (k < length (versionsIn r)) ↔ ((s : ℕ) × (s < S .slots) × T (liveQuery (txn t s)) × (place ((txn t s) .start) (versionsIn r) ≡ k))
+      (k : ℕ) → 0 < k
+      → (k < length (versionsIn r)) ↔ ((s : ℕ) × (s < S .slots) × T (liveQuery (txn t s)) × (place ((txn t s) .start) (versionsIn r) ≡ k))
 
 pub record Good (S : Sizes) (G : Tables) : Type 0 where
   -- "The sizes are exact."
@@ -73,8 +73,8 @@ pub record Good (S : Sizes) (G : Tables) : Type 0 where
   -- "A free row is all zeros; live numbers are distinct and .."
   pub txnGood : (s : ℕ) → s < S .slots → GoodTxn S (G .txns) (G .locks) s (txn (G .txns) s)
   pub distinct :
-    (r s : ℕ) → r < S .slots → s < S .slots → r ≢ s → T (live (txn (G .txns) s))
-    → (txn (G .txns) r) .number ≢ (txn (G .txns) s) .number
+      (r s : ℕ) → r < S .slots → s < S .slots → r ≢ s → T (live (txn (G .txns) s))
+      → (txn (G .txns) r) .number ≢ (txn (G .txns) s) .number
   -- "Lock holders are .."
   pub lockGood : (x : ℕ) → x < S .items → GoodLock S (G .txns) (lock (G .locks) x)
   -- "A version count is .."

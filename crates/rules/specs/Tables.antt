@@ -56,13 +56,13 @@ exclusiveLock = 2
 -- the row of slot s, read and written
 unfoldable pub txn : List ℕ → ℕ → Txn
 txn t s =
-    record
-      { number = getD t (txnAt s) 0
-      ; kind = getD t (txnAt s + 1) 0
-      ; start = getD t (txnAt s + 2) 0
-      ; awaitedLock = getD t (txnAt s + 3) 0
-      ; awaitedItem = getD t (txnAt s + 4) 0
-      }
+    record {
+      number = getD t (txnAt s) 0;
+      kind = getD t (txnAt s + 1) 0;
+      start = getD t (txnAt s + 2) 0;
+      awaitedLock = getD t (txnAt s + 3) 0;
+      awaitedItem = getD t (txnAt s + 4) 0;
+    }
 
 unfoldable pub setTxn : List ℕ → ℕ → Txn → List ℕ
 setTxn t s r =
@@ -125,11 +125,11 @@ lockWords S = lockRow * S .items
 -- the row of item x, read and written
 unfoldable pub lock : List ℕ → ℕ → Lock
 lock l x =
-    record
-      { shared = getD l (lockRow * x) 0
-      ; exclusive = getD l (lockRow * x + 1) 0
-      ; working = getD l (lockRow * x + 2) 0
-      }
+    record {
+      shared = getD l (lockRow * x) 0;
+      exclusive = getD l (lockRow * x + 1) 0;
+      working = getD l (lockRow * x + 2) 0;
+    }
 
 unfoldable pub setLock : List ℕ → ℕ → Lock → List ℕ
 setLock l x h =
@@ -171,8 +171,8 @@ versionWords S = versionRow S * S .items
 -- ---- "Fresh tables hold zeros, but each version row has count 1 with the pair (0, 0)."
 unfoldable pub fresh : Sizes → Tables
 fresh S =
-    record
-      { txns = replicate (txnWords S) 0
-      ; locks = replicate (lockWords S) 0
-      ; versions = mapRows (S .items) (versionRow S) (λ x r. 1 ∷ drop 1 r) 0 (replicate (versionWords S) 0)
-      }
+    record {
+      txns = replicate (txnWords S) 0;
+      locks = replicate (lockWords S) 0;
+      versions = mapRows (S .items) (versionRow S) (λ x r. 1 ∷ drop 1 r) 0 (replicate (versionWords S) 0);
+    }

@@ -18,7 +18,6 @@ pub record Line : Type 0 where
   pub looked : ℕ
 
 infix 40 _⇒_
-
 abbrev pub _⇒_ : Call → ℕ × ℕ × ℕ × ℕ → Line
 c ⇒ a = record { call = c; code = a .0; value = a .1; number = a .2; looked = a .3 }
 

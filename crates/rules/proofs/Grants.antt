@@ -1,0 +1,164 @@
+-- A grant leaves good tables: the awaited fields cleared, then the lock of one item changed for the caller alone. Assumes nothing.
+use Prim.Native.Nat.{ℕ, suc, _≤_, _<_}
+use mathlib.Core.Path.{_≡_, refl, sym, ap, _∙_, subst}
+use mathlib.Core.Logic.{_≢_, _⊎_, inl, inr}
+use mathlib.Core.Bool.{Bool, false, _&&_, _||_}
+use mathlib.Core.List.{List}
+use native.Mathlib.Omega.{arith}
+use lib.ListN.{length}
+use lib.Dec.{T, eqb, eqb→eq}
+use Rattle.names.specs.declared.Sizes.{Sizes}
+use Rattle.rules.specs.Words.{bit, withBit, withoutBit}
+use Rattle.rules.specs.Tables.{Tables, tables, Txn, txn, liveUpdate, noLock, Lock, lock, setLock, holdsShared, holdsExclusive, holds}
+use Rattle.rules.specs.Waits.{conflicts, waitsFor}
+use Rattle.rules.specs.Good.{Good, GoodTxn, GoodLock}
+use Rattle.rules.specs.Step.{withTxns, cleared, locked, sharedToo, taken, replaced}
+use Rattle.rules.proofs.Tests.{and-left, and-right, and-both, or-cases, or-left, or-right, same?, is-false, true-is}
+use Rattle.rules.proofs.Bits.{withBit-there, withoutBit-here, withoutBit-there, no-bits}
+use Rattle.rules.proofs.Views.{lock-setLock, lock-setLock-other, length-setLock}
+use Rattle.rules.proofs.Carried.{NoMore, no-more-same, txn-carried, lock-carried}
+use Rattle.rules.proofs.Walks.{waits-for→, →waits-for}
+use Rattle.rules.proofs.Deadlock.{grant-no-circle}
+use Rattle.rules.proofs.Awaits.{cleared-good, awaiting-here, awaiting-update}
+
+-- who holds no more conflicts with no more
+pub conflicts-fewer : (k b : ℕ) (h h′ : Lock) → NoMore b h h′ → T (conflicts h′ k b) → T (conflicts h k b)
+unfolding conflicts
+conflicts-fewer k b h h′ n a = go (or-cases (holdsExclusive h′ b) (eqb k 2 && holdsShared h′ b) a)
+  where
+    go : T (holdsExclusive h′ b) ⊎ T (eqb k 2 && holdsShared h′ b) → T (holdsExclusive h b || (eqb k 2 && holdsShared h b))
+    go (inl c) = or-left (holdsExclusive h b) _ (n .exclusive c)
+    go (inr c) =
+        or-right (holdsExclusive h b) _
+        (and-both (eqb k 2) _ (and-left (eqb k 2) _ c) (n .shared (and-right (eqb k 2) _ c)))
+
+-- ---- the lock of item x becomes h′; slot s awaits nothing, and the other slots hold no more of it than before
+module _ (S : Sizes) (G : Tables) (g : Good S G) (s x : ℕ) (known : x < S .items) (idle : (txn (G .txns) s) .awaitedLock ≡ noLock)
+    (h′ : Lock) (good′ : GoodLock S (G .txns) h′) (others : (r : ℕ) → r ≢ s → NoMore r (lock (G .locks) x) h′) where
+  abbrev t : List ℕ
+  t = G .txns
+
+  abbrev l : List ℕ
+  l = G .locks
+
+  abbrev l′ : List ℕ
+  l′ = setLock l x h′
+
+  here : lock l′ x ≡ h′
+  here = lock-setLock l x h′ S (g .locksExact) known
+
+  there : (y : ℕ) → y ≢ x → lock l′ y ≡ lock l y
+  there y d = lock-setLock-other l x h′ y d
+
+  fewer : (r : ℕ) → r ≢ s → (y : ℕ) → NoMore r (lock l y) (lock l′ y)
+  fewer r d y = go (same? y x)
+    where
+      go : (y ≡ x) ⊎ (y ≢ x) → NoMore r (lock l y) (lock l′ y)
+      go (inl e) = subst (λ (z : ℕ). NoMore r (lock l z) (lock l′ z)) (sym e) (subst (λ (o : Lock). NoMore r (lock l x) o) (sym here) (others r d))
+      go (inr e) = no-more-same r (there y e)
+
+  rows : (r : ℕ) → r < S .slots → GoodTxn S t l′ r (txn t r)
+  rows r i = txn-carried S t t l l′ r (txn t r) (omega arith) (omega arith) (λ w. fewer r (λ e. w (ap (λ (m : ℕ). (txn t m) .awaitedLock) e ∙ idle)) _) (g .txnGood r i)
+
+  locks : (y : ℕ) → y < S .items → GoodLock S t (lock l′ y)
+  locks y i = go (same? y x)
+    where
+      go : (y ≡ x) ⊎ (y ≢ x) → GoodLock S t (lock l′ y)
+      go (inl e) = subst (λ (o : Lock). GoodLock S t o) (sym (ap (lock l′) e ∙ here)) good′
+      go (inr d) = subst (λ (o : Lock). GoodLock S t o) (sym (there y d)) (g .lockGood y i)
+
+  links : (a b : ℕ) → b ≢ s → T (waitsFor t l′ a b) → T (waitsFor t l a b)
+  links a b d h =
+      let w = waits-for→ t l′ a b h in
+      →waits-for t l a b (w .0) (w .1) (conflicts-fewer ((txn t a) .awaitedLock) b _ _ (fewer b d ((txn t a) .awaitedItem)) (w .2))
+
+  pub relocked-good : Good S (tables (G .txns) (setLock (G .locks) x h′) (G .versions))
+  relocked-good =
+      record {
+        txnsExact = g .txnsExact;
+        locksExact = length-setLock l x h′ ∙ g .locksExact;
+        versionsExact = g .versionsExact;
+        lastMost = g .lastMost;
+        clockMost = g .clockMost;
+        txnGood = rows;
+        distinct = g .distinct;
+        lockGood = locks;
+        versionsGood = g .versionsGood;
+        noCircle = grant-no-circle S G g s t l′ (λ b h. waits-for→ t l′ s b h .0 idle) links;
+      }
+
+-- ---- the locks that a grant leaves
+module _ (S : Sizes) (t : List ℕ) (h : Lock) (g : GoodLock S t h) (s : ℕ) (inside : s < S .slots) (update : T (liveUpdate (txn t s))) where
+  -- "take shared", where nobody holds exclusively
+  pub shared-too : h .exclusive ≡ 0 → GoodLock S t (sharedToo h s)
+  unfolding holds holdsShared holdsExclusive
+  shared-too free =
+      record {
+        holders = λ r a. go r a (same? r s);
+        neverBoth = inr free;
+        noWorking = g .noWorking;
+      }
+    where
+      go : (r : ℕ) → T (bit (withBit (h .shared) s) r || eqb (h .exclusive) (suc r)) → (r ≡ s) ⊎ (r ≢ s) → (r < S .slots) × T (liveUpdate (txn t r))
+      go r a (inl e) = rw e (inside, update)
+      go r a (inr d) = g .holders r (subst (λ (b : Bool). T (b || eqb (h .exclusive) (suc r))) (withBit-there (h .shared) s r d) a)
+
+  pub shared-others : (r : ℕ) → r ≢ s → NoMore r h (sharedToo h s)
+  unfolding holdsShared holdsExclusive
+  shared-others r d = record { shared = λ a. subst T (withBit-there (h .shared) s r d) a; exclusive = λ a. a }
+
+  -- "replace the working value", where the caller holds exclusively
+  pub replaced-too : (v : ℕ) → T (holdsExclusive h s) → GoodLock S t (replaced h v)
+  unfolding holds holdsShared holdsExclusive
+  replaced-too v own =
+      record {
+        holders = g .holders;
+        neverBoth = g .neverBoth;
+        noWorking = λ e. absurd (let a = eqb→eq (h .exclusive) (suc s) own in omega arith);
+      }
+
+  pub replaced-others : (v r : ℕ) → NoMore r h (replaced h v)
+  unfolding holdsShared holdsExclusive
+  replaced-others v r = record { shared = λ a. a; exclusive = λ a. a }
+
+  -- "A taken exclusive lock", where nobody else holds
+  module _ (alone : (r : ℕ) → r ≢ s → T (holds h r) → ⊥) (v : ℕ) where
+    no-shared : (r : ℕ) → bit (withoutBit (h .shared) s) r ≡ false
+    unfolding holds holdsShared
+    no-shared r = go (same? r s)
+      where
+        go : (r ≡ s) ⊎ (r ≢ s) → bit (withoutBit (h .shared) s) r ≡ false
+        go (inl e) = rw e (withoutBit-here (h .shared) s)
+        go (inr d) = withoutBit-there (h .shared) s r d ∙ is-false (bit (h .shared) r) (λ a. alone r d (or-left (bit (h .shared) r) _ a))
+
+    own : (r : ℕ) → T (eqb (suc s) (suc r)) → r ≡ s
+    own r a = let e = eqb→eq (suc s) (suc r) a in omega arith
+
+    pub taken-good : GoodLock S t (taken h s v)
+    unfolding holds holdsShared holdsExclusive
+    taken-good =
+        record {
+          holders = λ r a. go r (or-cases (bit (withoutBit (h .shared) s) r) _ a);
+          neverBoth = inl (no-bits (withoutBit (h .shared) s) no-shared);
+          noWorking = λ e. absurd (omega arith);
+        }
+      where
+        go : (r : ℕ) → T (bit (withoutBit (h .shared) s) r) ⊎ T (eqb (suc s) (suc r)) → (r < S .slots) × T (liveUpdate (txn t r))
+        go r (inl a) = absurd (subst T (no-shared r) a)
+        go r (inr a) = rw (own r a) (inside, update)
+
+    pub taken-others : (r : ℕ) → r ≢ s → NoMore r h (taken h s v)
+    unfolding holdsShared holdsExclusive
+    taken-others r d =
+        record { shared = λ a. absurd (subst T (no-shared r) a); exclusive = λ a. absurd (d (own r a)) }
+
+-- ---- the whole grant to the update in slot s: the lock h′ on item x
+pub locked-good :
+    (S : Sizes) (G : Tables) → Good S G → (s x : ℕ) → s < S .slots → T (liveUpdate (txn (G .txns) s)) → x < S .items → (h′ : Lock)
+    → GoodLock S (G .txns) h′ → ((r : ℕ) → r ≢ s → NoMore r (lock (G .locks) x) h′) → Good S (locked s x h′ G)
+unfolding locked cleared
+locked-good S G g s x inside update known h′ good′ others =
+    relocked-good S (withTxns G (cleared (G .txns) s)) (cleared-good S G g s inside update) s x known
+    (ap (λ (w : Txn). w .awaitedLock) (awaiting-here S (G .txns) (g .txnsExact) s noLock 0 inside)) h′
+    (lock-carried S (G .txns) (cleared (G .txns) s) h′ (λ r a u. subst T (sym (awaiting-update S (G .txns) (g .txnsExact) s noLock 0 inside r)) u) good′)
+    others

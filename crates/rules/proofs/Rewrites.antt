@@ -1,0 +1,44 @@
+-- A table of versions whose rows are all rewritten and trimmed: its size, its rows, its versions. Assumes nothing.
+use Prim.Native.Nat.{ℕ, _*_, _≤_, _<_}
+use mathlib.Core.Path.{_≡_, ap, _∙_}
+use mathlib.Core.List.{List}
+use native.Mathlib.Omega.{arith}
+use native.Mathlib.Nat.{zero-add}
+use lib.ListN.{length}
+use Rattle.names.specs.declared.Sizes.{Sizes}
+use Rattle.rules.specs.Words.{row}
+use Rattle.rules.specs.Tables.{versionRow, versionWords}
+use Rattle.rules.specs.Versions.{Version, versionsIn, versionsOf, rowOf, kept, rewritten}
+use Rattle.rules.proofs.Rows.{length-mapRows, row-mapRows}
+use Rattle.rules.proofs.Choice.{length-rowOf, versionsIn-rowOf}
+use Rattle.rules.proofs.Trim.{length-kept}
+
+module _
+    (S : Sizes) (qs : List ℕ) (f : ℕ → List Version → List Version) (v : List ℕ)
+    (room : length qs < S .places) (exact : length v ≡ versionWords S)
+  where
+    abbrev new : ℕ → List ℕ → List ℕ
+    new x r = rowOf S (kept qs (f x (versionsIn r)))
+
+    keeps : (x : ℕ) (r : List ℕ) → length r ≡ versionRow S → length (new x r) ≡ versionRow S
+    keeps x r e = length-rowOf S (kept qs (f x (versionsIn r))) (let a = length-kept qs (f x (versionsIn r)) in omega arith)
+
+    fits : versionRow S * S .items ≤ length v
+    fits = omega arith
+
+    pub length-rewritten : length (rewritten S qs f v) ≡ versionWords S
+    unfolding rewritten
+    length-rewritten = length-mapRows (versionRow S) new keeps (S .items) 0 v fits ∙ exact
+
+    pub row-rewritten :
+        (x : ℕ) → x < S .items
+        → row (versionRow S) x (rewritten S qs f v) ≡ rowOf S (kept qs (f x (versionsIn (row (versionRow S) x v))))
+    unfolding rewritten
+    row-rewritten x h =
+        row-mapRows (versionRow S) new keeps (S .items) 0 v fits x h
+        ∙ ap (λ (y : ℕ). new y (row (versionRow S) x v)) (zero-add x)
+
+    pub versions-rewritten : (x : ℕ) → x < S .items → versionsOf S (rewritten S qs f v) x ≡ kept qs (f x (versionsOf S v x))
+    unfolding versionsOf
+    versions-rewritten x h =
+        ap versionsIn (row-rewritten x h) ∙ versionsIn-rowOf S (kept qs (f x (versionsIn (row (versionRow S) x v))))
