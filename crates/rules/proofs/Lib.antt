@@ -20,3 +20,10 @@ pub mod Deadlock
 pub mod Begins
 pub mod Awaits
 pub mod Grants
+pub mod Leaves
+pub mod Steps
+pub mod Callers
+pub mod Decisions
+pub mod Answered
+pub mod Granted
+pub mod Refused

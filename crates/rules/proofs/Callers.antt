@@ -1,0 +1,159 @@
+-- The transaction that a call names, the free slot, and the caller's kind. Assumes nothing.
+use Prim.Native.Nat.{ℕ, _≤_, _<_}
+use mathlib.Core.Path.{_≡_, refl, sym, _∙_, subst}
+use mathlib.Core.Logic.{_≢_, _⊎_, inl, inr}
+use mathlib.Core.Bool.{Bool, true, false, _&&_, not}
+use mathlib.Core.List.{List}
+use native.Mathlib.Omega.{arith}
+use lib.Dec.{T, eqb, eqb→eq}
+use borrow.Author.Tests.{ne-eqb, eqb-true, eqb-false}
+use Rattle.names.specs.declared.Sizes.{Sizes}
+use Rattle.rules.specs.Tables.{Tables, txn, live, liveUpdate, liveQuery, slotOf, freeSlot, anUpdate, aQuery}
+use Rattle.rules.specs.Good.{Good}
+use Rattle.rules.specs.Answers.{Call}
+use Rattle.rules.specs.Conditions.{Names, CallerIn}
+use Rattle.rules.proofs.Tests.{and-left, and-right, and-both, true-is, not-make, not-use, eq-make, same?}
+use Rattle.rules.proofs.Counts.{first-le, first-passes, first-least}
+
+-- the transaction with the number n lives in slot s
+pub record Caller (S : Sizes) (G : Tables) (n s : ℕ) : Type 0 where
+  pub inside : s < S .slots
+  pub alive : T (live (txn (G .txns) s))
+  pub name : (txn (G .txns) s) .number ≡ n
+
+-- ---- the slot that is found under a number
+-- the test that slotOf makes
+unfoldable bears : List ℕ → ℕ → ℕ → Bool
+bears t n s = live (txn t s) && eqb ((txn t s) .number) n
+
+pub caller-in :
+    (S : Sizes) (G : Tables) (n : ℕ) → eqb (slotOf S (G .txns) n) (S .slots) ≡ false → Caller S G n (slotOf S (G .txns) n)
+unfolding slotOf bears
+caller-in S G n e =
+    record {
+      inside = i;
+      alive = and-left (live (txn (G .txns) s)) _ ok;
+      name = eqb→eq ((txn (G .txns) s) .number) n (and-right (live (txn (G .txns) s)) _ ok);
+    }
+  where
+    s : ℕ
+    s = slotOf S (G .txns) n
+
+    i : s < S .slots
+    i = let d : s ≢ S .slots = eqb-false s (S .slots) e in omega (arith, first-le (bears (G .txns) n) 0 (S .slots))
+
+    ok : T (bears (G .txns) n s)
+    ok = first-passes (bears (G .txns) n) 0 (S .slots) (let k = i in omega arith)
+
+-- the same as the caller of a call that names n
+pub caller-is :
+    (S : Sizes) (G : Tables) (c : Call) (n : ℕ) → Names c n → eqb (slotOf S (G .txns) n) (S .slots) ≡ false
+    → CallerIn c S G (slotOf S (G .txns) n)
+caller-is S G c n h e =
+    let C = caller-in S G n e in
+    record { inside = C .inside; alive = C .alive; named = subst (Names c) (sym (C .name)) h }
+
+-- whoever bears the number is not before the slot that is found
+not-before :
+    (S : Sizes) (t : List ℕ) (s n : ℕ) → s < S .slots → T (live (txn t s)) → (txn t s) .number ≡ n → slotOf S t n ≤ s
+unfolding slotOf bears
+not-before S t s n i a e =
+    first-least (bears t n) s 0 (S .slots) (omega arith) (omega arith)
+    (and-both (live (txn t s)) _ a (eq-make ((txn t s) .number) n e))
+
+pub caller-none :
+    (S : Sizes) (t : List ℕ) (n : ℕ) → eqb (slotOf S t n) (S .slots) ≡ true
+    → (s : ℕ) → s < S .slots → T (live (txn t s)) → (txn t s) .number ≢ n
+caller-none S t n e s i a q =
+    let z : slotOf S t n ≡ S .slots = eqb-true (slotOf S t n) (S .slots) e in
+    let l : slotOf S t n ≤ s = not-before S t s n i a q in
+    omega arith
+
+-- on good tables a number is borne once, so its slot is found
+pub caller-found :
+    (S : Sizes) (G : Tables) → Good S G
+    → (s n : ℕ) → s < S .slots → T (live (txn (G .txns) s)) → (txn (G .txns) s) .number ≡ n → slotOf S (G .txns) n ≡ s
+caller-found S G g s n i a e = go (same? (slotOf S (G .txns) n) s)
+  where
+    C : Caller S G n (slotOf S (G .txns) n)
+    C =
+        caller-in S G n
+        (ne-eqb (slotOf S (G .txns) n) (S .slots) (λ z. let k : slotOf S (G .txns) n ≤ s = not-before S (G .txns) s n i a e in omega arith))
+
+    go : (slotOf S (G .txns) n ≡ s) ⊎ (slotOf S (G .txns) n ≢ s) → slotOf S (G .txns) n ≡ s
+    go (inl q) = q
+    go (inr d) = absurd (g .distinct (slotOf S (G .txns) n) s (C .inside) i d a (C .name ∙ sym e))
+
+-- ---- the lowest free slot
+pub record Free (S : Sizes) (t : List ℕ) (s : ℕ) : Type 0 where
+  pub inside : s < S .slots
+  pub free : T (live (txn t s)) → ⊥
+  pub lowest : (r : ℕ) → r < s → T (live (txn t r))
+
+-- a slot that is not live is not before the one that is found
+free-before : (S : Sizes) (t : List ℕ) (r : ℕ) → r < S .slots → r < freeSlot S t → T (live (txn t r))
+unfolding freeSlot
+free-before S t r i l = go (live (txn t r)) refl
+  where
+    go : (b : Bool) → live (txn t r) ≡ b → T (live (txn t r))
+    go true e = true-is e
+    go false e =
+        let k : freeSlot S t ≤ r =
+        first-least (λ s. not (live (txn t s))) r 0 (S .slots) (omega arith) (omega arith)
+        (not-make (live (txn t r)) (λ h. subst T e h)) in
+        absurd (omega arith)
+
+pub free-found : (S : Sizes) (t : List ℕ) → eqb (freeSlot S t) (S .slots) ≡ false → Free S t (freeSlot S t)
+unfolding freeSlot
+free-found S t e =
+    record {
+      inside = i;
+      free = not-use (live (txn t (freeSlot S t))) (first-passes (λ s. not (live (txn t s))) 0 (S .slots) (let k = i in omega arith));
+      lowest = λ r l. free-before S t r (let k = i in omega arith) l;
+    }
+  where
+    i : freeSlot S t < S .slots
+    i =
+        let d : freeSlot S t ≢ S .slots = eqb-false (freeSlot S t) (S .slots) e in
+        omega (arith, first-le (λ s. not (live (txn t s))) 0 (S .slots))
+
+pub free-none :
+    (S : Sizes) (t : List ℕ) → eqb (freeSlot S t) (S .slots) ≡ true → (s : ℕ) → s < S .slots → T (live (txn t s))
+free-none S t e s i =
+    let z : freeSlot S t ≡ S .slots = eqb-true (freeSlot S t) (S .slots) e in
+    free-before S t s i (omega arith)
+
+-- ---- the kind of a live transaction
+pub is-query :
+    (t : List ℕ) (s : ℕ) → T (live (txn t s)) → eqb ((txn t s) .kind) aQuery ≡ true → T (liveQuery (txn t s))
+unfolding liveQuery
+is-query t s a e = and-both (live (txn t s)) _ a (true-is e)
+
+pub is-update :
+    (S : Sizes) (G : Tables) → Good S G
+    → (s : ℕ) → s < S .slots → T (live (txn (G .txns) s)) → eqb ((txn (G .txns) s) .kind) aQuery ≡ false
+    → T (liveUpdate (txn (G .txns) s))
+unfolding liveUpdate
+is-update S G g s i a e = and-both (live (txn (G .txns) s)) _ a (go (g .txnGood s i .kindListed))
+  where
+    go :
+        ((txn (G .txns) s) .kind ≡ anUpdate) ⊎ ((txn (G .txns) s) .kind ≡ aQuery)
+        → T (eqb ((txn (G .txns) s) .kind) anUpdate)
+    go (inl q) = eq-make ((txn (G .txns) s) .kind) anUpdate q
+    go (inr q) = absurd (eqb-false ((txn (G .txns) s) .kind) aQuery e q)
+
+-- a query is no update, and the test of the kind tells them apart
+pub query-kind : (t : List ℕ) (s : ℕ) → T (liveQuery (txn t s)) → (txn t s) .kind ≡ aQuery
+unfolding liveQuery
+query-kind t s h = eqb→eq ((txn t s) .kind) aQuery (and-right (live (txn t s)) _ h)
+
+pub update-kind : (t : List ℕ) (s : ℕ) → T (liveUpdate (txn t s)) → (txn t s) .kind ≡ anUpdate
+unfolding liveUpdate
+update-kind t s h = eqb→eq ((txn t s) .kind) anUpdate (and-right (live (txn t s)) _ h)
+
+pub query-not-update : (t : List ℕ) (s : ℕ) → T (liveQuery (txn t s)) → T (liveUpdate (txn t s)) → ⊥
+query-not-update t s q u = let k = query-kind t s q in let m = update-kind t s u in omega arith
+
+pub update-alive : (t : List ℕ) (s : ℕ) → T (liveUpdate (txn t s)) → T (live (txn t s))
+unfolding liveUpdate
+update-alive t s h = and-left (live (txn t s)) _ h

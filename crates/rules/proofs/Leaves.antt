@@ -1,0 +1,223 @@
+-- A transaction that leaves: its locks go, then its row, and good tables stay good. Assumes nothing.
+use Prim.Native.Nat.{ℕ, suc, _+_, _≤_, _<_}
+use mathlib.Core.Path.{_≡_, refl, sym, ap, _∙_, subst}
+use mathlib.Core.Logic.{_≢_, _⊎_, inl, inr}
+use mathlib.Core.Bool.{Bool, true, false, cond, _||_}
+use mathlib.Core.List.{List}
+use native.Mathlib.Omega.{arith}
+use lib.ListN.{length}
+use lib.Dec.{T, eqb, eqb→eq, eqb·zero-suc}
+use Rattle.names.specs.declared.Sizes.{Sizes}
+use Rattle.names.specs.Sizes.{lastWord}
+use Rattle.rules.specs.Words.{bit, withoutBit, row}
+use Rattle.rules.specs.Tables.{Tables, tables, txnWords, versionWords, versionRow, lastNumber, clock, Txn, txn, setTxn, noTxn, live}
+use Rattle.rules.specs.Tables.{liveUpdate, noLock, Lock, lock, holdsShared, holdsExclusive, holds, released, release}
+use Rattle.rules.specs.Waits.{waitsFor}
+use Rattle.rules.specs.Good.{Good, GoodTxn, GoodLock, GoodVersions}
+use Rattle.rules.proofs.Tests.{or-cases, or-left, or-right, same?, false-is}
+use Rattle.rules.proofs.Bits.{withoutBit-here, withoutBit-there, bit-none, no-bits}
+use Rattle.rules.proofs.Views.{length-setTxn, lastNumber-setTxn, clock-setTxn, txn-setTxn, txn-setTxn-other, lock-release, length-release}
+use Rattle.rules.proofs.EqualRows.{live-number}
+use Rattle.rules.proofs.Carried.{NoMore, no-more-same, no-more-holds, txn-carried, lock-carried}
+use Rattle.rules.proofs.Walks.{waits-for→, →waits-for, waiter-within}
+use Rattle.rules.proofs.Deadlock.{fewer-no-circle}
+use Rattle.rules.proofs.Grants.{conflicts-fewer}
+
+-- ---- one lock without the slot s
+module _ (s : ℕ) (h : Lock) where
+  -- of a slot that does not hold it exclusively nothing but the bit goes
+  released-kept : holdsExclusive h s ≡ false → released s h ≡ record { shared = withoutBit (h .shared) s; exclusive = h .exclusive; working = h .working }
+  unfolding released
+  released-kept e = rw e
+
+  released-gone : holdsExclusive h s ≡ true → released s h ≡ record { shared = withoutBit (h .shared) s; exclusive = 0; working = 0 }
+  unfolding released
+  released-gone e = rw e
+
+  released-shared : (released s h) .shared ≡ withoutBit (h .shared) s
+  released-shared = go (holdsExclusive h s) refl
+    where
+      go : (b : Bool) → holdsExclusive h s ≡ b → (released s h) .shared ≡ withoutBit (h .shared) s
+      go true e = ap (λ (o : Lock). o .shared) (released-gone e)
+      go false e = ap (λ (o : Lock). o .shared) (released-kept e)
+
+  released-exclusive : (r : ℕ) → T (holdsExclusive (released s h) r) → T (holdsExclusive h r) × (holdsExclusive h s ≡ false)
+  unfolding holdsExclusive
+  released-exclusive r c = go (holdsExclusive h s) refl
+    where
+      go : (b : Bool) → holdsExclusive h s ≡ b → T (eqb (h .exclusive) (suc r)) × (holdsExclusive h s ≡ false)
+      go true e = absurd (false-is (eqb·zero-suc r) (subst (λ (o : Lock). T (eqb (o .exclusive) (suc r))) (released-gone e) c))
+      go false e = (subst (λ (o : Lock). T (eqb (o .exclusive) (suc r))) (released-kept e) c, e)
+
+  pub released-none : T (holds (released s h) s) → ⊥
+  unfolding holds holdsShared
+  released-none a = go (or-cases (bit ((released s h) .shared) s) _ a)
+    where
+      go : T (bit ((released s h) .shared) s) ⊎ T (holdsExclusive (released s h) s) → ⊥
+      go (inl c) = subst T (ap (λ (w : ℕ). bit w s) released-shared ∙ withoutBit-here (h .shared) s) c
+      go (inr c) = let e = released-exclusive s c in false-is (e .1) (e .0)
+
+  pub released-fewer : (r : ℕ) → NoMore r h (released s h)
+  unfolding holdsShared holds
+  released-fewer r = record { shared = shared (same? r s); exclusive = λ c. released-exclusive r c .0 }
+    where
+      shared : (r ≡ s) ⊎ (r ≢ s) → T (bit ((released s h) .shared) r) → T (bit (h .shared) r)
+      shared (inl e) c = absurd (released-none (subst (λ (m : ℕ). T (holds (released s h) m)) e (or-left (bit ((released s h) .shared) r) _ c)))
+      shared (inr d) c = subst T (withoutBit-there (h .shared) s r d) (subst (λ (w : ℕ). T (bit w r)) released-shared c)
+
+  pub released-lock : (S : Sizes) (t : List ℕ) → GoodLock S t h → GoodLock S t (released s h)
+  released-lock S t g =
+      record {
+        holders = λ r a. g .holders r (no-more-holds r h (released s h) (released-fewer r) a);
+        neverBoth = both (holdsExclusive h s) refl (g .neverBoth);
+        noWorking = working (holdsExclusive h s) refl;
+      }
+    where
+      both : (b : Bool) → holdsExclusive h s ≡ b → (h .shared ≡ 0) ⊎ (h .exclusive ≡ 0) → ((released s h) .shared ≡ 0) ⊎ ((released s h) .exclusive ≡ 0)
+      both true e o = inr (ap (λ (o : Lock). o .exclusive) (released-gone e))
+      both false e (inr z) = inr (ap (λ (o : Lock). o .exclusive) (released-kept e) ∙ z)
+      both false e (inl z) = inl (released-shared ∙ no-bits (withoutBit (h .shared) s) (λ r. none r (same? r s)))
+        where
+          none : (r : ℕ) → (r ≡ s) ⊎ (r ≢ s) → bit (withoutBit (h .shared) s) r ≡ false
+          none r (inl q) = rw q (withoutBit-here (h .shared) s)
+          none r (inr d) = withoutBit-there (h .shared) s r d ∙ ap (λ (w : ℕ). bit w r) z ∙ bit-none r
+
+      working : (b : Bool) → holdsExclusive h s ≡ b → (released s h) .exclusive ≡ 0 → (released s h) .working ≡ 0
+      working true e z = ap (λ (o : Lock). o .working) (released-gone e)
+      working false e z = ap (λ (o : Lock). o .working) (released-kept e) ∙ g .noWorking (sym (ap (λ (o : Lock). o .exclusive) (released-kept e)) ∙ z)
+
+-- ---- all locks of the slot s go
+module _ (S : Sizes) (G : Tables) (g : Good S G) (s : ℕ) where
+  abbrev t : List ℕ
+  t = G .txns
+
+  abbrev l : List ℕ
+  l = G .locks
+
+  abbrev l′ : List ℕ
+  l′ = release S s l
+
+  freed : (x : ℕ) → x < S .items → lock l′ x ≡ released s (lock l x)
+  freed x i = lock-release S s l (g .locksExact) x i
+
+  fewer : (r x : ℕ) → x < S .items → NoMore r (lock l x) (lock l′ x)
+  fewer r x i = subst (λ (o : Lock). NoMore r (lock l x) o) (sym (freed x i)) (released-fewer s (lock l x) r)
+
+  waiter : (a : ℕ) → (txn t a) .awaitedLock ≢ noLock → (txn t a) .awaitedItem < S .items
+  waiter a d =
+      g .txnGood a (waiter-within S t l (g .txnsExact) (λ r i. g .txnGood r i .itemKnown) (λ x i b h. g .lockGood x i .holders b h .0) a d) .itemKnown d
+
+  links : (a b : ℕ) → T (waitsFor t l′ a b) → T (waitsFor t l a b)
+  links a b h =
+      let w = waits-for→ t l′ a b h in
+      →waits-for t l a b (w .0) (w .1) (conflicts-fewer ((txn t a) .awaitedLock) b _ _ (fewer b ((txn t a) .awaitedItem) (waiter a (w .0))) (w .2))
+
+  pub released-good : Good S (tables (G .txns) (release S s (G .locks)) (G .versions))
+  released-good =
+      record {
+        txnsExact = g .txnsExact;
+        locksExact = length-release S s l (g .locksExact);
+        versionsExact = g .versionsExact;
+        lastMost = g .lastMost;
+        clockMost = g .clockMost;
+        txnGood = λ r i. txn-carried S t t l l′ r (txn t r) (omega arith) (omega arith) (λ d. fewer r _ (g .txnGood r i .itemKnown d)) (g .txnGood r i);
+        distinct = g .distinct;
+        lockGood = λ x i. subst (λ (o : Lock). GoodLock S t o) (sym (freed x i)) (released-lock s (lock l x) S t (g .lockGood x i));
+        versionsGood = g .versionsGood;
+        noCircle = fewer-no-circle S G g t l′ links;
+      }
+
+  pub released-holds : (x : ℕ) → x < S .items → T (holds (lock (release S s (G .locks)) x) s) → ⊥
+  released-holds x i a = released-none s (lock l x) (subst (λ (o : Lock). T (holds o s)) (freed x i) a)
+
+-- ---- the row of slot s, which holds nothing, goes; u has the rows of before, and its clock may be later; the versions are others
+module _
+    (S : Sizes) (G : Tables) (g : Good S G) (s : ℕ) (inside : s < S .slots)
+    (empty : (x : ℕ) → x < S .items → T (holds (lock (G .locks) x) s) → ⊥)
+    (u : List ℕ) (size : length u ≡ txnWords S) (same : (r : ℕ) → txn u r ≡ txn (G .txns) r) (last : lastNumber u ≡ lastNumber (G .txns))
+    (later : clock (G .txns) ≤ clock u) (most : clock u ≤ lastWord)
+    (v′ : List ℕ) (vsize : length v′ ≡ versionWords S)
+    (rows′ : (x : ℕ) → x < S .items → GoodVersions S (setTxn u s noTxn) (row (versionRow S) x v′))
+  where
+    abbrev t₀ : List ℕ
+    t₀ = G .txns
+
+    abbrev t′ : List ℕ
+    t′ = setTxn u s noTxn
+
+    here : txn t′ s ≡ noTxn
+    here = txn-setTxn u s noTxn S size inside
+
+    there : (r : ℕ) → r ≢ s → txn t′ r ≡ txn t₀ r
+    there r d = txn-setTxn-other u s noTxn r d ∙ same r
+
+    not-here : (r : ℕ) → T (live (txn t′ r)) → r ≢ s
+    not-here r h e = live-number (txn t′ r) h (ap (λ (m : ℕ). (txn t′ m) .number) e ∙ ap (λ (w : Txn). w .number) here)
+
+    last′ : lastNumber t′ ≡ lastNumber t₀
+    last′ = lastNumber-setTxn u s noTxn ∙ last
+
+    clock′ : clock t′ ≡ clock u
+    clock′ = clock-setTxn u s noTxn
+
+    gone-row : GoodTxn S t′ (G .locks) s noTxn
+    unfolding Rattle.rules.specs.Tables.liveQuery liveUpdate live
+    gone-row =
+        record {
+          free = λ e. refl;
+          given = omega arith;
+          kindListed = inl refl;
+          lockListed = omega arith;
+          updateStart = λ h. refl;
+          queryStart = λ h. absurd h;
+          queryIdle = λ h. refl;
+          itemKnown = λ d. absurd (d refl);
+          itemUnused = λ e. refl;
+          awaitsShared = λ e. absurd (omega arith);
+          awaitsExclusive = λ e. absurd (omega arith);
+        }
+
+    rows : (r : ℕ) → r < S .slots → GoodTxn S t′ (G .locks) r (txn t′ r)
+    rows r i = go (same? r s)
+      where
+        go : (r ≡ s) ⊎ (r ≢ s) → GoodTxn S t′ (G .locks) r (txn t′ r)
+        go (inl e) = subst (λ (m : ℕ). GoodTxn S t′ (G .locks) m (txn t′ m)) (sym e) (subst (λ (w : Txn). GoodTxn S t′ (G .locks) s w) (sym here) gone-row)
+        go (inr d) =
+            subst (λ (w : Txn). GoodTxn S t′ (G .locks) r w) (sym (there r d))
+            (txn-carried S t₀ t′ (G .locks) (G .locks) r (txn t₀ r) (let a = last′ in omega arith) (let a = clock′ in omega arith) (λ w. no-more-same r refl) (g .txnGood r i))
+
+    apart : (a b : ℕ) → a < S .slots → b < S .slots → a ≢ b → T (live (txn t′ b)) → (txn t′ a) .number ≢ (txn t′ b) .number
+    apart a b i j d h = go (same? a s)
+      where
+        b-there : txn t′ b ≡ txn t₀ b
+        b-there = there b (not-here b h)
+
+        go : (a ≡ s) ⊎ (a ≢ s) → (txn t′ a) .number ≢ (txn t′ b) .number
+        go (inl e) = λ z. live-number (txn t′ b) h (sym z ∙ ap (λ (m : ℕ). (txn t′ m) .number) e ∙ ap (λ (w : Txn). w .number) here)
+        go (inr e) = λ z.
+            g .distinct a b i j d (subst (λ (w : Txn). T (live w)) b-there h)
+            (ap (λ (w : Txn). w .number) (sym (there a e)) ∙ z ∙ ap (λ (w : Txn). w .number) b-there)
+
+    links′ : (a b : ℕ) → T (waitsFor t′ (G .locks) a b) → T (waitsFor t₀ (G .locks) a b)
+    unfolding waitsFor
+    links′ a b h = go (same? a s)
+      where
+        go : (a ≡ s) ⊎ (a ≢ s) → T (waitsFor t₀ (G .locks) a b)
+        go (inl e) = absurd (waits-for→ t′ (G .locks) a b h .0 (ap (λ (m : ℕ). (txn t′ m) .awaitedLock) e ∙ ap (λ (w : Txn). w .awaitedLock) here))
+        go (inr d) = rw (there a d) at h
+
+    pub left-good : Good S (tables (setTxn u s noTxn) (G .locks) v′)
+    left-good =
+        record {
+          txnsExact = length-setTxn u s noTxn ∙ size;
+          locksExact = g .locksExact;
+          versionsExact = vsize;
+          lastMost = let a = last′ in let b = g .lastMost in omega arith;
+          clockMost = let a = clock′ in omega arith;
+          txnGood = rows;
+          distinct = apart;
+          lockGood = λ x i. lock-carried S t₀ t′ (lock (G .locks) x)
+              (λ r h q. subst (λ (w : Txn). T (liveUpdate w)) (sym (there r (λ e. empty x i (subst (λ (m : ℕ). T (holds (lock (G .locks) x) m)) e h)))) q) (g .lockGood x i);
+          versionsGood = rows′;
+          noCircle = fewer-no-circle S G g t′ (G .locks) links′;
+        }

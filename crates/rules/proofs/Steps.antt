@@ -1,0 +1,27 @@
+-- What `step` answers on good tables and on bad ones, and that no second outcome fits. Assumes nothing.
+use mathlib.Core.Path.{_≡_, refl}
+use mathlib.Core.Bool.{Bool, true, false, cond}
+use Rattle.names.specs.declared.Sizes.{Sizes}
+use Rattle.rules.specs.Tables.{Tables}
+use Rattle.rules.specs.Tested.{good}
+use Rattle.rules.specs.Answers.{Call, Outcome, refuses, badTables}
+use Rattle.rules.specs.Step.{act, step}
+
+pub step-good : (S : Sizes) (c : Call) (G : Tables) → good S G ≡ true → step S c G ≡ act S c G
+unfolding step
+step-good S c G e = rw e
+
+pub step-bad : (S : Sizes) (c : Call) (G : Tables) → good S G ≡ false → step S c G ≡ refuses badTables G
+unfolding step
+step-bad S c G e = rw e
+
+-- "no second outcome fits": there is one outcome that is `step`'s, and whatever else is `step`'s is that one
+pub one-outcome :
+    (S : Sizes) (c : Call) (G : Tables) → (o : Outcome) × (o ≡ step S c G) × ((p : Outcome) → p ≡ step S c G → p ≡ o)
+one-outcome S c G = (step S c G, refl, λ p e. e)
+
+-- a test in a call: what both ways have, the outcome has. One line for each branch of nested tests
+pub cond-case :
+    (P : Outcome → Type 0) (z : Bool) (o o′ : Outcome) → (z ≡ true → P o) → (z ≡ false → P o′) → P (cond z o o′)
+cond-case P true o o′ f h = f refl
+cond-case P false o o′ f h = h refl
