@@ -17,6 +17,24 @@ use Rattle.rules.specs.Good.{GoodTxn, GoodLock, GoodVersions}
 use Rattle.rules.proofs.Tests.{same?, or-cases, or-left, or-right}
 use Rattle.rules.proofs.EqualRows.{live-number, update-live, query-live}
 
+-- a free row is a good one, whatever stands in the tables
+pub free-row : (S : Sizes) (t l : List ℕ) (s : ℕ) → GoodTxn S t l s noTxn
+unfolding liveQuery liveUpdate live
+free-row S t l s =
+    record {
+      free = λ e. refl;
+      given = omega arith;
+      kindListed = inl refl;
+      lockListed = omega arith;
+      updateStart = λ h. refl;
+      queryStart = λ h. absurd h;
+      queryIdle = λ h. refl;
+      itemKnown = λ d. absurd (d refl);
+      itemUnused = λ e. refl;
+      awaitsShared = λ e. absurd (omega arith);
+      awaitsExclusive = λ e. absurd (omega arith);
+    }
+
 -- slot s holds no more of the lock h′ than of the lock h
 pub record NoMore (s : ℕ) (h h′ : Lock) : Type 0 where
   pub shared : T (holdsShared h′ s) → T (holdsShared h s)

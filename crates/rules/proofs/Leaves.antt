@@ -18,7 +18,7 @@ use Rattle.rules.proofs.Tests.{or-cases, or-left, or-right, same?, fals
 use Rattle.rules.proofs.Bits.{withoutBit-here, withoutBit-there, bit-none, no-bits}
 use Rattle.rules.proofs.Views.{length-setTxn, lastNumber-setTxn, clock-setTxn, txn-setTxn, txn-setTxn-other, lock-release, length-release}
 use Rattle.rules.proofs.EqualRows.{live-number}
-use Rattle.rules.proofs.Carried.{NoMore, no-more-same, no-more-holds, txn-carried, lock-carried}
+use Rattle.rules.proofs.Carried.{free-row, NoMore, no-more-same, no-more-holds, txn-carried, lock-carried}
 use Rattle.rules.proofs.Walks.{waits-for→, →waits-for, waiter-within}
 use Rattle.rules.proofs.Deadlock.{fewer-no-circle}
 use Rattle.rules.proofs.Grants.{conflicts-fewer}
@@ -160,28 +160,11 @@ module _
     clock′ : clock t′ ≡ clock u
     clock′ = clock-setTxn u s noTxn
 
-    gone-row : GoodTxn S t′ (G .locks) s noTxn
-    unfolding Rattle.rules.specs.Tables.liveQuery liveUpdate live
-    gone-row =
-        record {
-          free = λ e. refl;
-          given = omega arith;
-          kindListed = inl refl;
-          lockListed = omega arith;
-          updateStart = λ h. refl;
-          queryStart = λ h. absurd h;
-          queryIdle = λ h. refl;
-          itemKnown = λ d. absurd (d refl);
-          itemUnused = λ e. refl;
-          awaitsShared = λ e. absurd (omega arith);
-          awaitsExclusive = λ e. absurd (omega arith);
-        }
-
     rows : (r : ℕ) → r < S .slots → GoodTxn S t′ (G .locks) r (txn t′ r)
     rows r i = go (same? r s)
       where
         go : (r ≡ s) ⊎ (r ≢ s) → GoodTxn S t′ (G .locks) r (txn t′ r)
-        go (inl e) = subst (λ (m : ℕ). GoodTxn S t′ (G .locks) m (txn t′ m)) (sym e) (subst (λ (w : Txn). GoodTxn S t′ (G .locks) s w) (sym here) gone-row)
+        go (inl e) = subst (λ (m : ℕ). GoodTxn S t′ (G .locks) m (txn t′ m)) (sym e) (subst (λ (w : Txn). GoodTxn S t′ (G .locks) s w) (sym here) (free-row S t′ (G .locks) s))
         go (inr d) =
             subst (λ (w : Txn). GoodTxn S t′ (G .locks) r w) (sym (there r d))
             (txn-carried S t₀ t′ (G .locks) (G .locks) r (txn t₀ r) (let a = last′ in omega arith) (let a = clock′ in omega arith) (λ w. no-more-same r refl) (g .txnGood r i))

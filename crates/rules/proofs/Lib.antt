@@ -21,9 +21,12 @@ pub mod Begins
 pub mod Awaits
 pub mod Grants
 pub mod Leaves
+pub mod Ends
 pub mod Steps
 pub mod Callers
 pub mod Decisions
 pub mod Answered
 pub mod Granted
 pub mod Refused
+pub mod Keeps
+pub mod Fresh

@@ -1,0 +1,215 @@
+-- Abort, a query's end and an update's commit leave good tables. Assumes nothing.
+use Prim.Native.Nat.{ℕ, zero, suc, _+_, _-_, _≤_, _<_}
+use mathlib.Core.Path.{_≡_, refl, sym, ap, _∙_, subst}
+use mathlib.Core.Logic.{_≢_, _⊎_, inl, inr}
+use mathlib.Core.Bool.{Bool, true, false, cond}
+use mathlib.Core.List.{List, [], _∷_, List·Memᴰ}
+use native.Mathlib.Omega.{arith}
+use lib.ListN.{length, getD, set, length-set}
+use lib.Seq.{getD-set-same, getD-set-other}
+use lib.Dec.{T, leb, ltb, le→leb, lt→ltb}
+use Rattle.names.specs.declared.Sizes.{Sizes}
+use Rattle.names.specs.Sizes.{lastWord}
+use Rattle.rules.specs.Words.{row}
+use Rattle.rules.specs.Tables.{Tables, tables, txnWords, versionWords, versionRow, lastNumber, clock, Txn, txn, setTxn, noTxn, live}
+use Rattle.rules.specs.Tables.{liveUpdate, liveQuery, starts, lock, holds, holdsExclusive, release}
+use Rattle.rules.specs.Versions.{Version, versionsIn, stampAt, rowOf, kept, rewritten}
+use Rattle.rules.specs.Good.{Good, GoodVersions}
+use Rattle.rules.specs.Tested.{falls, lastOld, versionsGood}
+use Rattle.rules.specs.Step.{committed, ended, aborted, withNew}
+use Rattle.rules.proofs.Tests.{and-both, same?, is-false}
+use Rattle.rules.proofs.Counts.{mem-every}
+use Rattle.rules.proofs.Views.{txn-setTxn, txn-setTxn-other, clock-setTxn, txn-top}
+use Rattle.rules.proofs.Choice.{length-versionsIn, Falls, Falls→falls}
+use Rattle.rules.proofs.Trim.{rowOf-good}
+use Rattle.rules.proofs.Starts.{in-start, starts-lt}
+use Rattle.rules.proofs.Rewrites.{length-rewritten, row-rewritten}
+use Rattle.rules.proofs.EqualVersions.{versions→Good}
+use Rattle.rules.proofs.EqualRows.{live-number, update-live, query-live}
+use Rattle.rules.proofs.Carried.{versions-carried}
+use Rattle.rules.proofs.Leaves.{released-good, released-holds, left-good}
+
+-- ---- the rows afterwards: that of slot s is free, the others are as they were
+module _ (S : Sizes) (t u : List ℕ) (s : ℕ) (inside : s < S .slots) (size : length u ≡ txnWords S) (same : (r : ℕ) → txn u r ≡ txn t r) where
+  abbrev t′ : List ℕ
+  t′ = setTxn u s noTxn
+
+  pub gone-here : txn t′ s ≡ noTxn
+  gone-here = txn-setTxn u s noTxn S size inside
+
+  pub gone-there : (r : ℕ) → r ≢ s → txn t′ r ≡ txn t r
+  gone-there r d = txn-setTxn-other u s noTxn r d ∙ same r
+
+  pub gone-query : liveQuery (txn t′ s) ≡ false
+  unfolding liveQuery live
+  gone-query = rw gone-here
+
+  -- a query that lives afterwards lived before
+  pub gone-lives : (r : ℕ) → T (liveQuery (txn t′ r)) → txn t′ r ≡ txn t r
+  gone-lives r h = go (same? r s)
+    where
+      go : (r ≡ s) ⊎ (r ≢ s) → txn t′ r ≡ txn t r
+      go (inl e) = absurd (subst T (ap (λ (m : ℕ). liveQuery (txn t′ m)) e ∙ gone-query) h)
+      go (inr d) = gone-there r d
+
+  -- at most one query less than there are slots is left
+  pub gone-room : length (starts S t′) < S .slots
+  gone-room = starts-lt S t′ s inside gone-query
+
+-- ---- a table of versions rewritten for the queries that are left
+module _
+    (S : Sizes) (enough : S .slots ≤ S .places) (G : Tables) (g : Good S G) (s : ℕ) (inside : s < S .slots)
+    (u : List ℕ) (size : length u ≡ txnWords S) (same : (r : ℕ) → txn u r ≡ txn (G .txns) r) (later : clock (G .txns) ≤ clock u)
+  where
+    abbrev w : List ℕ
+    w = setTxn u s noTxn
+
+    abbrev qs : List ℕ
+    qs = starts S w
+
+    room : length qs < S .places
+    room = let a = gone-room S (G .txns) u s inside size same in omega arith
+
+    clock-is : clock w ≡ clock u
+    clock-is = clock-setTxn u s noTxn
+
+    -- what a row asks, of the versions vs that are to be trimmed
+    pub record Ready (vs : List Version) : Type 0 where
+      pub some : 0 < length vs
+      pub fall : Falls vs
+      pub first : stampAt vs 0 ≤ clock u
+      pub last : (q : ℕ) → List·Memᴰ q qs → stampAt vs (length vs - 1) ≤ q
+
+    -- the versions of a good row are ready, since the queries that are left lived before
+    pub old-ready : (r : List ℕ) → GoodVersions S (G .txns) r → Ready (versionsIn r)
+    unfolding Falls
+    old-ready r h =
+        record {
+          some = let a = length-versionsIn r in let b = h .countLeast in omega arith;
+          fall = h .fall;
+          first = let a = h .first in omega arith;
+          last = λ q m.
+              let i = in-start S w q m in
+              let e = gone-lives S (G .txns) u s inside size same (i .0) (i .2) in
+              subst (λ (k : ℕ). stampAt (versionsIn r) (length (versionsIn r) - 1) ≤ k)
+              (ap (λ (a : Txn). a .start) (sym e) ∙ i .3)
+              (h .last (i .0) (i .1) (subst (λ (a : Txn). T (liveQuery a)) e (i .2)));
+        }
+
+    trimmed : (vs : List Version) → Ready vs → T (versionsGood S (clock w) qs (rowOf S (kept qs vs)))
+    unfolding stampAt lastOld
+    trimmed [] h = absurd (let a = h .some in omega arith)
+    trimmed (v ∷ vs) h =
+        rowOf-good S (clock w) qs v vs (Falls→falls (v ∷ vs) (h .fall)) (let a = h .first in let b = clock-is in omega arith)
+        (mem-every (λ q. leb (stampAt (v ∷ vs) (length (v ∷ vs) - 1)) q) qs (λ q m. le→leb (stampAt (v ∷ vs) (length (v ∷ vs) - 1)) q (h .last q m)))
+        room
+
+    module _ (f : ℕ → List Version → List Version) (ready : (x : ℕ) → x < S .items → Ready (f x (versionsIn (row (versionRow S) x (G .versions))))) where
+      pub rewritten-size : length (rewritten S qs f (G .versions)) ≡ versionWords S
+      rewritten-size = length-rewritten S qs f (G .versions) room (g .versionsExact)
+
+      pub rewritten-good : (x : ℕ) → x < S .items → GoodVersions S w (row (versionRow S) x (rewritten S qs f (G .versions)))
+      rewritten-good x i =
+          subst (λ (r : List ℕ). GoodVersions S w r) (sym (row-rewritten S qs f (G .versions) room (g .versionsExact) x i))
+          (versions→Good S w _ (trimmed (f x (versionsIn (row (versionRow S) x (G .versions)))) (ready x i)))
+
+-- ---- "A query only ends."
+module _ (S : Sizes) (enough : S .slots ≤ S .places) (G : Tables) (g : Good S G) (s : ℕ) (inside : s < S .slots) where
+  pub ended-good : T (liveQuery (txn (G .txns) s)) → Good S (ended S s G)
+  unfolding ended
+  ended-good query =
+      left-good S G g s inside holds-nothing (G .txns) (g .txnsExact) (λ r. refl) refl (omega arith) (g .clockMost)
+      (rewritten S (starts S (setTxn (G .txns) s noTxn)) (λ x vs. vs) (G .versions))
+      (rewritten-size S enough G g s inside (G .txns) (g .txnsExact) (λ r. refl) (omega arith) (λ x vs. vs) ready)
+      (rewritten-good S enough G g s inside (G .txns) (g .txnsExact) (λ r. refl) (omega arith) (λ x vs. vs) ready)
+    where
+      holds-nothing : (x : ℕ) → x < S .items → T (holds (lock (G .locks) x) s) → ⊥
+      holds-nothing x i h =
+          let a = update-live (txn (G .txns) s) (g .lockGood x i .holders s h .1) .1 in
+          let b = query-live (txn (G .txns) s) query .1 in
+          absurd (omega arith)
+
+      ready : (x : ℕ) → x < S .items → Ready S enough G g s inside (G .txns) (g .txnsExact) (λ r. refl) (omega arith) (versionsIn (row (versionRow S) x (G .versions)))
+      ready x i = old-ready S enough G g s inside (G .txns) (g .txnsExact) (λ r. refl) (omega arith) (row (versionRow S) x (G .versions)) (g .versionsGood x i)
+
+  -- ---- "Abort removes locks, working values and the row"
+  -- a query is not the update that leaves
+  stays : T (liveUpdate (txn (G .txns) s)) → (r : ℕ) → T (liveQuery (txn (G .txns) r)) → r ≢ s
+  stays update r h e =
+      let a = query-live (txn (G .txns) r) h .1 in
+      let b = update-live (txn (G .txns) s) update .1 in
+      let c : (txn (G .txns) r) .kind ≡ (txn (G .txns) s) .kind = ap (λ (m : ℕ). (txn (G .txns) m) .kind) e in
+      absurd (omega arith)
+
+  pub aborted-good : T (liveUpdate (txn (G .txns) s)) → Good S (aborted S s G)
+  unfolding aborted
+  aborted-good update =
+      left-good S (tables (G .txns) (release S s (G .locks)) (G .versions)) (released-good S G g s) s inside (released-holds S G g s)
+      (G .txns) (g .txnsExact) (λ r. refl) refl (omega arith) (g .clockMost) (G .versions) (g .versionsExact)
+      (λ x i. versions-carried S (G .txns) t₁ _ (let a = clock-setTxn (G .txns) s noTxn in omega arith)
+      (λ r j h. gone-there S (G .txns) (G .txns) s inside (g .txnsExact) (λ r. refl) r (stays update r h))
+      (λ r j h. inl (gone-lives S (G .txns) (G .txns) s inside (g .txnsExact) (λ r. refl) r h)) (g .versionsGood x i))
+    where
+      t₁ : List ℕ
+      t₁ = setTxn (G .txns) s noTxn
+
+  -- ---- "An update takes clock plus 1"
+  module _ (update : T (liveUpdate (txn (G .txns) s))) (unspent : clock (G .txns) ≢ lastWord) where
+    abbrev c : ℕ
+    c = clock (G .txns) + 1
+
+    abbrev u : List ℕ
+    u = set (G .txns) 1 c
+
+    u-size : length u ≡ txnWords S
+    u-size = length-set (G .txns) 1 c ∙ g .txnsExact
+
+    u-rows : (r : ℕ) → txn u r ≡ txn (G .txns) r
+    u-rows r = txn-top (G .txns) 1 c r (omega arith)
+
+    u-clock : clock u ≡ c
+    u-clock = getD-set-same (G .txns) 1 c 0 (omega (arith, g .txnsExact))
+
+    u-later : clock (G .txns) ≤ clock u
+    u-later = let a = u-clock in omega arith
+
+    abbrev R : List Version → Type 0
+    R vs = Ready S enough G g s inside u u-size u-rows u-later vs
+
+    -- a new pair in front of a good row: its stamp is above the clock of before
+    new-ready : (value : ℕ) (r : List ℕ) → GoodVersions S (G .txns) r → R (record { stamp = c; value = value } ∷ versionsIn r)
+    unfolding Falls stampAt
+    new-ready value r h = go (versionsIn r) (old-ready S enough G g s inside u u-size u-rows u-later r h) (h .first)
+      where
+        go : (vs : List Version) → R vs → stampAt vs 0 ≤ clock (G .txns) → R (record { stamp = c; value = value } ∷ vs)
+        go [] o b = absurd (let a = o .some in omega arith)
+        go (v ∷ vs) o b =
+            record {
+              some = omega arith;
+              fall = fall;
+              first = let a = u-clock in omega arith;
+              last = λ q m. subst (λ (k : ℕ). stampAt (record { stamp = c; value = value } ∷ v ∷ vs) k ≤ q) (let e : suc (length (v ∷ vs) - 1) ≡ length (record { stamp = c; value = value } ∷ v ∷ vs) - 1 = omega arith in e) (o .last q m);
+            }
+          where
+            fall : (i j : ℕ) → i < j → j < length (record { stamp = c; value = value } ∷ v ∷ vs) → stampAt (record { stamp = c; value = value } ∷ v ∷ vs) j < stampAt (record { stamp = c; value = value } ∷ v ∷ vs) i
+            fall zero zero l k = absurd (omega arith)
+            fall (suc i) zero l k = absurd (omega arith)
+            fall zero (suc zero) l k = omega arith
+            fall zero (suc (suc j)) l k = let a = o .fall 0 (suc j) (omega arith) (omega arith) in omega arith
+            fall (suc i) (suc j) l k = o .fall i j (omega arith) (omega arith)
+
+    pub committed-good : Good S (committed S s G)
+    unfolding committed withNew
+    committed-good =
+        left-good S (tables (G .txns) (release S s (G .locks)) (G .versions)) (released-good S G g s) s inside (released-holds S G g s)
+        u u-size u-rows (getD-set-other (G .txns) 1 0 c 0 (omega arith)) u-later (let a = u-clock in let b = g .clockMost in omega arith)
+        (rewritten S (starts S (setTxn u s noTxn)) (withNew (G .locks) s c) (G .versions))
+        (rewritten-size S enough G g s inside u u-size u-rows u-later (withNew (G .locks) s c) ready)
+        (rewritten-good S enough G g s inside u u-size u-rows u-later (withNew (G .locks) s c) ready)
+      where
+        pick : (b : Bool) (x : ℕ) → x < S .items → R (cond b (record { stamp = c; value = (lock (G .locks) x) .working } ∷ versionsIn (row (versionRow S) x (G .versions))) (versionsIn (row (versionRow S) x (G .versions))))
+        pick true x i = new-ready ((lock (G .locks) x) .working) (row (versionRow S) x (G .versions)) (g .versionsGood x i)
+        pick false x i = old-ready S enough G g s inside u u-size u-rows u-later (row (versionRow S) x (G .versions)) (g .versionsGood x i)
+
+        ready : (x : ℕ) → x < S .items → R (withNew (G .locks) s c x (versionsIn (row (versionRow S) x (G .versions))))
+        ready x i = pick (holdsExclusive (lock (G .locks) x) s) x i

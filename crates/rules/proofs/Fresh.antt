@@ -1,0 +1,135 @@
+-- Fresh tables are good. Assumes nothing.
+use Prim.Native.Nat.{ℕ, zero, suc, _+_, _-_, _*_, _≤_, _<_}
+use mathlib.Core.Path.{_≡_, refl, sym, ap, _∙_, subst}
+use mathlib.Core.Logic.{_≢_, _⊎_, inl, inr, _↔_}
+use mathlib.Core.Bool.{Bool, true, false, _||_}
+use mathlib.Core.List.{List, [], _∷_}
+use native.Mathlib.Omega.{arith}
+use native.Mathlib.Nat.{zero-add, not-suc-le-zero}
+use lib.ListN.{length, getD, take, drop, replicate, length-replicate, length-drop, length-take, List·getD-eq-default}
+use lib.Seq.{getD-drop, getD-take}
+use lib.Dec.{T, eqb, ltb, eqb·zero-suc}
+use borrow.Author.Tests.{ltb-true, ltb-false}
+use Rattle.names.specs.declared.Sizes.{Sizes}
+use Rattle.rules.specs.Words.{row, bit}
+use Rattle.rules.specs.Tables.{Tables, txnAt, txnWords, lockWords, lockRow, versionWords, versionRow, Txn, txn, noTxn, live, liveUpdate, liveQuery}
+use Rattle.rules.specs.Tables.{Lock, lock, holds, holdsShared, holdsExclusive, fresh}
+use Rattle.rules.specs.Versions.{Version, versionsIn, pairs, stampAt, place, noVersion}
+use Rattle.rules.specs.Waits.{waitsFor, Walk, one, more}
+use Rattle.rules.specs.Good.{Good, GoodTxn, GoodLock, GoodVersions}
+use Rattle.rules.proofs.Tests.{or-cases, false-is}
+use Rattle.rules.proofs.Bits.{bit-none}
+use Rattle.rules.proofs.Rows.{length-mapRows, row-mapRows, row-word}
+use Rattle.rules.proofs.EqualRows.{live-number}
+use Rattle.rules.proofs.Carried.{free-row}
+use Rattle.rules.proofs.Walks.{waits-for→}
+
+-- every word of n zeros is 0, and so is what is read past them
+pub zeros : (n j : ℕ) → getD {A = ℕ} (replicate n 0) j 0 ≡ 0
+zeros zero j = refl
+zeros (suc n) zero = refl
+zeros (suc n) (suc j) = zeros n j
+
+-- and so is every word of a row of them
+zero-row : (w x : ℕ) (l : List ℕ) → ((j : ℕ) → getD l j 0 ≡ 0) → (j : ℕ) → getD (row w x l) j 0 ≡ 0
+unfolding row
+zero-row w x l z j = go (ltb j w) refl
+  where
+    go : (b : Bool) → ltb j w ≡ b → getD (take w (drop (w * x) l)) j 0 ≡ 0
+    go true e = let h = ltb-true j w e in rw (getD-take, getD-drop) (z (w * x + j))
+    go false e = List·getD-eq-default (take w (drop (w * x) l)) 0 (let h = ltb-false j w e in let a = length-take w (drop (w * x) l) in omega arith)
+
+module _ (S : Sizes) (room : 1 ≤ S .places) where
+  txn-free : (s : ℕ) → txn ((fresh S) .txns) s ≡ noTxn
+  unfolding fresh txn
+  txn-free s =
+      let n = txnWords S in
+      λ i.
+      record {
+        number = zeros n (txnAt s) i;
+        kind = zeros n (txnAt s + 1) i;
+        start = zeros n (txnAt s + 2) i;
+        awaitedLock = zeros n (txnAt s + 3) i;
+        awaitedItem = zeros n (txnAt s + 4) i;
+      }
+
+  not-live : (s : ℕ) → T (live (txn ((fresh S) .txns) s)) → ⊥
+  not-live s h = live-number (txn ((fresh S) .txns) s) h (ap (λ (r : Txn). r .number) (txn-free s))
+
+  not-query : (s : ℕ) → T (liveQuery (txn ((fresh S) .txns) s)) → ⊥
+  unfolding liveQuery live
+  not-query s h = subst (λ (r : Txn). T (liveQuery r)) (txn-free s) h
+
+  lock-free : (x : ℕ) → lock ((fresh S) .locks) x ≡ record { shared = 0; exclusive = 0; working = 0 }
+  unfolding fresh lock
+  lock-free x =
+      let n = lockWords S in
+      λ i. record { shared = zeros n (lockRow * x) i; exclusive = zeros n (lockRow * x + 1) i; working = zeros n (lockRow * x + 2) i }
+
+  free-lock : GoodLock S ((fresh S) .txns) (record { shared = 0; exclusive = 0; working = 0 })
+  unfolding holds holdsShared holdsExclusive
+  free-lock = record { holders = λ s h. absurd (none s (or-cases (bit 0 s) _ h)); neverBoth = inl refl; noWorking = λ e. refl }
+    where
+      none : (s : ℕ) → T (bit 0 s) ⊎ T (eqb 0 (suc s)) → ⊥
+      none s (inl h) = false-is (bit-none s) h
+      none s (inr h) = false-is (eqb·zero-suc s) h
+
+  -- a row: the count 1, and zeros
+  abbrev zeroRow : ℕ → List ℕ
+  zeroRow x = row (versionRow S) x (replicate (versionWords S) 0)
+
+  long : (x : ℕ) (r : List ℕ) → length r ≡ versionRow S → length (1 ∷ drop 1 r) ≡ versionRow S
+  long x r e = let a = length-drop 1 r in omega arith
+
+  row-is : (x : ℕ) → x < S .items → row (versionRow S) x ((fresh S) .versions) ≡ 1 ∷ drop 1 (zeroRow x)
+  unfolding fresh
+  row-is x i =
+      row-mapRows (versionRow S) (λ x r. 1 ∷ drop 1 r) long (S .items) 0 (replicate (versionWords S) 0)
+      (let a : length {A = ℕ} (replicate (versionWords S) 0) ≡ versionWords S = length-replicate {A = ℕ} (versionWords S) 0 in omega arith) x i
+
+  -- a row of words that are zero behind its count of 1
+  first-row : (ws : List ℕ) → ((j : ℕ) → getD ws j 0 ≡ 0) → GoodVersions S ((fresh S) .txns) (1 ∷ ws)
+  unfolding versionsIn pairs stampAt
+  first-row ws z =
+      record {
+        countLeast = omega arith;
+        countMost = room;
+        unused = behind;
+        fall = λ i j l h. absurd (omega arith);
+        first = let a = z 0 in omega arith;
+        last = λ s i q. absurd (not-query s q);
+        reads = λ k p. (λ h. absurd (omega arith), λ m. absurd (not-query (m .0) (m .2)));
+      }
+    where
+      behind : (k : ℕ) → 2 * 1 < k → getD (1 ∷ ws) k 0 ≡ 0
+      behind zero l = absurd (not-suc-le-zero l)
+      behind (suc k) l = z k
+
+  zero-word : (x j : ℕ) → getD (drop 1 (zeroRow x)) j 0 ≡ 0
+  zero-word x j = getD-drop 1 (zeroRow x) j 0 ∙ zero-row (versionRow S) x (replicate (versionWords S) 0) (zeros (versionWords S)) (1 + j)
+
+  -- nobody waits
+  no-link : (a b : ℕ) → T (waitsFor ((fresh S) .txns) ((fresh S) .locks) a b) → ⊥
+  no-link a b e = waits-for→ ((fresh S) .txns) ((fresh S) .locks) a b e .0 (ap (λ (r : Txn). r .awaitedLock) (txn-free a))
+
+  no-walk : {a b : ℕ} → Walk (waitsFor ((fresh S) .txns) ((fresh S) .locks)) a b → ⊥
+  no-walk (one {a} {b} e) = no-link a b e
+  no-walk (more {a} {b} {c} w e) = no-link b c e
+
+  pub fresh-good : Good S (fresh S)
+  unfolding fresh
+  fresh-good =
+      record {
+        txnsExact = length-replicate {A = ℕ} (txnWords S) 0;
+        locksExact = length-replicate {A = ℕ} (lockWords S) 0;
+        versionsExact =
+            (let a : length {A = ℕ} (replicate (versionWords S) 0) ≡ versionWords S = length-replicate {A = ℕ} (versionWords S) 0 in
+            length-mapRows (versionRow S) (λ x r. 1 ∷ drop 1 r) long (S .items) 0 (replicate (versionWords S) 0) (omega arith) ∙ a);
+        lastMost = let a = zeros (txnWords S) 0 in omega arith;
+        clockMost = let a = zeros (txnWords S) 1 in omega arith;
+        txnGood = λ s i. subst (λ (r : Txn). GoodTxn S ((fresh S) .txns) ((fresh S) .locks) s r) (sym (txn-free s)) (free-row S ((fresh S) .txns) ((fresh S) .locks) s);
+        distinct = λ r s i j d h. absurd (not-live s h);
+        lockGood = λ x i. subst (λ (h : Lock). GoodLock S ((fresh S) .txns) h) (sym (lock-free x)) free-lock;
+        versionsGood = λ x i. subst (λ (r : List ℕ). GoodVersions S ((fresh S) .txns) r) (sym (row-is x i)) (first-row (drop 1 (zeroRow x)) (zero-word x));
+        noCircle = λ a w. no-walk w;
+      }

@@ -1,0 +1,156 @@
+-- "Every call on good tables leaves good tables.": all six calls, every way of going. Assumes nothing.
+use Prim.Native.Nat.{ℕ, _≤_, _<_}
+use mathlib.Core.Path.{_≡_, refl, sym, ap, _∙_, subst}
+use mathlib.Core.Logic.{_≢_, _⊎_, inl, inr}
+use mathlib.Core.Bool.{Bool, true, false, _&&_, _||_, not}
+use mathlib.Core.List.{List}
+use native.Mathlib.Omega.{arith}
+use lib.Dec.{T, eqb, leb}
+use borrow.Author.Tests.{eqb-true, eqb-false, leb-false}
+use Rattle.names.specs.declared.Sizes.{Sizes}
+use Rattle.names.specs.Sizes.{lastWord}
+use Rattle.rules.specs.Tables.{Tables, lastNumber, clock, txn, setAwaited, live, liveUpdate, liveQuery, freeSlot, slotOf}
+use Rattle.rules.specs.Tables.{anUpdate, aQuery, noLock, sharedLock, exclusiveLock, Lock, lock, holds, holdsShared, holdsExclusive}
+use Rattle.rules.specs.Waits.{blocks, blocked, conflicts, circleAt}
+use Rattle.rules.specs.Good.{Good}
+use Rattle.rules.specs.Tested.{good}
+use Rattle.rules.specs.Locks.{Asked, toRead, toWrite, Decision, ownValue, replaceValue, newestValue, exchangeLock, takeShared, takeExclusive, conflict, decision, wanted}
+use Rattle.rules.specs.Answers.{Call, beginUpdate, beginQuery, read, write, commit, abort, Outcome}
+use Rattle.rules.specs.Step.{begin, conflicted, locked, taken, awaitsOther, carriedOut, access, queryRead, readBy, writeBy, commitBy, abortBy, act, step}
+use Rattle.rules.proofs.Tests.{and-both, or-cases, or-left, or-right, is-true, false-is, ne-make}
+use Rattle.rules.proofs.Equal.{good→Good, Good→good}
+use Rattle.rules.proofs.Steps.{step-good, cond-case}
+use Rattle.rules.proofs.Callers.{caller-in, free-found, is-query, is-update}
+use Rattle.rules.proofs.Decisions.{Cell, ownCell, newestCell, shareCell, replaceCell, exchangeCell, excludeCell, readConflict, writeConflict, cell, none-excludes, blocked-other}
+use Rattle.rules.proofs.Deadlock.{circle-is}
+use Rattle.rules.proofs.Begins.{begun-good}
+use Rattle.rules.proofs.Awaits.{MayAwait, waited-good, cleared-good}
+use Rattle.rules.proofs.Grants.{locked-good, shared-too, shared-others, replaced-too, replaced-others, taken-good, taken-others}
+use Rattle.rules.proofs.Ends.{ended-good, aborted-good, committed-good}
+
+module _ (S : Sizes) (enough : S .slots ≤ S .places) (G : Tables) (g : Good S G) where
+  abbrev t : List ℕ
+  t = G .txns
+
+  abbrev l : List ℕ
+  l = G .locks
+
+  abbrev Stays : Outcome → Type 0
+  Stays o = Good S (o .after)
+
+  begin-keeps : (k q : ℕ) → ((k ≡ anUpdate) × (q ≡ 0)) ⊎ ((k ≡ aQuery) × (q ≡ clock t)) → Stays (begin S k q G)
+  unfolding begin
+  begin-keeps k q kinds =
+      cond-case Stays (eqb (freeSlot S t) (S .slots)) _ _ (λ e. g)
+      (λ e. cond-case Stays (eqb (lastNumber t) lastWord) _ _ (λ f. g)
+      (λ f.
+      let F = free-found S t e in
+      let d = eqb-false (lastNumber t) lastWord f in
+      let m = g .lastMost in
+      begun-good S G g k q (freeSlot S t) (F .inside) (F .free) (omega arith) kinds))
+
+  -- ---- an update's read or write
+  module _ (s x : ℕ) (inside : s < S .slots) (update : T (liveUpdate (txn t s))) (known : x < S .items) where
+    conflict-keeps : (k : ℕ) → k ≢ noLock → MayAwait S G s k x → Stays (conflicted S s k x G)
+    unfolding conflicted
+    conflict-keeps k d may =
+        cond-case Stays (circleAt S (setAwaited t s k x) l s) _ _ (λ e. g)
+        (λ e. waited-good S G g s inside update k x d may (λ w. false-is e (circle-is S G g s k x inside known d .1 w)))
+
+    -- who does not block holds nothing
+    alone : (T (blocked S (lock l x) exclusiveLock s) → ⊥) → (r : ℕ) → r ≢ s → T (holds (lock l x) r) → ⊥
+    unfolding blocks conflicts holds
+    alone f r d h =
+        let i = g .lockGood x known .holders r h .0 in
+        f (blocked-other S (lock l x) exclusiveLock s .1
+        (r, i, and-both (not (eqb s r)) _ (ne-make s r (λ e. d (sym e))) (turned (or-cases (holdsShared (lock l x) r) _ h))))
+      where
+        turned : T (holdsShared (lock l x) r) ⊎ T (holdsExclusive (lock l x) r) → T (holdsExclusive (lock l x) r || (eqb exclusiveLock exclusiveLock && holdsShared (lock l x) r))
+        turned (inl k) = or-right (holdsExclusive (lock l x) r) _ k
+        turned (inr k) = or-left (holdsExclusive (lock l x) r) _ k
+
+    taken-keeps : (v : ℕ) → (T (blocked S (lock l x) exclusiveLock s) → ⊥) → Good S (locked s x (taken (lock l x) s v) G)
+    taken-keeps v f =
+        locked-good S G g s x inside update known _
+        (taken-good S t (lock l x) (g .lockGood x known) s inside update (alone f) v)
+        (taken-others S t (lock l x) (g .lockGood x known) s inside update (alone f) v)
+
+    cell-keeps : (a : Asked) (v : ℕ) (d : Decision) → Cell S (lock l x) s a d → Stays (carriedOut S s (wanted a) x v G d)
+    unfolding carriedOut
+    cell-keeps a v d (ownCell h) = cleared-good S G g s inside update
+    cell-keeps a v d (newestCell h) = cleared-good S G g s inside update
+    cell-keeps a v d (shareCell h f) =
+        locked-good S G g s x inside update known _
+        (shared-too S t (lock l x) (g .lockGood x known) s inside update (none-excludes S G g x known s sharedLock (λ k. h (unfold holds in (or-right (holdsShared (lock l x) s) _ k))) f))
+        (shared-others S t (lock l x) (g .lockGood x known) s inside update)
+    cell-keeps a v d (replaceCell h) =
+        locked-good S G g s x inside update known _ (replaced-too S t (lock l x) (g .lockGood x known) s inside update v h)
+        (λ r e. replaced-others S t (lock l x) (g .lockGood x known) s inside update v r)
+    cell-keeps a v d (exchangeCell h f) = taken-keeps v f
+    cell-keeps a v d (excludeCell h f) = taken-keeps v f
+    cell-keeps a v d (readConflict h b) =
+        conflict-keeps sharedLock (λ e. omega arith)
+        (record { listed = omega arith; known = λ e. known; none = λ e. absurd (omega arith); shared = λ e. h; exclusive = λ e. absurd (omega arith) })
+    cell-keeps a v d (writeConflict h b) =
+        conflict-keeps exclusiveLock (λ e. omega arith)
+        (record { listed = omega arith; known = λ e. known; none = λ e. absurd (omega arith); shared = λ e. absurd (omega arith); exclusive = λ e. h })
+
+    access-keeps : (a : Asked) (v : ℕ) → Stays (access S a s x v G)
+    unfolding access
+    access-keeps a v = cell-keeps a v (decision S a (lock l x) s) (cell S G g x known s a)
+
+  -- ---- the calls
+  read-keeps : (n x : ℕ) → Stays (readBy S n x G)
+  unfolding readBy queryRead
+  read-keeps n x =
+      cond-case Stays (eqb (slotOf S t n) (S .slots)) _ _ (λ e. g)
+      (λ e. cond-case Stays (leb (S .items) x) _ _ (λ f. g)
+      (λ f. cond-case Stays (awaitsOther t (slotOf S t n) sharedLock x) _ _ (λ h. g)
+      (λ h. cond-case Stays (eqb ((txn t (slotOf S t n)) .kind) aQuery) _ _ (λ k. g)
+      (λ k.
+      let C = caller-in S G n e in
+      access-keeps (slotOf S t n) x (C .inside) (is-update S G g (slotOf S t n) (C .inside) (C .alive) k) (leb-false (S .items) x f) toRead 0))))
+
+  write-keeps : (n x v : ℕ) → Stays (writeBy S n x v G)
+  unfolding writeBy
+  write-keeps n x v =
+      cond-case Stays (eqb (slotOf S t n) (S .slots)) _ _ (λ e. g)
+      (λ e. cond-case Stays (leb (S .items) x) _ _ (λ f. g)
+      (λ f. cond-case Stays (eqb ((txn t (slotOf S t n)) .kind) aQuery) _ _ (λ k. g)
+      (λ k. cond-case Stays (awaitsOther t (slotOf S t n) exclusiveLock x) _ _ (λ h. g)
+      (λ h.
+      let C = caller-in S G n e in
+      access-keeps (slotOf S t n) x (C .inside) (is-update S G g (slotOf S t n) (C .inside) (C .alive) k) (leb-false (S .items) x f) toWrite v))))
+
+  commit-keeps : (n : ℕ) → Stays (commitBy S n G)
+  unfolding commitBy
+  commit-keeps n =
+      cond-case Stays (eqb (slotOf S t n) (S .slots)) _ _ (λ e. g)
+      (λ e. let C = caller-in S G n e in
+      cond-case Stays (not (eqb ((txn t (slotOf S t n)) .awaitedLock) noLock)) _ _ (λ f. g)
+      (λ f. cond-case Stays (eqb ((txn t (slotOf S t n)) .kind) aQuery) _ _
+      (λ k. ended-good S enough G g (slotOf S t n) (C .inside) (is-query t (slotOf S t n) (C .alive) k))
+      (λ k. cond-case Stays (eqb (clock t) lastWord) _ _ (λ h. g)
+      (λ h. committed-good S enough G g (slotOf S t n) (C .inside) (is-update S G g (slotOf S t n) (C .inside) (C .alive) k) (eqb-false (clock t) lastWord h)))))
+
+  abort-keeps : (n : ℕ) → Stays (abortBy S n G)
+  unfolding abortBy
+  abort-keeps n =
+      cond-case Stays (eqb (slotOf S t n) (S .slots)) _ _ (λ e. g)
+      (λ e. let C = caller-in S G n e in
+      cond-case Stays (eqb ((txn t (slotOf S t n)) .kind) aQuery) _ _
+      (λ k. ended-good S enough G g (slotOf S t n) (C .inside) (is-query t (slotOf S t n) (C .alive) k))
+      (λ k. aborted-good S enough G g (slotOf S t n) (C .inside) (is-update S G g (slotOf S t n) (C .inside) (C .alive) k)))
+
+  act-keeps : (c : Call) → Stays (act S c G)
+  unfolding act
+  act-keeps beginUpdate = begin-keeps anUpdate 0 (inl (refl, refl))
+  act-keeps beginQuery = begin-keeps aQuery (clock t) (inr (refl, refl))
+  act-keeps (read n x) = read-keeps n x
+  act-keeps (write n x v) = write-keeps n x v
+  act-keeps (commit n) = commit-keeps n
+  act-keeps (abort n) = abort-keeps n
+
+pub keeps : (S : Sizes) → S .slots ≤ S .places → (c : Call) (G : Tables) → Good S G → Good S ((step S c G) .after)
+keeps S enough c G g =
+    subst (λ (o : Outcome). Good S (o .after)) (sym (step-good S c G (is-true (good S G) (Good→good S G g)))) (act-keeps S enough G g c)
