@@ -30,3 +30,4 @@ pub mod Granted
 pub mod Refused
 pub mod Keeps
 pub mod Fresh
+pub mod Held
