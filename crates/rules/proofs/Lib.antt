@@ -31,3 +31,8 @@ pub mod Refused
 pub mod Keeps
 pub mod Fresh
 pub mod Held
+pub mod Changes
+pub mod ChangedVersions
+pub mod Outcomes
+pub mod Calls
+pub mod Queries

@@ -59,35 +59,7 @@ reader qs vs h (suc k) z l = go (or-cases (eqb (0 + suc k) 0) (readBySome qs vs 
         let r = mem-some (λ q. eqb (place q vs) (0 + suc k)) qs x in
         (r .0, r .1, (let e = eqb→eq (place (r .0) vs) (0 + suc k) (r .2) in omega arith))
 
--- a row all of whose older versions are read is not changed
-kept-fixed-from :
-    (qs : List ℕ) (vs : List Version) (k : ℕ) (rest : List Version) → T (allRead qs vs k rest) → keptFrom qs vs k rest ≡ rest
-unfolding keptFrom allRead
-kept-fixed-from qs vs k [] h = refl
-kept-fixed-from qs vs k (v ∷ rest) h =
-    let a = eqb k 0 || readBySome qs vs k in
-    rw (is-true a (and-left a (allRead qs vs (suc k) rest) h))
-    (ap {B = List Version} (λ l. v ∷ l) (kept-fixed-from qs vs (suc k) rest (and-right a (allRead qs vs (suc k) rest) h)))
-
-pub kept-fixed : (qs : List ℕ) (vs : List Version) → T (allRead qs vs 0 vs) → kept qs vs ≡ vs
-unfolding kept
-kept-fixed qs vs h = kept-fixed-from qs vs 0 vs h
-
--- ---- how many are kept: at most as many as there are, and at most one more than there are starts
-pub length-kept-le : (qs : List ℕ) (vs : List Version) → length (kept qs vs) ≤ length vs
-unfolding kept keptFrom
-length-kept-le qs vs = from 0 vs
-  where
-    from : (k : ℕ) (rest : List Version) → length (keptFrom qs vs k rest) ≤ length rest
-    from k [] = omega arith
-    from k (v ∷ rest) = go (eqb k 0 || readBySome qs vs k) (from (suc k) rest)
-      where
-        go :
-            (b : Bool) → length (keptFrom qs vs (suc k) rest) ≤ length rest
-            → length (cond b (v ∷ keptFrom qs vs (suc k) rest) (keptFrom qs vs (suc k) rest)) ≤ suc (length rest)
-        go true h = omega arith
-        go false h = omega arith
-
+-- ---- how many are kept: at most one more than there are starts, and at most as many as there are
 length-keptFrom :
     (qs : List ℕ) (vs : List Version) (k : ℕ) (rest : List Version) → 0 < k
     → length (keptFrom qs vs k rest) ≡ passing (λ i. readBySome qs vs i) k (length rest)
@@ -111,6 +83,34 @@ length-kept qs (v ∷ vs) =
     let b = passing-some (λ q. true) (λ q. place q (v ∷ vs)) qs 1 (length vs) in
     let c = counted-le (λ q. true) qs in
     omega arith
+
+pub length-kept-le : (qs : List ℕ) (vs : List Version) → length (kept qs vs) ≤ length vs
+unfolding kept keptFrom
+length-kept-le qs vs = from 0 vs
+  where
+    from : (k : ℕ) (rest : List Version) → length (keptFrom qs vs k rest) ≤ length rest
+    from k [] = omega arith
+    from k (v ∷ rest) = go (eqb k 0 || readBySome qs vs k) (from (suc k) rest)
+      where
+        go :
+            (b : Bool) → length (keptFrom qs vs (suc k) rest) ≤ length rest
+            → length (cond b (v ∷ keptFrom qs vs (suc k) rest) (keptFrom qs vs (suc k) rest)) ≤ suc (length rest)
+        go true h = omega arith
+        go false h = omega arith
+
+-- a row all of whose older versions are read is not changed
+kept-fixed-from :
+    (qs : List ℕ) (vs : List Version) (k : ℕ) (rest : List Version) → T (allRead qs vs k rest) → keptFrom qs vs k rest ≡ rest
+unfolding keptFrom allRead
+kept-fixed-from qs vs k [] h = refl
+kept-fixed-from qs vs k (v ∷ rest) h =
+    let a = eqb k 0 || readBySome qs vs k in
+    rw (is-true a (and-left a (allRead qs vs (suc k) rest) h))
+    (ap {B = List Version} (λ l. v ∷ l) (kept-fixed-from qs vs (suc k) rest (and-right a (allRead qs vs (suc k) rest) h)))
+
+pub kept-fixed : (qs : List ℕ) (vs : List Version) → T (allRead qs vs 0 vs) → kept qs vs ≡ vs
+unfolding kept
+kept-fixed qs vs h = kept-fixed-from qs vs 0 vs h
 
 -- ---- each start finds what it found
 -- the first of a row is chosen, or not

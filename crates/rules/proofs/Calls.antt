@@ -1,0 +1,109 @@
+-- What each call does where nothing refuses it, as one equation. Assumes nothing.
+use Prim.Native.Nat.{ℕ, suc, _+_, _<_}
+use mathlib.Core.Path.{_≡_, _∙_}
+use mathlib.Core.Logic.{_≢_}
+use mathlib.Core.Bool.{true, false}
+use native.Mathlib.Omega.{arith}
+use lib.Dec.{T, eqb}
+use borrow.Author.Tests.{ne-eqb, eq-eqb, lt-leb}
+use Rattle.names.specs.declared.Sizes.{Sizes}
+use Rattle.names.specs.Sizes.{lastWord}
+use Rattle.rules.specs.Tables.{Tables, lastNumber, clock, txn, liveUpdate, liveQuery, anUpdate, aQuery, noLock, sharedLock, exclusiveLock}
+use Rattle.rules.specs.Tables.{slotOf, freeSlot, lock}
+use Rattle.rules.specs.Versions.{versionsOf, place, choice}
+use Rattle.rules.specs.Good.{Good}
+use Rattle.rules.specs.Tested.{good}
+use Rattle.rules.specs.Locks.{toRead, toWrite, decision}
+use Rattle.rules.specs.Answers.{Call, beginUpdate, beginQuery, read, write, commit, abort, says, granted}
+use Rattle.rules.specs.Step.{step, act, begin, begun, readBy, writeBy, commitBy, abortBy, queryRead, access, carriedOut, awaitsOther}
+use Rattle.rules.specs.Step.{committed, ended, aborted}
+use Rattle.rules.proofs.Tests.{is-true}
+use Rattle.rules.proofs.Equal.{Good→good}
+use Rattle.rules.proofs.Steps.{step-good}
+use Rattle.rules.proofs.Callers.{Caller, caller-found, query-kind, update-kind}
+
+module _ (S : Sizes) (G : Tables) (g : Good S G) where
+  on-good : (c : Call) → step S c G ≡ act S c G
+  on-good c = step-good S c G (is-true (good S G) (Good→good S G g))
+
+  -- ---- begin
+  module _ (room : freeSlot S (G .txns) < S .slots) (left : lastNumber (G .txns) ≢ lastWord) where
+    pub update-begins :
+        step S beginUpdate G ≡ says granted 0 (lastNumber (G .txns) + 1) 0 (begun anUpdate 0 (freeSlot S (G .txns)) G)
+    unfolding act begin
+    update-begins =
+        on-good beginUpdate
+        ∙ rw (ne-eqb (freeSlot S (G .txns)) (S .slots) (omega arith), ne-eqb (lastNumber (G .txns)) lastWord left)
+
+    pub query-begins :
+        step S beginQuery G
+        ≡ says granted 0 (lastNumber (G .txns) + 1) 0 (begun aQuery (clock (G .txns)) (freeSlot S (G .txns)) G)
+    unfolding act begin
+    query-begins =
+        on-good beginQuery
+        ∙ rw (ne-eqb (freeSlot S (G .txns)) (S .slots) (omega arith), ne-eqb (lastNumber (G .txns)) lastWord left)
+
+  -- ---- the transaction with the number n, in slot s
+  module _ (n s : ℕ) (C : Caller S G n s) where
+    found : slotOf S (G .txns) n ≡ s
+    found = caller-found S G g s n (C .inside) (C .alive) (C .name)
+
+    within : eqb s (S .slots) ≡ false
+    within = ne-eqb s (S .slots) (let i = C .inside in omega arith)
+
+    -- ---- a query
+    module _ (query : T (liveQuery (txn (G .txns) s))) where
+      a-query : eqb ((txn (G .txns) s) .kind) aQuery ≡ true
+      a-query = eq-eqb ((txn (G .txns) s) .kind) aQuery (query-kind (G .txns) s query)
+
+      none : eqb ((txn (G .txns) s) .awaitedLock) noLock ≡ true
+      none = eq-eqb ((txn (G .txns) s) .awaitedLock) noLock (g .txnGood s (C .inside) .queryIdle query)
+
+      pub query-reads :
+          (x : ℕ) → x < S .items
+          → step S (read n x) G
+          ≡ says granted
+          ((choice ((txn (G .txns) s) .start) (versionsOf S (G .versions) x)) .value)
+          0
+          (suc (place ((txn (G .txns) s) .start) (versionsOf S (G .versions) x)))
+          G
+      unfolding act readBy queryRead awaitsOther
+      query-reads x known = on-good (read n x) ∙ rw (found, within, lt-leb (S .items) x known, none, a-query)
+
+      pub query-commits : step S (commit n) G ≡ says granted 0 0 0 (ended S s G)
+      unfolding act commitBy
+      query-commits = on-good (commit n) ∙ rw (found, within, none, a-query)
+
+      pub query-aborts : step S (abort n) G ≡ says granted 0 0 0 (ended S s G)
+      unfolding act abortBy
+      query-aborts = on-good (abort n) ∙ rw (found, within, a-query)
+
+    -- ---- an update
+    module _ (update : T (liveUpdate (txn (G .txns) s))) where
+      no-query : eqb ((txn (G .txns) s) .kind) aQuery ≡ false
+      no-query = ne-eqb ((txn (G .txns) s) .kind) aQuery (λ e. let u = update-kind (G .txns) s update in omega arith)
+
+      -- the cell of the table, carried out
+      pub update-reads :
+          (x : ℕ) → x < S .items → awaitsOther (G .txns) s sharedLock x ≡ false
+          → step S (read n x) G ≡ carriedOut S s sharedLock x 0 G (decision S toRead (lock (G .locks) x) s)
+      unfolding act readBy access
+      update-reads x known free = on-good (read n x) ∙ rw (found, within, lt-leb (S .items) x known, free, no-query)
+
+      pub update-writes :
+          (x v : ℕ) → x < S .items → awaitsOther (G .txns) s exclusiveLock x ≡ false
+          → step S (write n x v) G ≡ carriedOut S s exclusiveLock x v G (decision S toWrite (lock (G .locks) x) s)
+      unfolding act writeBy access
+      update-writes x v known free = on-good (write n x v) ∙ rw (found, within, lt-leb (S .items) x known, no-query, free)
+
+      pub update-commits :
+          (txn (G .txns) s) .awaitedLock ≡ noLock → clock (G .txns) ≢ lastWord
+          → step S (commit n) G ≡ says granted 0 (clock (G .txns) + 1) 0 (committed S s G)
+      unfolding act commitBy
+      update-commits idle left =
+          on-good (commit n)
+          ∙ rw (found, within, eq-eqb ((txn (G .txns) s) .awaitedLock) noLock idle, no-query, ne-eqb (clock (G .txns)) lastWord left)
+
+      pub update-aborts : step S (abort n) G ≡ says granted 0 0 0 (aborted S s G)
+      unfolding act abortBy
+      update-aborts = on-good (abort n) ∙ rw (found, within, no-query)

@@ -1,0 +1,204 @@
+-- Which words an update's commit and a query's end change: the version row of an item that the committer does not hold exclusively
+-- keeps every word. Assumes nothing.
+use Prim.Native.Nat.{ℕ, zero, suc, _+_, _-_, _*_, _≤_, _<_}
+use mathlib.Core.Path.{_≡_, refl, sym, ap, _∙_, subst}
+use mathlib.Core.Logic.{_≢_, _⊎_, inl, inr}
+use mathlib.Core.Bool.{false}
+use mathlib.Core.List.{List, [], _∷_, _++_}
+use native.Mathlib.Omega.{arith}
+use native.Mathlib.Nat.{mul-le-mul-left}
+use lib.ListN.{length, getD, drop, replicate, set, length-set, length-replicate, getD-replicate, length-drop}
+use lib.Seq.{ext-getD, length-take-le}
+use lib.Dec.{T}
+use Rattle.names.specs.declared.Sizes.{Sizes}
+use Rattle.rules.specs.Words.{row}
+use Rattle.rules.specs.Tables.{Tables, txnWords, versionRow, clock, txn, setTxn, noTxn, live, liveUpdate, liveQuery}
+use Rattle.rules.specs.Tables.{starts, lock, holdsExclusive}
+use Rattle.rules.specs.Versions.{pairs, pairWords, versionsIn, versionsOf, rowOf, kept}
+use Rattle.rules.specs.Good.{Good, GoodVersions}
+use Rattle.rules.specs.Step.{committed, ended, withNew}
+use Rattle.rules.proofs.Tests.{same?, is-true, is-false}
+use Rattle.rules.proofs.Rows.{row-word}
+use Rattle.rules.proofs.Views.{txn-setTxn, txn-setTxn-other, txn-top}
+use Rattle.rules.proofs.Choice.{length-versionsIn}
+use Rattle.rules.proofs.Trim.{kept-fixed}
+use Rattle.rules.proofs.Starts.{starts-same, starts-lt}
+use Rattle.rules.proofs.Rewrites.{length-rewritten, row-rewritten, versions-rewritten}
+use Rattle.rules.proofs.EqualVersions.{Good→read}
+use Rattle.rules.proofs.Callers.{query-not-update}
+use Rattle.rules.proofs.Changes.{RowChanged, WordAndRowChanged, LocksReleased, setTxn-changes, top-changes, release-changes}
+
+-- ---- a row's versions, written back
+-- n pairs read off the words l and written, with m pairs of zeros behind
+pairs-back :
+    (n m : ℕ) (l : List ℕ) → length l ≡ 2 * (n + m) → ((k : ℕ) → 2 * n ≤ k → getD l k 0 ≡ 0)
+    → pairWords (pairs n l) ++ replicate (2 * m) 0 ≡ l
+unfolding pairs pairWords
+pairs-back zero m l e z =
+    ext-getD 0 (replicate (2 * m) 0) l (length-replicate (2 * m) 0 ∙ (let f : 2 * m ≡ length l = omega arith in f))
+    (λ i b. getD-replicate (2 * m) i 0 0 (subst (λ (n : ℕ). i < n) (length-replicate (2 * m) 0) b) ∙ sym (z i (omega arith)))
+pairs-back (suc n) m [] e z = absurd (omega arith)
+pairs-back (suc n) m (a ∷ []) e z = absurd (omega arith)
+pairs-back (suc n) m (a ∷ b ∷ l) e z =
+    ap (λ (r : List ℕ). a ∷ b ∷ r) (pairs-back n m l (omega arith) (λ k h. z (suc (suc k)) (omega arith)))
+
+pub rowOf-versionsIn :
+    (S : Sizes) (r : List ℕ) → length r ≡ versionRow S → getD r 0 0 ≤ S .places
+    → ((k : ℕ) → 2 * getD r 0 0 < k → getD r k 0 ≡ 0) → rowOf S (versionsIn r) ≡ r
+unfolding rowOf versionsIn
+rowOf-versionsIn S [] e most z = absurd (omega arith)
+rowOf-versionsIn S (c ∷ l) e most z =
+    let h : length (pairs c l) ≡ c = length-versionsIn (c ∷ l) in
+    rw h (ap (λ (r : List ℕ). c ∷ r) (pairs-back c (S .places - c) l (omega arith) (λ k b. z (suc k) (omega arith))))
+
+-- rows of the whole table are whole
+length-row : (w x n : ℕ) (l : List ℕ) → length l ≡ w * n → x < n → length (row w x l) ≡ w
+unfolding row
+length-row w x n l e h =
+    length-take-le w (drop (w * x) l)
+    (rw length-drop (let a : w * suc x ≤ w * n = mul-le-mul-left w h in omega arith))
+
+-- equal rows are equal words
+pub row-words :
+    (w x : ℕ) (v v′ : List ℕ) → row w x v′ ≡ row w x v → (j : ℕ) → j < w → getD v′ (w * x + j) 0 ≡ getD v (w * x + j) 0
+row-words w x v v′ e j h =
+    sym (row-word w x j v′ h) ∙ ap (λ (r : List ℕ). getD r j 0) e ∙ row-word w x j v h
+
+-- ---- what is said of the tables G before and G′ after
+-- "An update takes clock plus 1 .." "Its locks, working values and row go." A row gets a new pair in front where s holds the item
+-- exclusively, and keeps every word elsewhere
+pub record Committed (S : Sizes) (s : ℕ) (G G′ : Tables) : Type 0 where
+  pub txns : WordAndRowChanged 1 (clock (G .txns) + 1) s noTxn (G .txns) (G′ .txns)
+  pub locks : LocksReleased S s (G .locks) (G′ .locks)
+  pub size : length (G′ .versions) ≡ length (G .versions)
+  pub written :
+      (x : ℕ) → x < S .items → T (holdsExclusive (lock (G .locks) x) s)
+      → row (versionRow S) x (G′ .versions)
+      ≡ rowOf S
+      (kept (starts S (G .txns))
+      (record { stamp = clock (G .txns) + 1; value = (lock (G .locks) x) .working } ∷ versionsOf S (G .versions) x))
+  pub others :
+      (x j : ℕ) → x < S .items → j < versionRow S → (T (holdsExclusive (lock (G .locks) x) s) → ⊥)
+      → getD (G′ .versions) (versionRow S * x + j) 0 ≡ getD (G .versions) (versionRow S * x + j) 0
+
+-- "A query only ends.": its row goes, and the versions that none but it read
+pub record Ended (S : Sizes) (s : ℕ) (G G′ : Tables) : Type 0 where
+  pub txns : RowChanged s noTxn (G .txns) (G′ .txns)
+  pub locks : G′ .locks ≡ G .locks
+  pub size : length (G′ .versions) ≡ length (G .versions)
+  pub each :
+      (x : ℕ) → x < S .items
+      → row (versionRow S) x (G′ .versions) ≡ rowOf S (kept (starts S (G′ .txns)) (versionsOf S (G .versions) x))
+
+-- a free row is no query
+free-no-query : liveQuery noTxn ≡ false
+unfolding liveQuery live
+free-no-query = refl
+
+-- ---- the row of slot s goes from u, which has the rows of before: one query less than there are slots is left at most
+module _ (S : Sizes) (u : List ℕ) (size : length u ≡ txnWords S) (s : ℕ) (inside : s < S .slots) where
+  pub left-starts : length (starts S (setTxn u s noTxn)) < S .slots
+  left-starts =
+      starts-lt S (setTxn u s noTxn) s inside (ap liveQuery (txn-setTxn u s noTxn S size inside) ∙ free-no-query)
+
+module _ (S : Sizes) (G : Tables) (g : Good S G) (enough : S .slots ≤ S .places) (s : ℕ) (inside : s < S .slots) where
+  abbrev t : List ℕ
+  t = G .txns
+
+  abbrev v : List ℕ
+  v = G .versions
+
+  -- ---- a query's end
+  pub ended-room : length (starts S ((ended S s G) .txns)) < S .places
+  unfolding ended
+  ended-room = let a = left-starts S t (g .txnsExact) s inside in omega arith
+
+  pub ended-versions :
+      (x : ℕ) → x < S .items
+      → versionsOf S ((ended S s G) .versions) x ≡ kept (starts S ((ended S s G) .txns)) (versionsOf S (G .versions) x)
+  unfolding ended
+  ended-versions x known =
+      versions-rewritten S (starts S (setTxn t s noTxn)) (λ x vs. vs) v ended-room (g .versionsExact) x known
+
+  pub ended-changes : Ended S s G (ended S s G)
+  unfolding ended versionsOf
+  ended-changes =
+      record {
+        txns = setTxn-changes S t (g .txnsExact) s inside noTxn;
+        locks = refl;
+        size = length-rewritten S (starts S (setTxn t s noTxn)) (λ x vs. vs) v ended-room (g .versionsExact) ∙ sym (g .versionsExact);
+        each = row-rewritten S (starts S (setTxn t s noTxn)) (λ x vs. vs) v ended-room (g .versionsExact);
+      }
+
+  -- ---- an update's commit
+  module _ (update : T (liveUpdate (txn (G .txns) s))) where
+    abbrev c : ℕ
+    c = clock t + 1
+
+    abbrev t′ : List ℕ
+    t′ = setTxn (set t 1 c) s noTxn
+
+    abbrev l : List ℕ
+    l = G .locks
+
+    size′ : length (set t 1 c) ≡ txnWords S
+    size′ = length-set t 1 c ∙ g .txnsExact
+
+    -- the committer is no query, so the queries are those of before
+    queries : starts S t′ ≡ starts S t
+    queries = starts-same t t′ (λ r. go r (same? r s)) S
+      where
+        go : (r : ℕ) → (r ≡ s) ⊎ (r ≢ s) → (txn t′ r ≡ txn t r) ⊎ ((liveQuery (txn t′ r) ≡ false) × (liveQuery (txn t r) ≡ false))
+        go r (inl e) =
+            inr (
+              ap (λ (m : ℕ). liveQuery (txn t′ m)) e ∙ ap liveQuery (txn-setTxn (set t 1 c) s noTxn S size′ inside) ∙ free-no-query,
+              ap (λ (m : ℕ). liveQuery (txn t m)) e ∙ is-false (liveQuery (txn t s)) (λ q. query-not-update t s q update),
+            )
+        go r (inr d) = inl (txn-setTxn-other (set t 1 c) s noTxn r d ∙ txn-top t 1 c r (omega arith))
+
+    pub committed-starts : starts S ((committed S s G) .txns) ≡ starts S (G .txns)
+    unfolding committed
+    committed-starts = queries
+
+    pub committed-room : length (starts S (G .txns)) < S .slots
+    committed-room = starts-lt S t s inside (is-false (liveQuery (txn t s)) (λ q. query-not-update t s q update))
+
+    room′ : length (starts S t′) < S .places
+    room′ = let a = committed-room in let b = left-starts S (set t 1 c) size′ s inside in omega arith
+
+    pub committed-versions :
+        (x : ℕ) → x < S .items
+        → versionsOf S ((committed S s G) .versions) x
+        ≡ kept (starts S (G .txns)) (withNew (G .locks) s (clock (G .txns) + 1) x (versionsOf S (G .versions) x))
+    unfolding committed
+    committed-versions x known =
+        versions-rewritten S (starts S t′) (withNew l s c) v room′ (g .versionsExact) x known
+        ∙ ap (λ (qs : List ℕ). kept qs (withNew l s c x (versionsOf S v x))) queries
+
+    rows : (x : ℕ) → x < S .items → row (versionRow S) x ((committed S s G) .versions) ≡ rowOf S (kept (starts S t) (withNew l s c x (versionsOf S v x)))
+    unfolding committed versionsOf
+    rows x known =
+        row-rewritten S (starts S t′) (withNew l s c) v room′ (g .versionsExact) x known
+        ∙ ap (λ (qs : List ℕ). rowOf S (kept qs (withNew l s c x (versionsIn (row (versionRow S) x v))))) queries
+
+    -- trimming a good row for the same queries takes nothing, and writing it back gives the same words
+    row-kept : (x : ℕ) → x < S .items → (T (holdsExclusive (lock l x) s) → ⊥) → row (versionRow S) x ((committed S s G) .versions) ≡ row (versionRow S) x v
+    unfolding withNew versionsOf
+    row-kept x known n =
+        let q : GoodVersions S t (row (versionRow S) x v) = g .versionsGood x known in
+        let r = row (versionRow S) x v in
+        rows x known
+        ∙ rw (is-false (holdsExclusive (lock l x) s) n)
+        (ap (rowOf S) (kept-fixed (starts S t) (versionsIn r) (Good→read S t r q))
+        ∙ rowOf-versionsIn S r (length-row (versionRow S) x (S .items) v (g .versionsExact) known) (q .countMost) (q .unused))
+
+    pub committed-changes : Committed S s G (committed S s G)
+    unfolding committed withNew
+    committed-changes =
+        record {
+          txns = top-changes S t (g .txnsExact) s inside 1 c (omega arith) noTxn;
+          locks = release-changes S s l (g .locksExact);
+          size = length-rewritten S (starts S t′) (withNew l s c) v room′ (g .versionsExact) ∙ sym (g .versionsExact);
+          written = λ x known a. rw (is-true (holdsExclusive (lock l x) s) a) at (rows x known);
+          others = λ x j known b n. row-words (versionRow S) x v ((committed S s G) .versions) (row-kept x known n) j b;
+        }

@@ -1,0 +1,250 @@
+-- Which words of the transactions and of the locks a begin, a wait, a grant, an abort write, and that no other word changes. Assumes nothing.
+use Prim.Native.Nat.{ℕ, zero, suc, _+_, _*_, _<_}
+use mathlib.Core.Path.{_≡_, refl, sym, ap, _∙_, subst}
+use mathlib.Core.Logic.{_≢_, _⊎_, inl, inr}
+use mathlib.Core.Bool.{false, _&&_, not}
+use mathlib.Core.List.{List}
+use native.Mathlib.Omega.{arith}
+use native.Mathlib.Nat.{add-zero}
+use lib.ListN.{length, getD, set, length-set}
+use lib.Seq.{getD-set-same, getD-set-other}
+use lib.Dec.{T, eqb, eqb→eq}
+use Rattle.names.specs.declared.Sizes.{Sizes}
+use Rattle.rules.specs.Words.{bit, withoutBit}
+use Rattle.rules.specs.Tables.{Tables, txnAt, txnWords, lockRow, lockWords, lastNumber, Txn, txn, setTxn, setAwaited, noTxn}
+use Rattle.rules.specs.Tables.{noLock, sharedLock, exclusiveLock, Lock, lock, setLock, holds, holdsShared, holdsExclusive, released, release}
+use Rattle.rules.specs.Good.{Good}
+use Rattle.rules.specs.Locks.{toRead, Decision, decision}
+use Rattle.rules.specs.Step.{begun, cleared, locked, aborted, awaitsOther, access, carriedOut, replaced, withTxns, withLocks}
+use Rattle.rules.proofs.Tests.{and-left, and-right, and-both, or-left, or-right, is-false, false-is, not-make, ne-make, same?}
+use Rattle.rules.proofs.Views.{length-setTxn, word-setTxn, txn-setTxn, setAwaited-same, lock-setLock, length-setLock, lock-release, length-release}
+use Rattle.rules.proofs.Decisions.{Cell, ownCell, newestCell, shareCell, readConflict, cell}
+
+-- ---- what is said of two lists of words, t before and t′ after
+-- word j is none of the five words of row s
+abbrev pub Elsewhere : ℕ → ℕ → Type 0
+Elsewhere s j = (j < txnAt s) ⊎ (txnAt s + 4 < j)
+
+-- row s is r afterwards, and no other word changes
+pub record RowChanged (s : ℕ) (r : Txn) (t t′ : List ℕ) : Type 0 where
+  pub size : length t′ ≡ length t
+  pub here : txn t′ s ≡ r
+  pub others : (j : ℕ) → Elsewhere s j → getD t′ j 0 ≡ getD t j 0
+
+-- word w is v and row s is r afterwards, and no other word changes
+pub record WordAndRowChanged (w v s : ℕ) (r : Txn) (t t′ : List ℕ) : Type 0 where
+  pub size : length t′ ≡ length t
+  pub word : getD t′ w 0 ≡ v
+  pub here : txn t′ s ≡ r
+  pub others : (j : ℕ) → j ≢ w → Elsewhere s j → getD t′ j 0 ≡ getD t j 0
+
+-- the awaited fields of row s are k and x afterwards, and no other word changes
+pub record AwaitedChanged (s k x : ℕ) (t t′ : List ℕ) : Type 0 where
+  pub size : length t′ ≡ length t
+  pub awaitedLock : getD t′ (txnAt s + 3) 0 ≡ k
+  pub awaitedItem : getD t′ (txnAt s + 4) 0 ≡ x
+  pub others : (j : ℕ) → j ≢ txnAt s + 3 → j ≢ txnAt s + 4 → getD t′ j 0 ≡ getD t j 0
+
+-- the lock of item x is h afterwards, and no other word changes
+pub record LockChanged (x : ℕ) (h : Lock) (l l′ : List ℕ) : Type 0 where
+  pub size : length l′ ≡ length l
+  pub here : lock l′ x ≡ h
+  pub others : (j : ℕ) → (j < lockRow * x) ⊎ (lockRow * x + 2 < j) → getD l′ j 0 ≡ getD l j 0
+
+-- every lock is without slot s afterwards, and a lock that s does not hold keeps every word
+pub record LocksReleased (S : Sizes) (s : ℕ) (l l′ : List ℕ) : Type 0 where
+  pub size : length l′ ≡ length l
+  pub each : (x : ℕ) → x < S .items → lock l′ x ≡ released s (lock l x)
+  pub others :
+      (x k : ℕ) → x < S .items → k < lockRow → (T (holds (lock l x) s) → ⊥) → getD l′ (lockRow * x + k) 0 ≡ getD l (lockRow * x + k) 0
+
+-- ---- rows of the transactions
+module _ (S : Sizes) (t : List ℕ) (exact : length t ≡ txnWords S) (s : ℕ) (inside : s < S .slots) where
+  elsewhere : (u : List ℕ) (r : Txn) (j : ℕ) → Elsewhere s j → getD (setTxn u s r) j 0 ≡ getD u j 0
+  elsewhere u r j (inl h) = word-setTxn u s r j (omega arith) (omega arith) (omega arith) (omega arith) (omega arith)
+  elsewhere u r j (inr h) = word-setTxn u s r j (omega arith) (omega arith) (omega arith) (omega arith) (omega arith)
+
+  pub setTxn-changes : (r : Txn) → RowChanged s r t (setTxn t s r)
+  setTxn-changes r = record { size = length-setTxn t s r; here = txn-setTxn t s r S exact inside; others = elsewhere t r }
+
+  -- with one of the two words before the rows
+  pub top-changes : (w v : ℕ) → w < 2 → (r : Txn) → WordAndRowChanged w v s r t (setTxn (set t w v) s r)
+  top-changes w v h r =
+      record {
+        size = length-setTxn (set t w v) s r ∙ length-set t w v;
+        word = elsewhere (set t w v) r w (inl (omega arith)) ∙ getD-set-same t w v 0 (omega arith);
+        here = txn-setTxn (set t w v) s r S (length-set t w v ∙ exact) inside;
+        others = λ j d e. elsewhere (set t w v) r j e ∙ getD-set-other t w j v 0 d;
+      }
+
+  pub setAwaited-changes : (k x : ℕ) → AwaitedChanged s k x t (setAwaited t s k x)
+  unfolding setAwaited
+  setAwaited-changes k x =
+      record {
+        size = simp length-set;
+        awaitedLock = rw (getD-set-other _ (txnAt s + 4) (txnAt s + 3) x 0 (omega arith)) (getD-set-same t (txnAt s + 3) k 0 (omega arith));
+        awaitedItem = getD-set-same (set t (txnAt s + 3) k) (txnAt s + 4) x 0 (simp length-set (omega arith));
+        others = λ j m n. getD-set-other (set t (txnAt s + 3) k) (txnAt s + 4) j x 0 n ∙ getD-set-other t (txnAt s + 3) j k 0 m;
+      }
+
+  pub cleared-changes : AwaitedChanged s noLock 0 t (cleared t s)
+  unfolding cleared
+  cleared-changes = setAwaited-changes noLock 0
+
+-- where nothing is awaited there is nothing to clear
+pub cleared-same : (t : List ℕ) (s : ℕ) → (txn t s) .awaitedLock ≡ noLock → (txn t s) .awaitedItem ≡ 0 → cleared t s ≡ t
+unfolding cleared
+cleared-same t s e f =
+    ap (λ (k : ℕ). setAwaited t s k 0) (sym e)
+    ∙ ap (λ (x : ℕ). setAwaited t s ((txn t s) .awaitedLock) x) (sym f)
+    ∙ setAwaited-same t s
+
+-- ---- locks
+pub setLock-changes :
+    (S : Sizes) (l : List ℕ) → length l ≡ lockWords S → (x : ℕ) → x < S .items → (h : Lock) → LockChanged x h l (setLock l x h)
+unfolding setLock
+setLock-changes S l e x known h =
+    record { size = length-setLock l x h; here = lock-setLock l x h S e known; others = out }
+  where
+    apart : (j : ℕ) → j ≢ 3 * x → j ≢ 3 * x + 1 → j ≢ 3 * x + 2 → getD (setLock l x h) j 0 ≡ getD l j 0
+    apart j a b c = rw (getD-set-other _ (3 * x + 2) j (h .working) 0 c, getD-set-other _ (3 * x + 1) j (h .exclusive) 0 b, getD-set-other _ (3 * x) j (h .shared) 0 a)
+
+    out : (j : ℕ) → (j < lockRow * x) ⊎ (lockRow * x + 2 < j) → getD (setLock l x h) j 0 ≡ getD l j 0
+    out j (inl b) = apart j (omega arith) (omega arith) (omega arith)
+    out j (inr b) = apart j (omega arith) (omega arith) (omega arith)
+
+-- a lock that s does not hold stays as it is
+pub released-other : (s : ℕ) (h : Lock) → (T (holds h s) → ⊥) → released s h ≡ h
+unfolding released withoutBit holds holdsShared
+released-other s h n =
+    let e : holdsExclusive h s ≡ false = is-false (holdsExclusive h s) (λ a. n (or-right (bit (h .shared) s) _ a)) in
+    let f : bit (h .shared) s ≡ false = is-false (bit (h .shared) s) (λ a. n (or-left (bit (h .shared) s) _ a)) in
+    rw (e, f)
+
+-- equal locks are equal words
+lock-word : (l l′ : List ℕ) (x k : ℕ) → k < lockRow → lock l′ x ≡ lock l x → getD l′ (lockRow * x + k) 0 ≡ getD l (lockRow * x + k) 0
+unfolding lock
+lock-word l l′ x zero b e = rw add-zero (ap (λ (h : Lock). h .shared) e)
+lock-word l l′ x (suc zero) b e = ap (λ (h : Lock). h .exclusive) e
+lock-word l l′ x (suc (suc zero)) b e = ap (λ (h : Lock). h .working) e
+lock-word l l′ x (suc (suc (suc k))) b e = absurd (omega arith)
+
+pub release-changes : (S : Sizes) (s : ℕ) (l : List ℕ) → length l ≡ lockWords S → LocksReleased S s l (release S s l)
+release-changes S s l e =
+    record {
+      size = length-release S s l e ∙ sym e;
+      each = lock-release S s l e;
+      others = λ x k i b n. lock-word l (release S s l) x k b (lock-release S s l e x i ∙ released-other s (lock l x) n);
+    }
+
+-- ---- the calls' own
+-- the row that a begin writes
+abbrev pub newcomer : Tables → ℕ → ℕ → Txn
+newcomer G k q = record { number = lastNumber (G .txns) + 1; kind = k; start = q; awaitedLock = noLock; awaitedItem = 0 }
+
+-- "The lowest free slot gets last number plus 1.": two places in the transactions, and nothing else at all
+pub record Begun (s k q : ℕ) (G G′ : Tables) : Type 0 where
+  pub txns : WordAndRowChanged 0 (lastNumber (G .txns) + 1) s (newcomer G k q) (G .txns) (G′ .txns)
+  pub locks : G′ .locks ≡ G .locks
+  pub versions : G′ .versions ≡ G .versions
+
+-- "A grant clears the awaited fields.", and the lock of item x is h
+pub record Locked (s x : ℕ) (h : Lock) (G G′ : Tables) : Type 0 where
+  pub txns : AwaitedChanged s noLock 0 (G .txns) (G′ .txns)
+  pub locks : LockChanged x h (G .locks) (G′ .locks)
+  pub versions : G′ .versions ≡ G .versions
+
+-- "Abort removes locks, working values and the row"
+pub record Aborted (S : Sizes) (s : ℕ) (G G′ : Tables) : Type 0 where
+  pub txns : RowChanged s noTxn (G .txns) (G′ .txns)
+  pub locks : LocksReleased S s (G .locks) (G′ .locks)
+  pub versions : G′ .versions ≡ G .versions
+
+module _ (S : Sizes) (G : Tables) (g : Good S G) (s : ℕ) (inside : s < S .slots) where
+  pub begun-changes : (k q : ℕ) → Begun s k q G (begun k q s G)
+  unfolding begun
+  begun-changes k q =
+      record {
+        txns = top-changes S (G .txns) (g .txnsExact) s inside 0 (lastNumber (G .txns) + 1) (omega arith) (newcomer G k q);
+        locks = refl;
+        versions = refl;
+      }
+
+  pub locked-changes : (x : ℕ) → x < S .items → (h : Lock) → Locked s x h G (locked s x h G)
+  unfolding locked
+  locked-changes x known h =
+      record {
+        txns = cleared-changes S (G .txns) (g .txnsExact) s inside;
+        locks = setLock-changes S (G .locks) (g .locksExact) x known h;
+        versions = refl;
+      }
+
+  pub aborted-changes : Aborted S s G (aborted S s G)
+  unfolding aborted
+  aborted-changes =
+      record {
+        txns = setTxn-changes S (G .txns) (g .txnsExact) s inside noTxn;
+        locks = release-changes S s (G .locks) (g .locksExact);
+        versions = refl;
+      }
+
+  -- ---- who holds an item and may call awaits nothing: its awaited lock would be the one that it has
+  module _ (x : ℕ) (known : x < S .items) where
+    -- a caller that passes test 6 awaits nothing or this very lock
+    awaits-this :
+        (k : ℕ) → awaitsOther (G .txns) s k x ≡ false
+        → ((txn (G .txns) s) .awaitedLock ≢ noLock → (txn (G .txns) s) .awaitedLock ≡ k → (txn (G .txns) s) .awaitedItem ≡ x → ⊥)
+        → cleared (G .txns) s ≡ G .txns
+    unfolding awaitsOther
+    awaits-this k e n = go (same? m noLock)
+      where
+        m : ℕ
+        m = (txn (G .txns) s) .awaitedLock
+
+        y : ℕ
+        y = (txn (G .txns) s) .awaitedItem
+
+        other : m ≢ noLock → T (eqb m k && eqb y x) → ⊥
+        other d t =
+            n d (eqb→eq m k (and-left (eqb m k) (eqb y x) t))
+            (eqb→eq y x (and-right (eqb m k) (eqb y x) t))
+
+        go : (m ≡ noLock) ⊎ (m ≢ noLock) → cleared (G .txns) s ≡ G .txns
+        go (inl z) = cleared-same (G .txns) s z (g .txnGood s inside .itemUnused z)
+        go (inr d) =
+            absurd (false-is e (and-both (not (eqb m noLock)) _ (ne-make m noLock d) (not-make (eqb m k && eqb y x) (other d))))
+
+    abbrev h : Lock
+    h = lock (G .locks) x
+
+    read-idle : T (holds (lock (G .locks) x) s) → awaitsOther (G .txns) s sharedLock x ≡ false → cleared (G .txns) s ≡ G .txns
+    read-idle a e =
+        awaits-this sharedLock e
+        (λ d q z. g .txnGood s inside .awaitsShared q (subst (λ (y : ℕ). T (holds (lock (G .locks) y) s)) (sym z) a))
+
+    write-idle : T (holdsExclusive (lock (G .locks) x) s) → awaitsOther (G .txns) s exclusiveLock x ≡ false → cleared (G .txns) s ≡ G .txns
+    write-idle a e =
+        awaits-this exclusiveLock e
+        (λ d q z. g .txnGood s inside .awaitsExclusive q (subst (λ (y : ℕ). T (holdsExclusive (lock (G .locks) y) s)) (sym z) a))
+
+    -- a granted read of an item that the caller holds leaves the very same tables
+    pub own-unchanged :
+        T (holds (lock (G .locks) x) s) → awaitsOther (G .txns) s sharedLock x ≡ false → (access S toRead s x 0 G) .after ≡ G
+    unfolding access carriedOut
+    own-unchanged a e = go (decision S toRead h s) (cell S G g x known s toRead)
+      where
+        same : withTxns G (cleared (G .txns) s) ≡ G
+        same = ap (withTxns G) (read-idle a e)
+
+        go : (d : Decision) → Cell S h s toRead d → (carriedOut S s sharedLock x 0 G d) .after ≡ G
+        go d (ownCell o) = same
+        go d (newestCell o) = same
+        go d (shareCell n b) = absurd (n a)
+        go d (readConflict n b) = absurd (n a)
+
+    -- and a granted write of one that it holds exclusively writes the working value alone
+    pub replace-unchanged :
+        (v : ℕ) → T (holdsExclusive (lock (G .locks) x) s) → awaitsOther (G .txns) s exclusiveLock x ≡ false
+        → locked s x (replaced (lock (G .locks) x) v) G ≡ withLocks G (G .txns) (setLock (G .locks) x (replaced (lock (G .locks) x) v))
+    unfolding locked
+    replace-unchanged v a e = ap (λ (t : List ℕ). withLocks G t (setLock (G .locks) x (replaced h v))) (write-idle a e)
