@@ -1,0 +1,68 @@
+-- Locks released item by item, from the first. Assumes nothing.
+use Prim.Native.Nat.{ℕ, zero, suc, _+_, _-_, _*_, _/_, _%_, _≤_, _<_}
+use mathlib.Core.Path.{_≡_, refl, sym, ap, _∙_, subst}
+use mathlib.Core.Logic.{_≢_, _⊎_, inl, inr}
+use mathlib.Core.List.{List}
+use native.Mathlib.Omega.{arith}
+use lib.ListN.{length, getD}
+use lib.Seq.{ext-getD}
+use Rattle.names.specs.Sizes.{base}
+use Rattle.names.specs.declared.Sizes.{Sizes}
+use Rattle.rules.specs.Tables.{lockRow, lockWords, Lock, lock, setLock, released, release}
+use Rattle.rules.proofs.Tests.{same?}
+use Rattle.rules.proofs.Views.{lock-setLock, lock-setLock-other, length-setLock, lock-release, length-release}
+
+-- two lock tables with the same locks are the same
+pub locks-same :
+    (S : Sizes) (l m : List ℕ) → length l ≡ lockWords S → length m ≡ lockWords S
+    → ((x : ℕ) → x < S .items → lock l x ≡ lock m x) → l ≡ m
+locks-same S l m e f h = ext-getD 0 l m (e ∙ sym f) (λ j b. word j (omega arith) (j % 3) refl)
+  where
+    at : (j : ℕ) → j < lockWords S → lock l (j / 3) ≡ lock m (j / 3)
+    at j b = h (j / 3) (omega arith)
+
+    word : (j : ℕ) → j < lockWords S → (k : ℕ) → j % 3 ≡ k → getD l j 0 ≡ getD m j 0
+    word j b zero q =
+        let p : lockRow * (j / 3) ≡ j = omega arith in
+        subst (λ (i : ℕ). getD l i 0 ≡ getD m i 0) p (unfold lock in (ap (λ (o : Lock). o .shared) (at j b)))
+    word j b (suc zero) q =
+        let p : lockRow * (j / 3) + 1 ≡ j = omega arith in
+        subst (λ (i : ℕ). getD l i 0 ≡ getD m i 0) p (unfold lock in (ap (λ (o : Lock). o .exclusive) (at j b)))
+    word j b (suc (suc zero)) q =
+        let p : lockRow * (j / 3) + 2 ≡ j = omega arith in
+        subst (λ (i : ℕ). getD l i 0 ≡ getD m i 0) p (unfold lock in (ap (λ (o : Lock). o .working) (at j b)))
+    word j b (suc (suc (suc k))) q = absurd (omega arith)
+
+-- the locks of the items below x are released, the others are as they were
+pub record Released (s : ℕ) (before after : List ℕ) (x : ℕ) : Type 0 where
+  pub within : x ≤ base .items
+  pub size : length after ≡ lockWords base
+  pub done : (y : ℕ) → y < x → lock after y ≡ released s (lock before y)
+  pub left : (y : ℕ) → x ≤ y → lock after y ≡ lock before y
+
+pub none-released : (s : ℕ) (l : List ℕ) → length l ≡ lockWords base → Released s l l 0
+none-released s l e = record { within = omega arith; size = e; done = λ y b. absurd (omega arith); left = λ y b. refl }
+
+pub one-released :
+    (s : ℕ) (before after : List ℕ) (x : ℕ) (h : Lock) → x < base .items → Released s before after x → h ≡ released s (lock after x)
+    → Released s before (setLock after x h) (x + 1)
+one-released s before after x h i r e =
+    record {
+      within = omega arith;
+      size = length-setLock after x h ∙ r .size;
+      done = λ y b. go y b (same? y x);
+      left = λ y b. lock-setLock-other after x h y (λ q. omega arith) ∙ r .left y (omega arith);
+    }
+  where
+    go : (y : ℕ) → y < x + 1 → (y ≡ x) ⊎ (y ≢ x) → lock (setLock after x h) y ≡ released s (lock before y)
+    go y b (inl q) =
+        subst (λ (z : ℕ). lock (setLock after x h) z ≡ released s (lock before z)) (sym q)
+        (lock-setLock after x h base (r .size) i ∙ e ∙ ap (released s) (r .left x (omega arith)))
+    go y b (inr d) = lock-setLock-other after x h y d ∙ r .done y (omega arith)
+
+pub all-released :
+    (s : ℕ) (before after : List ℕ) (x : ℕ) → length before ≡ lockWords base → base .items ≤ x → Released s before after x
+    → after ≡ release base s before
+all-released s before after x e b r =
+    locks-same base after (release base s before) (r .size) (length-release base s before e)
+    (λ y i. r .done y (omega arith) ∙ sym (lock-release base s before e y i))

@@ -1,0 +1,22 @@
+// Rows of the transaction table and of the lock table, read and written: the code that knows where
+// a word stands. Every function is proved equal to the rules' view of its row, and decides nothing.
+mod locks;
+mod txns;
+
+pub use locks::LockRow;
+pub use locks::lock_at;
+pub use locks::release;
+pub use locks::set_lock;
+pub use txns::Found;
+pub use txns::awaited_item;
+pub use txns::awaited_lock;
+pub use txns::begin;
+pub use txns::clock;
+pub use txns::free_slot;
+pub use txns::kind;
+pub use txns::last_number;
+pub use txns::leave;
+pub use txns::set_awaited;
+pub use txns::set_clock;
+pub use txns::slot_of;
+pub use txns::start;

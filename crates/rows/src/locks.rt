@@ -1,0 +1,81 @@
+// The lock table: a row of three for each item.
+use names::ITEMS;
+use names::Item;
+use names::Slot;
+ghost use mathlib.Core.Path.{_≡_};
+ghost use Prim.Native.Nat.{_<_};
+ghost use lib.ListN.{length};
+ghost use Rattle.names.specs.Sizes.{base};
+ghost use Rattle.rules.specs.Tables.{lockWords, lock, setLock, released, release};
+ghost use Rattle.rows.specs.Founds.{lockOf};
+
+// The words of a lock: shared holders (bit i for slot i), exclusive holder (slot plus 1, 0 for
+// none), working value.
+pub struct LockRow {
+    pub shared: u64,
+    pub exclusive: u64,
+    pub working: u64,
+}
+
+const ROW: usize = 3;
+
+// The lock of an item.
+pub fn lock_at(locks: &[u64], item: Item) -> LockRow
+    requires { ⌜ (length (now locks) ≡ lockWords base) × (item .0 < base .items) ⌝ }
+    ensures { λ r. ⌜ lockOf r ≡ lock (now (locks .entry)) (item .0) ⌝ }
+{
+    let x = item.0;
+    let at = ROW * (x as usize);
+    LockRow {
+        shared: locks[at],
+        exclusive: locks[at + 1],
+        working: locks[at + 2],
+    }
+}
+
+// The lock of an item, written.
+pub fn set_lock(locks: &mut [u64], item: Item, row: LockRow)
+    requires { ⌜ (length (now locks) ≡ lockWords base) × (item .0 < base .items) ⌝ }
+    ensures { λ _. ⌜ now (locks .exit) ≡ setLock (now (locks .entry)) (item .0) (lockOf row) ⌝ }
+{
+    let x = item.0;
+    let at = ROW * (x as usize);
+    locks[at] = row.shared;
+    locks[at + 1] = row.exclusive;
+    locks[at + 2] = row.working;
+}
+
+// A lock without a slot.
+pub fn without(row: LockRow, slot: Slot) -> LockRow
+    requires { ⌜ slot .0 < base .slots ⌝ }
+    ensures { λ r. ⌜ lockOf r ≡ released (slot .0) (lockOf row) ⌝ }
+{
+    let s = slot.0;
+    let shared = row.shared - (((row.shared >> s) % 2) << s);
+    if row.exclusive == s + 1 {
+        LockRow {
+            shared,
+            exclusive: 0,
+            working: 0,
+        }
+    } else {
+        LockRow {
+            shared,
+            exclusive: row.exclusive,
+            working: row.working,
+        }
+    }
+}
+
+// All locks of a slot go.
+pub fn release(locks: &mut [u64], slot: Slot)
+    requires { ⌜ (length (now locks) ≡ lockWords base) × (slot .0 < base .slots) ⌝ }
+    ensures { λ _. ⌜ now (locks .exit) ≡ release base (slot .0) (now (locks .entry)) ⌝ }
+{
+    let mut x: u64 = 0;
+    while x < ITEMS {
+        let row = lock_at(&locks[..], Item(x));
+        set_lock(locks, Item(x), without(row, slot));
+        x += 1;
+    }
+}
