@@ -20,13 +20,13 @@ loop-holds : tie.Need-loop-holds Inv-loop μ-loop
 loop-holds c = none-released _ _ (c .before .pre .0)
 
 lock-at-requires : tie.Need-lock-at-requires Inv-loop μ-loop
-lock-at-requires c κs = (c .before .before .loop .inv .size, c .before .loop-test .taken)
+lock-at-requires c κs = (c .before .before .loop .inv .size, omega arith)
 
 without-requires : tie.Need-without-requires Inv-loop μ-loop
 without-requires c κs = c .before .before .before .before .before .before .pre .1
 
 set-lock-requires : tie.Need-set-lock-requires Inv-loop μ-loop
-set-lock-requires c κs = (c .before .before .before .before .before .loop .inv .size, c .before .before .before .before .loop-test .taken)
+set-lock-requires c κs = (c .before .before .before .before .before .loop .inv .size, omega arith)
 
 add-x : tie.Need-add-x Inv-loop μ-loop
 add-x c = search needs
@@ -40,7 +40,7 @@ loop-again c =
     let l = c .before .before .before .before .before .before .before .before .loop in
     let s = a .slot .0 in
     subst (λ (m : List ℕ). Released s (a .locks .now) m (l .x + 1)) (sym (c .before .before .set-lock .ensures))
-    (one-released s (a .locks .now) (l .locks) (l .x) _ (c .before .before .before .before .before .before .before .loop-test .taken) (l .inv)
+    (one-released s (a .locks .now) (l .locks) (l .x) _ (omega arith) (l .inv)
     (c .before .before .before .without .ensures ∙ ap (released s) (c .before .before .before .before .before .lock-at .ensures)))
 
 same-length : tie.Need-same-length Inv-loop μ-loop
