@@ -1,0 +1,2 @@
+-- Laws of the keeper's parts.
+pub mod Founds

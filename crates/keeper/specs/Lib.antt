@@ -1,0 +1,2 @@
+-- What the parts of the keeper are proved against, besides the rules.
+pub mod Verdicts
