@@ -1,0 +1,134 @@
+-- What is known of the tables once the rows and the locks passed. Assumes nothing.
+use Prim.Native.Nat.{ℕ, suc, _^_, _≤_, _<_}
+use mathlib.Core.Path.{_≡_, refl, sym, ap, _∙_, subst}
+use mathlib.Core.Logic.{_≢_, _⊎_, inl, inr}
+use mathlib.Core.Bool.{Bool, true, false, _&&_, _||_, not}
+use mathlib.Core.List.{List, []}
+use native.Mathlib.Omega.{arith}
+use lib.ListN.{length}
+use lib.Dec.{T, eqb, leb, eqb·zero-suc}
+use Rattle.names.specs.Sizes.{base}
+use Rattle.rules.specs.Words.{bit, implies, everyBelow}
+use Rattle.rules.specs.Tables.{Tables, tables, txnWords, lockWords, lastNumber, clock, Txn, txn, noTxn, live, liveUpdate, anUpdate, aQuery, noLock, sharedLock, exclusiveLock}
+use Rattle.rules.specs.Tables.{Lock, lock, holds, holdsShared, holdsExclusive}
+use Rattle.rules.specs.Good.{Good, GoodTxn, GoodLock}
+use Rattle.rules.specs.Tested.{topsMost, freeZero, listed, startGood, awaitedGood, awaiterGood, txnGood, lockGood}
+use Rattle.rules.proofs.Tests.{and-left, and-right, and-both, or-cases, or-right, not-make, implies-make, ne-make, false-is}
+use Rattle.rules.proofs.Counts.{everyBelow→, →everyBelow}
+use Rattle.rules.proofs.Bits.{bit-none}
+use Rattle.rules.proofs.EqualRows.{txn→Good, Good→txn, lock→Good, Good→lock, free-or-live, live-update, live-query}
+use Rattle.tables.specs.Shape.{rowGood, rowsGood, slotsThat, waits, waitingIn}
+use Rattle.tables.specs.Holding.{locksGood}
+use Rattle.tables.specs.Waiting.{Readable, Awaiting, awaitersGood}
+use Rattle.tables.proofs.Masks.{slots-at, slots-lt}
+
+-- ---- the rules' test of a row, in two parts
+and-out : (a b c d e f : Bool) → (a && (b && (c && (d && (e && f))))) ≡ ((a && (b && (c && (d && e)))) && f)
+and-out false b c d e f = refl
+and-out true false c d e f = refl
+and-out true true false d e f = refl
+and-out true true true false e f = refl
+and-out true true true true e f = refl
+
+pub row-parts : (t l : List ℕ) (s : ℕ) (r : Txn) → txnGood base t l s r ≡ (rowGood base t r && awaiterGood s r (lock l (r .awaitedItem)))
+unfolding txnGood rowGood
+row-parts t l s r = and-out (freeZero r) (leb (r .number) (lastNumber t)) (listed r) (startGood (clock t) r) (awaitedGood base r) (awaiterGood s r (lock l (r .awaitedItem)))
+
+-- nobody holds a lock in no words
+unheld : (s x : ℕ) → T (holds (lock [] x) s) → ⊥
+unfolding holds holdsShared holdsExclusive lock
+unheld s x h = go (or-cases (bit 0 s) _ h)
+  where
+    go : T (bit 0 s) ⊎ T (eqb 0 (suc s)) → ⊥
+    go (inl k) = false-is (bit-none s) k
+    go (inr k) = false-is (eqb·zero-suc s) k
+
+-- so a row that passes alone is good without locks
+pub row→Good : (t : List ℕ) (s : ℕ) (r : Txn) → T (rowGood base t r) → GoodTxn base t [] s r
+unfolding awaiterGood holds
+row→Good t s r h =
+    txn→Good base t [] s r
+    (subst T (sym (row-parts t [] s r))
+    (and-both (rowGood base t r) _ h
+    (and-both (implies (eqb (r .awaitedLock) sharedLock) (not (holds (lock [] (r .awaitedItem)) s))) _
+    (implies-make (eqb (r .awaitedLock) sharedLock) _ (λ e. not-make (holds (lock [] (r .awaitedItem)) s) (unheld s (r .awaitedItem))))
+    (implies-make (eqb (r .awaitedLock) exclusiveLock) _ (λ e. not-make (holdsExclusive (lock [] (r .awaitedItem)) s) (λ k. unheld s (r .awaitedItem) (both k)))))))
+  where
+    both : T (holdsExclusive (lock [] (r .awaitedItem)) s) → T (holds (lock [] (r .awaitedItem)) s)
+    both k = or-right (holdsShared (lock [] (r .awaitedItem)) s) _ k
+
+-- who awaits a lock is a live update
+pub awaits-live : (t : List ℕ) (s : ℕ) (r : Txn) → GoodTxn base t [] s r → r .awaitedLock ≢ noLock → T (waits r)
+unfolding waits
+awaits-live t s r g d = and-both (liveUpdate r) _ (go (free-or-live r)) (ne-make (r .awaitedLock) noLock d)
+  where
+    kind : T (live r) → (r .kind ≡ anUpdate) ⊎ (r .kind ≡ aQuery) → T (liveUpdate r)
+    kind a (inl e) = live-update r a e
+    kind a (inr e) = absurd (d (g .queryIdle (live-query r a e)))
+
+    go : (r .number ≡ 0) ⊎ T (live r) → T (liveUpdate r)
+    go (inl e) = absurd (d (ap (λ (q : Txn). q .awaitedLock) (g .free e)))
+    go (inr a) = kind a (g .kindListed)
+
+-- ---- all rows and all locks
+module _ (t : List ℕ) (h : T (rowsGood base t)) where
+  row-at : (s : ℕ) → s < base .slots → GoodTxn base t [] s (txn t s)
+  unfolding rowsGood
+  row-at s i = row→Good t s (txn t s) (everyBelow→ (base .slots) (λ s. rowGood base t (txn t s)) (and-right (topsMost t) _ h) s i)
+
+  pub awaiting : Awaiting t (waitingIn base t)
+  unfolding waitingIn
+  awaiting =
+      record {
+        small = slots-lt (base .slots) (λ s. waits (txn t s));
+        all = λ s i d. subst T (sym (slots-at (base .slots) (λ s. waits (txn t s)) s i)) (awaits-live t s (txn t s) (row-at s i) d);
+      }
+
+  pub readable : (l : List ℕ) → length t ≡ txnWords base → length l ≡ lockWords base → T (locksGood base t l) → Readable t l
+  unfolding locksGood
+  readable l zt zl k =
+      record {
+        txnsExact = zt;
+        locksExact = zl;
+        lockListed = λ s i. row-at s i .lockListed;
+        itemKnown = λ s i. row-at s i .itemKnown;
+        inside = λ x i b a. lock→Good base t (lock l x) (everyBelow→ (base .items) (λ x. lockGood base t (lock l x)) k x i) .holders b a .0;
+      }
+
+-- good tables can be read
+pub good-readable : (t l v : List ℕ) → Good base (tables t l v) → Readable t l
+good-readable t l v g =
+    record {
+      txnsExact = g .txnsExact;
+      locksExact = g .locksExact;
+      lockListed = λ s i. g .txnGood s i .lockListed;
+      itemKnown = λ s i. g .txnGood s i .itemKnown;
+      inside = λ x i b a. g .lockGood x i .holders b a .0;
+    }
+
+-- ---- the results of the parts are the clauses of Good
+pub rows→Good : (t l : List ℕ) → T (rowsGood base t) → T (awaitersGood base t l) → (s : ℕ) → s < base .slots → GoodTxn base t l s (txn t s)
+unfolding rowsGood awaitersGood
+rows→Good t l h a s i =
+    txn→Good base t l s (txn t s)
+    (subst T (sym (row-parts t l s (txn t s)))
+    (and-both (rowGood base t (txn t s)) _
+    (everyBelow→ (base .slots) (λ s. rowGood base t (txn t s)) (and-right (topsMost t) _ h) s i)
+    (everyBelow→ (base .slots) (λ s. awaiterGood s (txn t s) (lock l ((txn t s) .awaitedItem))) a s i)))
+
+pub Good→rows : (t l : List ℕ) → T (topsMost t) → ((s : ℕ) → s < base .slots → GoodTxn base t l s (txn t s)) → T (rowsGood base t) × T (awaitersGood base t l)
+unfolding rowsGood awaitersGood
+Good→rows t l h g =
+    (and-both (topsMost t) _ h (→everyBelow (base .slots) (λ s. rowGood base t (txn t s)) (λ s i. and-left (rowGood base t (txn t s)) _ (both s i))),
+    →everyBelow (base .slots) (λ s. awaiterGood s (txn t s) (lock l ((txn t s) .awaitedItem))) (λ s i. and-right (rowGood base t (txn t s)) _ (both s i)))
+  where
+    both : (s : ℕ) → s < base .slots → T (rowGood base t (txn t s) && awaiterGood s (txn t s) (lock l ((txn t s) .awaitedItem)))
+    both s i = subst T (row-parts t l s (txn t s)) (Good→txn base t l s (txn t s) (g s i))
+
+pub locks→Good : (t l : List ℕ) → T (locksGood base t l) → (x : ℕ) → x < base .items → GoodLock base t (lock l x)
+unfolding locksGood
+locks→Good t l h x i = lock→Good base t (lock l x) (everyBelow→ (base .items) (λ x. lockGood base t (lock l x)) h x i)
+
+pub Good→locks : (t l : List ℕ) → ((x : ℕ) → x < base .items → GoodLock base t (lock l x)) → T (locksGood base t l)
+unfolding locksGood
+Good→locks t l g = →everyBelow (base .items) (λ x. lockGood base t (lock l x)) (λ x i. Good→lock base t (lock l x) (g x i))

@@ -1,0 +1,92 @@
+-- The test of all tables, put together from what its parts say. Assumes nothing.
+use Prim.Native.Nat.{ℕ, _^_, _<_}
+use mathlib.Core.Path.{_≡_, refl, sym, ap, _∙_, subst}
+use mathlib.Core.Logic.{_≢_}
+use mathlib.Core.Bool.{Bool, true, false, _&&_}
+use mathlib.Core.List.{List}
+use lib.ListN.{length}
+use lib.Dec.{T, eqb, eqb→eq}
+use Rattle.names.specs.Sizes.{base}
+use Rattle.rules.specs.Words.{everyBelow, everyRow}
+use Rattle.rules.specs.Tables.{tables, txnWords, lockWords, versionWords, versionRow, clock, starts, txn, lock}
+use Rattle.rules.specs.Waits.{noCircle}
+use Rattle.rules.specs.Tested.{good, sizesExact, topsMost, txnGood, awaiterGood, distinct, lockGood, versionsGood}
+use Rattle.rules.proofs.Tests.{and-left, and-right, and-both, is-false, eq-make, true-is, false-is}
+use Rattle.rules.proofs.Counts.{everyBelow→, →everyBelow}
+use Rattle.versions.proofs.Zeros.{iff-eq}
+use Rattle.tables.specs.Shape.{rowGood, rowsGood}
+use Rattle.tables.specs.Holding.{locksGood}
+use Rattle.tables.specs.Waiting.{awaitersGood}
+use Rattle.tables.proofs.Reading.{row-parts}
+
+-- the test of the versions, as the rules make it
+abbrev pub versionsTest : List ℕ → List ℕ → Bool
+versionsTest t v = everyRow (base .items) (versionRow base) (λ x r. versionsGood base (clock t) (starts base t) r) 0 v
+
+-- what the parts say
+pub record Parts (t l v : List ℕ) : Type 0 where
+  pub txnsExact : length t ≡ txnWords base
+  pub locksExact : length l ≡ lockWords base
+  pub versionsExact : length v ≡ versionWords base
+  pub rows : T (rowsGood base t)
+  pub locks : T (locksGood base t l)
+  pub numbers : T (distinct base t)
+  pub awaiters : T (awaitersGood base t l)
+  pub free : T (noCircle base t l)
+  pub versions : T (versionsTest t v)
+
+module _ (t l v : List ℕ) where
+  abbrev rowTest : ℕ → Bool
+  rowTest s = txnGood base t l s (txn t s)
+
+  abbrev awaiterTest : ℕ → Bool
+  awaiterTest s = awaiterGood s (txn t s) (lock l ((txn t s) .awaitedItem))
+
+  pub parts : T (good base (tables t l v)) → Parts t l v
+  unfolding good sizesExact rowsGood locksGood awaitersGood
+  parts h =
+      let h₁ = and-right (sizesExact base (tables t l v)) _ h in
+      let h₂ = and-right (topsMost t) _ h₁ in
+      let h₃ = and-right (everyBelow (base .slots) rowTest) _ h₂ in
+      let h₄ = and-right (distinct base t) _ h₃ in
+      let h₅ = and-right (everyBelow (base .items) (λ x. lockGood base t (lock l x))) _ h₄ in
+      let a = and-left (sizesExact base (tables t l v)) _ h in
+      let b = and-right (eqb (length t) (txnWords base)) _ a in
+      let both : (s : ℕ) → s < base .slots → T (rowGood base t (txn t s) && awaiterTest s)
+      = λ s i. subst T (row-parts t l s (txn t s)) (everyBelow→ (base .slots) rowTest (and-left (everyBelow (base .slots) rowTest) _ h₂) s i) in
+      record {
+        txnsExact = eqb→eq (length t) (txnWords base) (and-left (eqb (length t) (txnWords base)) _ a);
+        locksExact = eqb→eq (length l) (lockWords base) (and-left (eqb (length l) (lockWords base)) _ b);
+        versionsExact = eqb→eq (length v) (versionWords base) (and-right (eqb (length l) (lockWords base)) _ b);
+        rows = and-both (topsMost t) _ (and-left (topsMost t) _ h₁) (→everyBelow (base .slots) (λ s. rowGood base t (txn t s)) (λ s i. and-left (rowGood base t (txn t s)) _ (both s i)));
+        locks = and-left (everyBelow (base .items) (λ x. lockGood base t (lock l x))) _ h₄;
+        numbers = and-left (distinct base t) _ h₃;
+        awaiters = →everyBelow (base .slots) awaiterTest (λ s i. and-right (rowGood base t (txn t s)) _ (both s i));
+        free = and-right (versionsTest t v) _ h₅;
+        versions = and-left (versionsTest t v) _ h₅;
+      }
+
+  pub whole : Parts t l v → T (good base (tables t l v))
+  unfolding good sizesExact rowsGood locksGood awaitersGood
+  whole p =
+      and-both (sizesExact base (tables t l v)) _
+      (and-both (eqb (length t) (txnWords base)) _ (eq-make (length t) (txnWords base) (p .txnsExact))
+      (and-both (eqb (length l) (lockWords base)) _ (eq-make (length l) (lockWords base) (p .locksExact)) (eq-make (length v) (versionWords base) (p .versionsExact))))
+      (and-both (topsMost t) _ (and-left (topsMost t) _ (p .rows))
+      (and-both (everyBelow (base .slots) rowTest) _
+      (→everyBelow (base .slots) rowTest (λ s i.
+      subst T (sym (row-parts t l s (txn t s)))
+      (and-both (rowGood base t (txn t s)) _
+      (everyBelow→ (base .slots) (λ s. rowGood base t (txn t s)) (and-right (topsMost t) _ (p .rows)) s i)
+      (everyBelow→ (base .slots) awaiterTest (p .awaiters) s i))))
+      (and-both (distinct base t) _ (p .numbers)
+      (and-both (everyBelow (base .items) (λ x. lockGood base t (lock l x))) _ (p .locks)
+      (and-both (versionsTest t v) _ (p .versions) (p .free))))))
+
+  -- one part that fails
+  pub fails : (Parts t l v → ⊥) → false ≡ good base (tables t l v)
+  fails f = sym (is-false (good base (tables t l v)) (λ h. f (parts h)))
+
+  -- every part but the versions passed: the versions decide
+  pub decides : {r : Bool} → r ≡ versionsTest t v → (T (versionsTest t v) → Parts t l v) → r ≡ good base (tables t l v)
+  decides e f = e ∙ iff-eq (versionsTest t v) (good base (tables t l v)) (λ x. whole (f x)) (λ x. parts x .versions)

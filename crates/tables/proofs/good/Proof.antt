@@ -1,0 +1,134 @@
+-- The test of all tables: each part that fails makes them bad, and where all others pass the versions decide. Assumes nothing.
+use Prim.Native.Nat.{ℕ, _^_, _<_}
+use mathlib.Core.Path.{_≡_, sym, ap, ap₂, _∙_, subst}
+use mathlib.Core.Logic.{⊎-elim}
+use mathlib.Core.Bool.{_&&_}
+use lib.Dec.{T}
+use borrow.Author.Tests.{not-true, not-false}
+use borrow.Author.Needs.{needs}
+use Rattle.names.specs.Sizes.{base}
+use Rattle.rules.specs.Tables.{starts}
+use Rattle.rules.specs.Tested.{distinct}
+use Rattle.rules.specs.Waits.{noCircle}
+use Rattle.rules.proofs.Tests.{and-left, and-right, and-both, true-is, false-is}
+use Rattle.tables.specs.declared.Seen.{Seen}
+use Rattle.tables.specs.Shape.{rowsGood, updatesIn, waitingIn}
+use Rattle.tables.specs.Holding.{locksGood}
+use Rattle.tables.specs.Waiting.{Readable, Awaiting, awaitersGood}
+use Rattle.tables.proofs.Holders.{updates-lt}
+use Rattle.tables.proofs.Reading.{awaiting, readable}
+use Rattle.tables.proofs.Rounds.{none-awaits, none-circles}
+use Rattle.tables.proofs.Whole.{fails, decides}
+use Rattle.tables.proofs.good.Statement.{statement}
+use Rattle.tables.proofs.good.Tie as tie
+
+returns : tie.Need-returns
+returns c = fails _ _ _ (λ p. c .if1 .taken (p .txnsExact))
+
+returns-2 : tie.Need-returns-2
+returns-2 c = fails _ _ _ (λ p. c .if2 .taken (p .locksExact))
+
+returns-3 : tie.Need-returns-3
+returns-3 c = fails _ _ _ (λ p. c .if3 .taken (p .versionsExact))
+
+rows-requires : tie.Need-rows-requires
+rows-requires c κs = search needs
+
+returns-4 : tie.Need-returns-4
+returns-4 c = fails _ _ _ (λ p. false-is (sym (ap (λ (s : Seen). s .ok) (c .before .rows .ensures)) ∙ not-true _ (c .if4 .taken)) (p .rows))
+
+-- the rows passed
+rows-pass : (c : tie.Else4) → T (rowsGood base (c .before .before .before .before .before .before .before .before .args .txns .now))
+rows-pass c = true-is (sym (ap (λ (s : Seen). s .ok) (c .before .rows .ensures)) ∙ not-false _ (c .if4 .left))
+
+locks-pass-requires : tie.Need-locks-pass-requires
+locks-pass-requires c κs = (c .before .before .before .if2 .left, subst (λ (u : ℕ). u < 2 ^ base .slots) (sym (ap (λ (s : Seen). s .updates) (c .before .rows .ensures))) (updates-lt (c .before .before .before .before .before .before .before .before .args .txns .now)))
+
+returns-5 : tie.Need-returns-5
+returns-5 c = fails _ _ _ (λ p. false-is (sym (c .before .locks-pass .ensures _ (ap (λ (s : Seen). s .updates) (c .before .before .before .rows .ensures))) ∙ not-true _ (c .if5 .taken)) (p .locks))
+
+-- and the locks, so the waits can be read
+locks-passed : (c : tie.Else5) → T (locksGood base (c .before .before .before .before .before .before .before .before .before .before .args .txns .now) (c .before .before .before .before .before .before .before .before .before .before .args .locks .now))
+locks-passed c =
+    true-is
+    (sym (c .before .locks-pass .ensures (c .before .before .before .before .before .before .before .before .before .before .args .txns .now) (ap (λ (s : Seen). s .updates) (c .before .before .before .rows .ensures))) ∙ not-false _ (c .if5 .left))
+
+readable-here : (c : tie.Else5) → Readable (c .before .before .before .before .before .before .before .before .before .before .args .txns .now) (c .before .before .before .before .before .before .before .before .before .before .args .locks .now)
+readable-here c =
+    readable (c .before .before .before .before .before .before .before .before .before .before .args .txns .now) (rows-pass (c .before .before)) (c .before .before .before .before .before .before .before .before .before .before .args .locks .now) (c .before .before .before .before .before .before .if1 .left) (c .before .before .before .before .before .if2 .left) (locks-passed c)
+
+distinct-requires : tie.Need-distinct-requires
+distinct-requires c κs = search needs
+
+returns-6 : tie.Need-returns-6
+returns-6 c = fails _ _ _ (λ p. false-is (sym (c .before .distinct .ensures) ∙ not-true _ (c .if6 .taken)) (p .numbers))
+
+waits-pass-requires : tie.Need-waits-pass-requires
+waits-pass-requires c κs = 
+    let e = ap (λ (s : Seen). s .waiting) (c .before .before .before .before .before .before .rows .ensures) in
+    (readable-here (c .before .before .before), subst (λ (u : ℕ). Awaiting (c .before .before .before .before .before .before .before .before .before .before .before .before .before .args .txns .now) u) (sym e) (awaiting (c .before .before .before .before .before .before .before .before .before .before .before .before .before .args .txns .now) (rows-pass (c .before .before .before .before .before))))
+
+returns-7 : tie.Need-returns-7
+returns-7 c = 
+    fails _ _ _ (λ p. false-is (sym (c .before .waits-pass .ensures) ∙ not-true _ (c .if8 .taken)) (and-both (awaitersGood base _ _) _ (p .awaiters) (p .free)))
+
+starts-in-order-requires : tie.Need-starts-in-order-requires
+starts-in-order-requires c κs = search needs
+
+shared-slice-read-all-good : tie.Need-shared-slice-read-all-good
+shared-slice-read-all-good c = search needs
+
+slice-aggregate-all-good : tie.Need-slice-aggregate-all-good
+slice-aggregate-all-good c = search needs
+
+all-good-requires : tie.Need-all-good-requires
+all-good-requires c κs = search needs
+
+returns-8 : tie.Need-returns-8
+returns-8 c = 
+    let t = c .before .before .before .before .before .before .before .before .before .before .before .before .before .before .before .before .before .args .txns .now in
+    let l = c .before .before .before .before .before .before .before .before .before .before .before .before .before .before .before .before .before .args .locks .now in
+    let rows = rows-pass (c .before .before .before .before .before .before .before .before .before) in
+    let locks = locks-passed (c .before .before .before .before .before .before .before) in
+    let can = readable-here (c .before .before .before .before .before .before .before) in
+    let waits : T (awaitersGood base t l && noCircle base t l) =
+        ⊎-elim
+        (λ w. true-is (sym (w .1 .ensures) ∙ not-false _ (w .2 .left)))
+        (λ w.
+        let none : Awaiting t 0 = subst (λ (u : ℕ). Awaiting t u) (sym (ap (λ (s : Seen). s .waiting) (c .before .before .before .before .before .before .before .before .before .before .rows .ensures)) ∙ w .left) (awaiting t rows) in
+        and-both (awaitersGood base t l) _ (none-awaits t l can none) (none-circles t l can none))
+        (c .before .before .before .before .if7 .came) in
+    decides t l (c .before .before .before .before .before .before .before .before .before .before .before .before .before .before .before .before .before .args .versions .now) (c .all-good .ensures (starts base t) (c .before .before .before .starts-in-order .ensures))
+    (λ x.
+    record {
+      txnsExact = c .before .before .before .before .before .before .before .before .before .before .before .before .before .if1 .left;
+      locksExact = c .before .before .before .before .before .before .before .before .before .before .before .before .if2 .left;
+      versionsExact = c .before .before .before .before .before .before .before .before .before .before .before .if3 .left;
+      rows = rows;
+      locks = locks;
+      numbers = true-is (sym (c .before .before .before .before .before .before .distinct .ensures) ∙ not-false _ (c .before .before .before .before .before .if6 .left));
+      awaiters = and-left (awaitersGood base t l) _ waits;
+      free = and-right (awaitersGood base t l) _ waits;
+      versions = x;
+    })
+
+pub good-spec : {M : Type 1} → statement M
+good-spec =
+    tie.close
+    (tie.spec
+    returns
+    returns-2
+    returns-3
+    rows-requires
+    returns-4
+    locks-pass-requires
+    returns-5
+    distinct-requires
+    returns-6
+    waits-pass-requires
+    returns-7
+    starts-in-order-requires
+    shared-slice-read-all-good
+    slice-aggregate-all-good
+    all-good-requires
+    returns-8)

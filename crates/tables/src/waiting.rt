@@ -1,0 +1,75 @@
+// The waits: whom each slot waits for, and that who awaits a lock does not hold it already.
+ghost use mathlib.Core.Path.{_≡_};
+ghost use mathlib.Core.Bool.{_&&_};
+ghost use Prim.Native.Nat.{ℕ, _<_, _≤_, _^_};
+ghost use Rattle.names.specs.Sizes.{base};
+ghost use Rattle.rules.specs.Waits.{noCircle};
+ghost use Rattle.tables.specs.Waiting.{Readable, Awaiting, Blockers, Links, awaitersGood, awaiterOk};
+use super::LOCK;
+use super::ROW;
+use super::SLOTS;
+use super::TOPS;
+use super::Waiters;
+
+// Who awaits a lock does not hold it exclusively, nor shared if it is a shared one.
+fn awaiter_ok(shared: u64, exclusive: u64, wanted: u64, slot: u64) -> bool
+    requires { ⌜ slot < base .slots ⌝ }
+    ensures { λ r. ⌜ r ≡ awaiterOk shared exclusive wanted slot ⌝ }
+{
+    !(exclusive == slot + 1) & (!(wanted == 1) | ((shared >> slot) % 2 == 0))
+}
+
+// The word of the slots other than `slot` whose hold on a lock conflicts with a request by `slot`
+// for a lock of kind `wanted` (1 shared, 2 exclusive); `shared` and `exclusive` say who holds it.
+pub fn blockers(shared: u64, exclusive: u64, wanted: u64, slot: u64) -> u64
+    requires { ⌜ (shared < 2 ^ base .slots) × (exclusive ≤ base .slots) × (slot < base .slots) ⌝ }
+    ensures { λ r. ⌜ ((working : ℕ) → Blockers (record { shared = shared; exclusive = exclusive; working = working }) wanted slot r) ⌝ }
+{
+    let mut all: u64 = 0;
+    if exclusive != 0 {
+        all = 1 << (exclusive - 1);
+    }
+    if wanted == 2 {
+        all = all | shared;
+    }
+    all ^ (all & (1 << slot))
+}
+
+// One pass over the rows that await a lock: whether each may, and whom each slot waits for.
+pub fn waits(txns: &[u64], locks: &[u64]) -> Waiters
+    requires { ⌜ Readable (now txns) (now locks) ⌝ }
+    ensures { λ r. ⌜ (r .ok ≡ awaitersGood base (now (txns .entry)) (now (locks .entry))) × Links (now (txns .entry)) (now (locks .entry)) (r .links) ⌝ }
+{
+    let mut links = [0u64; SLOTS];
+    let mut ok = true;
+    let mut slot: usize = 0;
+    while slot < SLOTS {
+        let at = TOPS + ROW * slot;
+        let wanted = txns[at + 3];
+        if wanted != 0 {
+            let item = txns[at + 4] as usize;
+            let shared = locks[LOCK * item];
+            let exclusive = locks[LOCK * item + 1];
+            let waiter = slot as u64;
+            ok = awaiter_ok(shared, exclusive, wanted, waiter) & ok;
+            links[slot] = blockers(shared, exclusive, wanted, waiter);
+        }
+        slot += 1;
+    }
+    Waiters {
+        ok,
+        links,
+    }
+}
+
+// Whether each who awaits a lock may, and nobody waits in a circle; `waiting` holds those who await.
+pub fn waits_pass(txns: &[u64], locks: &[u64], waiting: u64) -> bool
+    requires { ⌜ Readable (now txns) (now locks) × Awaiting (now txns) waiting ⌝ }
+    ensures { λ r. ⌜ r ≡ (awaitersGood base (now (txns .entry)) (now (locks .entry)) && noCircle base (now (txns .entry)) (now (locks .entry))) ⌝ }
+{
+    let seen = waits(txns, locks);
+    let ok = seen.ok;
+    let links = seen.links;
+    let free = circles::no_circle(&links, waiting);
+    ok & free
+}

@@ -1,0 +1,57 @@
+-- A row that is sound, rewritten with a new version and without, and the rows that an update writes. Assumes nothing.
+use Prim.Native.Nat.{ℕ, _+_, _*_, _<_, _≤_}
+use mathlib.Core.Path.{_≡_, refl, sym, ap, _∙_, subst, fun-ext}
+use mathlib.Core.List.{List, _∷_}
+use native.Mathlib.Omega.{arith}
+use native.Mathlib.Numerals.{add-one}
+use lib.ListN.{getD, length, drop}
+use lib.Dec.{eqb}
+use Rattle.names.specs.Sizes.{base}
+use Rattle.rules.specs.Tables.{lockRow, lock, holdsExclusive}
+use Rattle.rules.specs.Versions.{Version, versionsIn, stampAt, kept}
+use Rattle.rules.specs.Good.{GoodVersions}
+use Rattle.rules.specs.Step.{withNew}
+use Rattle.rules.proofs.Choice.{Falls}
+use Rattle.versions.specs.Ordered.{guard}
+use Rattle.versions.specs.Written.{readAfter, fronted, claimed, Few, Sound}
+use Rattle.versions.proofs.Read.{pairAt}
+use Rattle.versions.proofs.Keep.{kept-is, kept-room, falls-new, first-in}
+
+-- a good row is sound
+pub good-sound : (t r : List ℕ) → GoodVersions base t r → Sound r
+good-sound t r g = record { least = g .countLeast; most = g .countMost; fall = g .fall }
+
+module _ (qs q r : List ℕ) (few : Few qs q) (sound : Sound r) where
+  module _ (stamp value : ℕ) (low : stamp ≤ guard) (newer : stampAt (versionsIn r) 0 < stamp) where
+    abbrev new : Version
+    new = record { stamp = stamp; value = value }
+
+    new-falls : Falls (new ∷ versionsIn r)
+    unfolding Falls
+    new-falls = falls-new new (versionsIn r) (sound .fall) (λ h. newer)
+
+    pub new-kept : kept qs (record { stamp = stamp; value = value } ∷ versionsIn r) ≡ record { stamp = stamp; value = value } ∷ readAfter q stamp (versionsIn r)
+    new-kept = kept-is qs q (few .order) new (versionsIn r) new-falls low
+
+    pub new-room : length (readAfter q stamp (versionsIn r)) < base .places
+    new-room = kept-room qs q (few .order) new (versionsIn r) new-falls low (few .few)
+
+  module _ (low : getD r 1 0 ≤ guard) where
+    old-falls : Falls (pairAt r 0 ∷ drop 1 (versionsIn r))
+    unfolding Falls
+    old-falls = subst Falls (first-in r (sound .least)) (sound .fall)
+
+    pub old-kept : kept qs (versionsIn r) ≡ pairAt r 0 ∷ readAfter q (getD r 1 0) (drop 1 (versionsIn r))
+    old-kept =
+        ap (kept qs) (first-in r (sound .least))
+        ∙ kept-is qs q (few .order) (pairAt r 0) (drop 1 (versionsIn r)) old-falls low
+
+    pub old-room : length (readAfter q (getD r 1 0) (drop 1 (versionsIn r))) < base .places
+    old-room = kept-room qs q (few .order) (pairAt r 0) (drop 1 (versionsIn r)) old-falls low (few .few)
+
+-- the working values that a commit puts in front
+pub claimed-is : (l : List ℕ) (s c : ℕ) → claimed l (s + 1) c ≡ withNew l s c
+unfolding withNew holdsExclusive lock
+claimed-is l s c =
+    fun-ext λ x. fun-ext λ vs.
+    ap (λ (n : ℕ). fronted (eqb (getD l (lockRow * x + 1) 0) n) c (getD l (lockRow * x + 2) 0) vs) (add-one s)

@@ -1,0 +1,28 @@
+-- The value of the first pair of the row. Assumes nothing.
+use borrow.Author.Needs.{needs}
+use native.Mathlib.Omega.{arith}
+use Rattle.rules.specs.Versions.{newest}
+use Rattle.versions.proofs.Walked.{value-word}
+use Rattle.versions.proofs.choose.newest.Statement.{statement}
+use Rattle.versions.proofs.choose.newest.Tie as tie
+
+mul-a : tie.Need-mul-a
+mul-a c = search needs
+
+add-result : tie.Need-add-result
+add-result c = search needs
+
+mul-result : tie.Need-mul-result
+mul-result c = search needs
+
+shared-slice-read-result : tie.Need-shared-slice-read-result
+shared-slice-read-result c = search needs
+
+returns : tie.Need-returns
+unfolding newest
+returns c =
+    let a = c .before .args in
+    value-word (a .versions .now) (a .item .0) 0 (let h = c .before .pre .2 in omega arith) (omega arith)
+
+pub newest-spec : {M : Type 1} → statement M
+newest-spec = tie.close (tie.spec mul-a add-result mul-result shared-slice-read-result returns)

@@ -1,0 +1,136 @@
+-- The zero words behind m pairs, in two parts. Assumes nothing.
+use borrow.Author.Needs.{needs}
+use mathlib.Core.Path.{_≡_, sym, ap, ap₂, _∙_}
+use Prim.Native.Nat.{ℕ, _-_, _+_, _*_}
+use mathlib.Core.Bool.{_&&_}
+use native.Mathlib.Omega.{arith}
+use Rattle.versions.specs.Rows.{pairsWide, zeroWords, unusedOk}
+use Rattle.versions.proofs.Zeros.{zero-split}
+use Rattle.versions.proofs.test.unused_ok.Statement.{statement}
+use Rattle.versions.proofs.test.unused_ok.Tie as tie
+
+mul-if1 : tie.Need-mul-if1
+mul-if1 c = search needs
+
+mul-zeros : tie.Need-mul-zeros
+mul-zeros c = search needs
+
+add-zeros : tie.Need-add-zeros
+add-zeros c = search needs
+
+mul-zeros-2 : tie.Need-mul-zeros-2
+mul-zeros-2 c = search needs
+
+sub-zeros : tie.Need-sub-zeros
+sub-zeros c = search needs
+
+zeros-requires : tie.Need-zeros-requires
+zeros-requires c κs = search needs
+
+add-zeros-2 : tie.Need-add-zeros-2
+add-zeros-2 c = search needs
+
+sub-zeros-2 : tie.Need-sub-zeros-2
+sub-zeros-2 c = search needs
+
+zeros-requires-2 : tie.Need-zeros-requires-2
+zeros-requires-2 c κs = search needs
+
+returns : tie.Need-returns
+unfolding unusedOk
+returns c =
+    let m = c .before .before .before .before .args .m in
+    let r = c .before .before .before .before .args .row .now in
+    let a : (8 - m * 2) + (pairsWide - 8) ≡ pairsWide - m * 2 = omega arith in
+    let b : 1 + m * 2 + (8 - m * 2) ≡ 9 = omega arith in
+    ap₂ _&&_ (c .before .zeros .ensures) (c .zeros2 .ensures ∙ ap (λ (n : ℕ). zeroWords r n (pairsWide - 8)) (sym b))
+    ∙ sym (zero-split r (1 + m * 2) (8 - m * 2) (pairsWide - 8))
+    ∙ ap (zeroWords r (1 + m * 2)) a
+
+mul-if2 : tie.Need-mul-if2
+mul-if2 c = search needs
+
+mul-zeros-3 : tie.Need-mul-zeros-3
+mul-zeros-3 c = search needs
+
+add-zeros-3 : tie.Need-add-zeros-3
+add-zeros-3 c = search needs
+
+mul-zeros-4 : tie.Need-mul-zeros-4
+mul-zeros-4 c = search needs
+
+sub-zeros-3 : tie.Need-sub-zeros-3
+sub-zeros-3 c = search needs
+
+zeros-requires-3 : tie.Need-zeros-requires-3
+zeros-requires-3 c κs = search needs
+
+add-zeros-4 : tie.Need-add-zeros-4
+add-zeros-4 c = search needs
+
+sub-zeros-4 : tie.Need-sub-zeros-4
+sub-zeros-4 c = search needs
+
+zeros-requires-4 : tie.Need-zeros-requires-4
+zeros-requires-4 c κs = search needs
+
+returns-2 : tie.Need-returns-2
+unfolding unusedOk
+returns-2 c =
+    let m = c .before .before .before .before .before .args .m in
+    let r = c .before .before .before .before .before .args .row .now in
+    let a : (16 - m * 2) + (pairsWide - 16) ≡ pairsWide - m * 2 = omega arith in
+    let b : 1 + m * 2 + (16 - m * 2) ≡ 17 = omega arith in
+    ap₂ _&&_ (c .before .zeros3 .ensures) (c .zeros4 .ensures ∙ ap (λ (n : ℕ). zeroWords r n (pairsWide - 16)) (sym b))
+    ∙ sym (zero-split r (1 + m * 2) (16 - m * 2) (pairsWide - 16))
+    ∙ ap (zeroWords r (1 + m * 2)) a
+
+mul-zeros-5 : tie.Need-mul-zeros-5
+mul-zeros-5 c = search needs
+
+add-zeros-5 : tie.Need-add-zeros-5
+add-zeros-5 c = search needs
+
+mul-zeros-6 : tie.Need-mul-zeros-6
+mul-zeros-6 c = search needs
+
+sub-zeros-5 : tie.Need-sub-zeros-5
+sub-zeros-5 c = search needs
+
+zeros-requires-5 : tie.Need-zeros-requires-5
+zeros-requires-5 c κs = search needs
+
+returns-3 : tie.Need-returns-3
+unfolding unusedOk
+returns-3 c = c .zeros5 .ensures
+
+pub unused-ok-spec : {M : Type 1} → statement M
+unused-ok-spec =
+    tie.close
+    (tie.spec
+    mul-if1
+    mul-zeros
+    add-zeros
+    mul-zeros-2
+    sub-zeros
+    zeros-requires
+    add-zeros-2
+    sub-zeros-2
+    zeros-requires-2
+    returns
+    mul-if2
+    mul-zeros-3
+    add-zeros-3
+    mul-zeros-4
+    sub-zeros-3
+    zeros-requires-3
+    add-zeros-4
+    sub-zeros-4
+    zeros-requires-4
+    returns-2
+    mul-zeros-5
+    add-zeros-5
+    mul-zeros-6
+    sub-zeros-5
+    zeros-requires-5
+    returns-3)

@@ -1,0 +1,136 @@
+-- The rows passed are rewritten, with the working value in front where the slot holds the item exclusively. Assumes nothing.
+use borrow.Author.Needs.{needs}
+use mathlib.Core.Path.{_≡_, sym, ap, _∙_, subst}
+use Prim.Native.Nat.{ℕ, _≤_, _<_, _+_, _-_}
+use mathlib.Core.List.{List}
+use native.Mathlib.Omega.{arith}
+use lib.ListN.{length}
+use Rattle.names.specs.Sizes.{base}
+use Rattle.rules.specs.Versions.{Version, versionsIn, versionsOf, stampAt, rewritten}
+use Rattle.versions.specs.Written.{claimed, Few, Sound}
+use Rattle.versions.proofs.Lent.{length-row}
+use Rattle.versions.proofs.Renew.{claimed-is}
+use Rattle.versions.proofs.Table.{soFar, none-yet, all-done, length-soFar, row-soFar, one-more}
+use Rattle.versions.proofs.write.commit_all.Statement.{statement}
+use Rattle.versions.proofs.write.commit_all.Tie as tie
+
+abbrev Inv-loop : tie.InvT-loop
+Inv-loop versions₀ locks starts owner stamp i₀ versions i = (i ≤ base .items) × ((qs : List ℕ) → Few qs starts → versions ≡ soFar qs (claimed locks owner stamp) versions₀ i)
+
+abbrev μ-loop : tie.MeasureT-loop
+μ-loop versions₀ locks starts owner stamp i₀ versions i = base .items - i
+
+add-owner : tie.Need-add-owner Inv-loop μ-loop
+add-owner c = search needs
+
+loop-holds : tie.Need-loop-holds Inv-loop μ-loop
+loop-holds c = (omega arith, λ qs h. sym (none-yet qs _ (c .before .before .before .before .args .versions .now)))
+
+mul-new : tie.Need-mul-new Inv-loop μ-loop
+mul-new c = search needs
+
+add-new : tie.Need-add-new Inv-loop μ-loop
+add-new c = search needs
+
+mul-new-2 : tie.Need-mul-new-2 Inv-loop μ-loop
+mul-new-2 c = search needs
+
+shared-slice-read-new : tie.Need-shared-slice-read-new Inv-loop μ-loop
+shared-slice-read-new c = search needs
+
+mul-write-item : tie.Need-mul-write-item Inv-loop μ-loop
+mul-write-item c = search needs
+
+add-write-item : tie.Need-add-write-item Inv-loop μ-loop
+add-write-item c = search needs
+
+mul-write-item-2 : tie.Need-mul-write-item-2 Inv-loop μ-loop
+mul-write-item-2 c = search needs
+
+shared-slice-read-write-item : tie.Need-shared-slice-read-write-item Inv-loop μ-loop
+shared-slice-read-write-item c = search needs
+
+write-item-requires : tie.Need-write-item-requires Inv-loop μ-loop
+unfolding versionsOf
+write-item-requires c κs =
+    let a = c .before .before .before .before .before .before .before .before .before .args in
+    let v = a .versions .now in
+    let f = claimed (a .locks .now) (a .slot .0 + 1) (a .stamp .0) in
+    let p = c .before .before .before .before .before .before .before .before .before .pre .0 in
+    let i = c .before .before .before .before .loop .i in
+    let h = c .before .before .before .loop-test .taken in
+    let cur = c .before .before .before .before .loop .versions in
+    let e = c .before .before .before .before .loop .inv .1 (p .starts) (p .few) in
+    let l = ap length e ∙ length-soFar (p .starts) f v (p .few .few) (p .size) i (c .before .before .before .before .loop .inv .0) in
+    let r = row-soFar (p .starts) f v (p .few .few) (p .size) i h cur e in (
+      l,
+      h,
+      record {
+        size = length-row i cur l h;
+        sound = subst Sound (sym r) (p .rows i h);
+        newer = λ z. subst (λ (r : List ℕ). stampAt (versionsIn r) 0 < a .stamp .0) (sym r) (c .before .before .before .before .before .before .before .before .before .pre .3 i h);
+        starts = p .starts;
+        few = p .few;
+      },
+    )
+
+add-i : tie.Need-add-i Inv-loop μ-loop
+add-i c = search needs
+
+loop-less : tie.Need-loop-less Inv-loop μ-loop
+loop-less c = omega arith
+
+loop-again : tie.Need-loop-again Inv-loop μ-loop
+loop-again c =
+    let a = c .before .before .before .before .before .before .before .before .before .before .before .before .args in
+    let f = claimed (a .locks .now) (a .slot .0 + 1) (a .stamp .0) in
+    let p = c .before .before .before .before .before .before .before .before .before .before .before .before .pre .0 in
+    let l = c .before .before .before .before .before .before .before .loop in (
+      omega arith,
+      λ qs h. c .before .before .write-item .ensures qs h ∙ one-more qs f (a .versions .now) (h .few) (p .size) (l .i) (c .before .before .before .before .before .before .loop-test .taken) (l .versions) (l .inv .1 qs h),
+    )
+
+same-length : tie.Need-same-length Inv-loop μ-loop
+same-length c =
+    let a = c .before .before .before .before .before .before .args in
+    let f = claimed (a .locks .now) (a .slot .0 + 1) (a .stamp .0) in
+    let p = c .before .before .before .before .before .before .pre .0 in
+    let l = c .before .loop in
+    ap length (l .inv .1 (p .starts) (p .few))
+    ∙ length-soFar (p .starts) f (a .versions .now) (p .few .few) (p .size) (l .i) (l .inv .0)
+    ∙ sym (p .size)
+
+returns : tie.Need-returns Inv-loop μ-loop
+returns c =
+    let a = c .before .before .before .before .before .before .args in
+    let v = a .versions .now in
+    let f = claimed (a .locks .now) (a .slot .0 + 1) (a .stamp .0) in
+    let e : c .before .loop .i ≡ base .items = omega arith in
+    λ qs h.
+    c .before .loop .inv .1 qs h
+    ∙ ap (soFar qs f v) e
+    ∙ all-done qs f v
+    ∙ ap (λ (g : ℕ → List Version → List Version). rewritten base qs g v) (claimed-is (a .locks .now) (a .slot .0) (a .stamp .0))
+
+pub commit-all-spec : {M : Type 1} → statement M
+commit-all-spec =
+    tie.close
+    (tie.spec
+    Inv-loop
+    μ-loop
+    add-owner
+    loop-holds
+    mul-new
+    add-new
+    mul-new-2
+    shared-slice-read-new
+    mul-write-item
+    add-write-item
+    mul-write-item-2
+    shared-slice-read-write-item
+    write-item-requires
+    add-i
+    loop-less
+    loop-again
+    same-length
+    returns)

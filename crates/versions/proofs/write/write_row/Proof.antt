@@ -1,0 +1,24 @@
+-- The row holds the words that were packed. Assumes nothing.
+use borrow.Author.Needs.{needs}
+use mathlib.Core.Path.{_∙_}
+use Rattle.versions.proofs.write.write_row.Statement.{statement}
+use Rattle.versions.proofs.write.write_row.Tie as tie
+
+renewed-requires : tie.Need-renewed-requires
+renewed-requires c κs = search needs
+
+slice-aggregate-copy : tie.Need-slice-aggregate-copy
+slice-aggregate-copy c = search needs
+
+copy-requires : tie.Need-copy-requires
+copy-requires c κs = search needs
+
+same-length : tie.Need-same-length
+same-length c = search needs
+
+returns : tie.Need-returns
+returns c = λ qs h. c .before .before .copy .ensures ∙ c .before .before .before .before .before .renewed .ensures qs h
+
+pub write-row-spec : {M : Type 1} → statement M
+write-row-spec =
+    tie.close (tie.spec renewed-requires slice-aggregate-copy copy-requires same-length returns)

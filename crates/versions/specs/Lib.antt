@@ -1,0 +1,5 @@
+-- What the functions on the version table are proved against, besides the rules.
+pub mod Ordered
+pub mod Rows
+pub mod Found
+pub mod Written

@@ -1,0 +1,59 @@
+-- Rows as they are rewritten: which versions stay, and what must hold of a row, of the starts and of the table. Assumes nothing.
+use Prim.Native.Nat.{ℕ, _+_, _*_, _≤_, _<_}
+use mathlib.Core.Path.{_≡_}
+use mathlib.Core.Bool.{Bool, true, cond}
+use mathlib.Core.List.{List, [], _∷_, _++_}
+use lib.ListN.{getD, length, take, drop}
+use lib.Dec.{eqb}
+use Rattle.names.specs.Sizes.{base}
+use Rattle.rules.specs.Words.{row}
+use Rattle.rules.specs.Tables.{versionRow, versionWords, lockRow}
+use Rattle.rules.specs.Versions.{Version, versionsIn, stampAt}
+use Rattle.versions.specs.Ordered.{InOrder}
+use Rattle.versions.specs.Rows.{between}
+
+-- those of some versions that one of the starts q reads, hi being the stamp before them
+unfoldable pub readAfter : List ℕ → ℕ → List Version → List Version
+readAfter q hi [] = []
+readAfter q hi (v ∷ rest) =
+    let older = readAfter q (v .stamp) rest in
+    cond (between q (v .stamp) hi) (v ∷ older) older
+
+-- the versions of a row, with a new one in front or without
+abbrev pub fronted : Bool → ℕ → ℕ → List Version → List Version
+fronted new stamp value vs = cond new (record { stamp = stamp; value = value } ∷ vs) vs
+
+-- the versions of item x with the working value in front, where the slot of owner - 1 holds the item exclusively, by the words l
+-- of the locks
+abbrev pub claimed : List ℕ → ℕ → ℕ → ℕ → List Version → List Version
+claimed l owner stamp x vs = fronted (eqb (getD l (lockRow * x + 1) 0) owner) stamp (getD l (lockRow * x + 2) 0) vs
+
+-- the words ys in the place of row x of the table
+abbrev pub withRow : ℕ → List ℕ → List ℕ → List ℕ
+withRow x ys v = take (versionRow base * x) v ++ (ys ++ drop (versionRow base) (drop (versionRow base * x) v))
+
+-- q has the starts qs in order, and they leave room for one version more
+pub record Few (qs q : List ℕ) : Type 0 where
+  pub order : InOrder qs q
+  pub few : length qs < base .places
+
+-- a row with versions, whose stamps fall: good rows are such
+pub record Sound (r : List ℕ) : Type 0 where
+  pub least : 1 ≤ getD r 0 0
+  pub most : getD r 0 0 ≤ base .places
+  pub fall : (i j : ℕ) → i < j → j < length (versionsIn r) → stampAt (versionsIn r) j < stampAt (versionsIn r) i
+
+-- a row that can be rewritten: a new version is newer than all others
+pub record Writable (r q : List ℕ) (new : Bool) (stamp : ℕ) : Type 0 where
+  pub size : length r ≡ versionRow base
+  pub sound : Sound r
+  pub newer : new ≡ true → stampAt (versionsIn r) 0 < stamp
+  pub starts : List ℕ
+  pub few : Few starts q
+
+-- a table whose rows can all be rewritten
+pub record AllSound (v q : List ℕ) : Type 0 where
+  pub size : length v ≡ versionWords base
+  pub rows : (x : ℕ) → x < base .items → Sound (row (versionRow base) x v)
+  pub starts : List ℕ
+  pub few : Few starts q

@@ -1,0 +1,55 @@
+// Which version a start reads, and the newest one.
+ghost use mathlib.Core.Path.{_≡_};
+ghost use Prim.Native.Nat.{ℕ, suc, _≤_, _<_};
+ghost use lib.ListN.{length, getD};
+ghost use Rattle.names.specs.Sizes.{base};
+ghost use Rattle.rules.specs.Words.{row};
+ghost use Rattle.rules.specs.Tables.{versionRow, versionWords};
+ghost use Rattle.rules.specs.Versions.{versionsOf, versionsIn, place, choice};
+ghost use Rattle.rules.specs.Versions.{newest as Versions·newest};
+ghost use Rattle.versions.specs.Found.{Found, FoundIn};
+use super::ROW;
+use names::Item;
+use names::Stamp;
+
+// The value of a version, and at how many versions one looked to find it.
+pub struct Choice {
+    pub value: u64,
+    pub looked: u64,
+}
+
+// The place, from 0, of the newest version in a row that is at most start, walking from the newest.
+fn place_in(row: &[u64], start: u64) -> usize
+    requires { ⌜ FoundIn (now row) start ⌝ }
+    ensures { λ k. ⌜ k ≡ place start (versionsIn (now (row .entry))) ⌝ }
+{
+    let mut k: usize = 0;
+    while start < row[k * 2 + 1] {
+        k += 1;
+    }
+    k
+}
+
+// The version of an item that a start reads: the newest that is at most the start. There is one.
+pub fn chosen(versions: &[u64], item: Item, start: Stamp) -> Choice
+    requires { ⌜ Found (now versions) (item .0) (start .0) ⌝ }
+    ensures value { λ r. ⌜ r .value ≡ (choice (start .0) (versionsOf base (now (versions .entry)) (item .0))) .value ⌝ }
+    ensures looked { λ r. ⌜ r .looked ≡ suc (place (start .0) (versionsOf base (now (versions .entry)) (item .0))) ⌝ }
+{
+    let a = ROW * (item.0 as usize);
+    let e = a + ROW;
+    let k = place_in(&versions[a..e], start.0);
+    Choice {
+        value: versions[a + (k * 2 + 2)],
+        looked: (k as u64) + 1,
+    }
+}
+
+// The newest value of an item.
+pub fn newest(versions: &[u64], item: Item) -> u64
+    requires { ⌜ (length (now versions) ≡ versionWords base) × (item .0 < base .items) × (1 ≤ getD (row (versionRow base) (item .0) (now versions)) 0 0) ⌝ }
+    ensures { λ r. ⌜ r ≡ Versions·newest base (now (versions .entry)) (item .0) ⌝ }
+{
+    let a = ROW * (item.0 as usize);
+    versions[a + 2]
+}
