@@ -1,0 +1,222 @@
+use borrow.Author.Needs.{needs}
+use Rattle.keeper.proofs.commit.Statement.{statement}
+use Rattle.keeper.proofs.commit.Tie as tie
+use Rattle.keeper.proofs.commit.Reads as reads
+use Rattle.keeper.proofs.commit.Lts as lts
+use Rattle.keeper.proofs.ends.commit_update.Reads as commit-update-reads
+use Rattle.keeper.proofs.ends.end_query.Reads as end-query-reads
+use Rattle.keeper.proofs.judge.who_commits.Reads as who-commits-reads
+use Rattle.keeper.proofs.refusal.Reads as refusal-reads
+use Rattle.names.proofs.Stamp.next.Reads as next-reads
+use Rattle.rows.proofs.clock.Reads as clock-reads
+use Rattle.tables.proofs.good.Reads as good-reads
+
+-- src/lib.rt:130:9
+good-requires : tie.Need-good-requires
+good-requires c κs = search needs
+
+-- src/lib.rt:131:9
+refusal-requires : tie.Need-refusal-requires
+refusal-requires c κs = search needs
+
+-- src/lib.rt:131:9
+same-length : tie.Need-same-length
+same-length c = search needs
+
+-- src/lib.rt:131:9
+same-length-2 : tie.Need-same-length-2
+same-length-2 c = search needs
+
+-- src/lib.rt:131:9
+same-length-3 : tie.Need-same-length-3
+same-length-3 c = search needs
+
+-- src/lib.rt:131:9
+returns : tie.Need-returns
+returns c = ?
+
+-- src/lib.rt:133:9
+who-commits-requires : tie.Need-who-commits-requires
+who-commits-requires c κs = ?
+
+-- src/lib.rt:135:28
+enum-told : tie.Need-enum-told
+enum-told c = search needs
+
+-- src/lib.rt:135:28
+refusal-requires-2 : tie.Need-refusal-requires-2
+refusal-requires-2 c κs = search needs
+
+-- src/lib.rt:136:28
+enum-told-2 : tie.Need-enum-told-2
+enum-told-2 c = search needs
+
+-- src/lib.rt:136:28
+refusal-requires-3 : tie.Need-refusal-requires-3
+refusal-requires-3 c κs = search needs
+
+-- src/lib.rt:137:23
+enum-known-leaver : tie.Need-enum-known-leaver
+enum-known-leaver c = search needs
+
+-- src/lib.rt:138:13
+end-query-requires : tie.Need-end-query-requires
+end-query-requires c κs = ?
+
+-- src/lib.rt:139:13
+refusal-requires-4 : tie.Need-refusal-requires-4
+refusal-requires-4 c κs = search needs
+
+-- src/lib.rt:141:24
+enum-known-leaver-2 : tie.Need-enum-known-leaver-2
+enum-known-leaver-2 c = search needs
+
+-- src/lib.rt:142:24
+clock-requires : tie.Need-clock-requires
+clock-requires c κs = ?
+
+-- src/lib.rt:142:17
+next-requires : tie.Need-next-requires
+next-requires c κs = search needs
+
+-- src/lib.rt:143:31
+enum-known-next : tie.Need-enum-known-next
+enum-known-next c = search needs
+
+-- src/lib.rt:144:17
+enum-told-3 : tie.Need-enum-told-3
+enum-told-3 c = search needs
+
+-- src/lib.rt:144:17
+refusal-requires-5 : tie.Need-refusal-requires-5
+refusal-requires-5 c κs = search needs
+
+-- src/lib.rt:144:17
+same-length-4 : tie.Need-same-length-4
+same-length-4 c = search needs
+
+-- src/lib.rt:144:17
+same-length-5 : tie.Need-same-length-5
+same-length-5 c = search needs
+
+-- src/lib.rt:144:17
+same-length-6 : tie.Need-same-length-6
+same-length-6 c = search needs
+
+-- src/lib.rt:144:17
+returns-2 : tie.Need-returns-2
+returns-2 c = ?
+
+-- src/lib.rt:146:13
+commit-update-requires : tie.Need-commit-update-requires
+commit-update-requires c κs = ?
+
+-- src/lib.rt:127:1
+same-length-7 : tie.Need-same-length-7
+same-length-7 c = search needs
+
+-- src/lib.rt:127:1
+same-length-8 : tie.Need-same-length-8
+same-length-8 c = search needs
+
+-- src/lib.rt:127:1
+same-length-9 : tie.Need-same-length-9
+same-length-9 c = search needs
+
+-- src/lib.rt:127:1
+returns-3 : tie.Need-returns-3
+returns-3 c = ?
+
+-- src/lib.rt:127:1
+same-length-10 : tie.Need-same-length-10
+same-length-10 c = search needs
+
+-- src/lib.rt:127:1
+same-length-11 : tie.Need-same-length-11
+same-length-11 c = search needs
+
+-- src/lib.rt:127:1
+same-length-12 : tie.Need-same-length-12
+same-length-12 c = search needs
+
+-- src/lib.rt:127:1
+returns-4 : tie.Need-returns-4
+returns-4 c = ?
+
+-- src/lib.rt:127:1
+same-length-13 : tie.Need-same-length-13
+same-length-13 c = search needs
+
+-- src/lib.rt:127:1
+same-length-14 : tie.Need-same-length-14
+same-length-14 c = search needs
+
+-- src/lib.rt:127:1
+same-length-15 : tie.Need-same-length-15
+same-length-15 c = search needs
+
+-- src/lib.rt:127:1
+returns-5 : tie.Need-returns-5
+returns-5 c = ?
+
+-- src/lib.rt:127:1
+same-length-16 : tie.Need-same-length-16
+same-length-16 c = search needs
+
+-- src/lib.rt:127:1
+same-length-17 : tie.Need-same-length-17
+same-length-17 c = search needs
+
+-- src/lib.rt:127:1
+same-length-18 : tie.Need-same-length-18
+same-length-18 c = search needs
+
+-- src/lib.rt:127:1
+returns-6 : tie.Need-returns-6
+returns-6 c = ?
+
+pub commit-spec : {M : Type 1} → statement M
+commit-spec =
+    tie.close
+    (tie.spec
+    good-requires
+    refusal-requires
+    same-length
+    same-length-2
+    same-length-3
+    returns
+    who-commits-requires
+    enum-told
+    refusal-requires-2
+    enum-told-2
+    refusal-requires-3
+    enum-known-leaver
+    end-query-requires
+    refusal-requires-4
+    enum-known-leaver-2
+    clock-requires
+    next-requires
+    enum-known-next
+    enum-told-3
+    refusal-requires-5
+    same-length-4
+    same-length-5
+    same-length-6
+    returns-2
+    commit-update-requires
+    same-length-7
+    same-length-8
+    same-length-9
+    returns-3
+    same-length-10
+    same-length-11
+    same-length-12
+    returns-4
+    same-length-13
+    same-length-14
+    same-length-15
+    returns-5
+    same-length-16
+    same-length-17
+    same-length-18
+    returns-6)
