@@ -1,5 +1,5 @@
 -- What a search that found somebody says, and one that found nobody. Assumes nothing.
-use Prim.Native.Nat.{ℕ, _≤_, _<_}
+use Prim.Native.Nat.{ℕ, _+_, _≤_, _<_}
 use mathlib.Core.Path.{_≡_, refl, sym, ap, _∙_, subst}
 use mathlib.Core.Logic.{_≢_, _⊎_, inl, inr}
 use mathlib.Core.Bool.{Bool, true, false, cond, _&&_, _||_}
@@ -17,14 +17,16 @@ use Rattle.names.specs.declared.ItemOf.the-variants.{Known, Unknown}
 use Rattle.names.specs.declared.NumberOf.{NumberOf}
 use Rattle.names.specs.declared.NumberOf.the-variants.{Possible, Impossible}
 use Rattle.rules.specs.Words.{firstFrom}
-use Rattle.rules.specs.Tables.{txn, live, slotOf, freeSlot}
+use Rattle.rules.specs.Tables.{txn, live, slotOf, freeSlot, lastNumber}
 use Rattle.rules.proofs.Counts.{first-le, first-passes}
 use Rattle.rules.proofs.Tests.{and-left, and-right, not-use, eq-make, same?}
 use Rattle.rules.proofs.EqualRows.{live-number}
 use Rattle.rows.specs.Founds.{foundAt}
 use Rattle.rows.specs.declared.txns.Found.{Found}
 use Rattle.rows.specs.declared.txns.Found.the-variants.{At, Nobody}
-use Rattle.keeper.specs.Verdicts.{Rows}
+use Rattle.keeper.specs.Verdicts.{Rows, beginOf}
+use Rattle.keeper.specs.declared.judge.Begin.{Begin}
+use Rattle.keeper.specs.declared.judge.Begin.the-variants.{NoSlot, Spent, Give}
 
 -- ---- a slot that was searched for
 pub record FoundSlot (k : ℕ) (s : Slot) : Type 0 where
@@ -67,6 +69,7 @@ impossible t R n e = go (same? (slotOf base t n) (base .slots))
   where
     P : ℕ → Bool
     P s = live (txn t s) && eqb ((txn t s) .number) n
+
     ruled : (b : Bool) → (eqb n 0 || ltb lastWord n) ≡ b → (n ≡ 0) ⊎ (lastWord < n)
     ruled true h = cases (eqb n 0) refl
       where
@@ -74,9 +77,11 @@ impossible t R n e = go (same? (slotOf base t n) (base .slots))
         cases true q = inl (eqb-true n 0 q)
         cases false q = inr (ltb-true lastWord n (let w : (eqb n 0 || ltb lastWord n) ≡ ltb lastWord n = rw q in sym w ∙ h))
     ruled false h = absurd (let z : _≡_ {A = ℕ} 0 1 = (let w : Possible (record { 0 = n }) ≡ Impossible = sym (rw h) ∙ e in cc) in omega arith)
+
     clash : (s : ℕ) → s < base .slots → T (P s) → (n ≡ 0) ⊎ (lastWord < n) → ⊥
     clash s i h (inl z) = live-number (txn t s) (and-left (live (txn t s)) _ h) (eqb→eq ((txn t s) .number) n (and-right (live (txn t s)) _ h) ∙ z)
     clash s i h (inr l) = let q = eqb→eq ((txn t s) .number) n (and-right (live (txn t s)) _ h) in let g = R .given s i in absurd (omega arith)
+
     go : (slotOf base t n ≡ base .slots) ⊎ (slotOf base t n ≢ base .slots) → slotOf base t n ≡ base .slots
     go (inl q) = q
     go (inr d) =
@@ -112,3 +117,20 @@ unknown x e = go (ltb x (base .items)) refl
     go : (b : Bool) → ltb x (base .items) ≡ b → leb (base .items) x ≡ true
     go true h = absurd (let z : _≡_ {A = ℕ} 0 1 = (let w : Known (record { 0 = x }) ≡ Unknown = sym (rw h) ∙ e in cc) in omega arith)
     go false h = le-leb (base .items) x (ltb-false x (base .items) h)
+
+-- ---- a begin that is granted has a slot
+abbrev pub BeginSays : Begin → Type 0
+BeginSays NoSlot = T true
+BeginSays Spent = T true
+BeginSays (Give s n) = s .0 < base .slots
+
+pub begin-says : (t : List ℕ) → BeginSays (beginOf t)
+unfolding beginOf
+begin-says t = go (eqb (freeSlot base t) (base .slots)) refl (eqb (lastNumber t) lastWord)
+  where
+    go :
+        (a : Bool) → eqb (freeSlot base t) (base .slots) ≡ a → (b : Bool)
+        → BeginSays (cond a NoSlot (cond b Spent (Give (record { 0 = freeSlot base t }) (record { 0 = lastNumber t + 1 }))))
+    go true e b = tt
+    go false e true = tt
+    go false e false = let d = eqb-false (freeSlot base t) (base .slots) e in let m = free-most t in omega arith

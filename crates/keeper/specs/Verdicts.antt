@@ -107,4 +107,4 @@ pub record Committed (s c : ℕ) (G G′ : Tables) : Type 0 where
   pub txns : G′ .txns ≡ setTxn (set (G .txns) 1 c) s noTxn
   pub locks : G′ .locks ≡ release base s (G .locks)
   pub versions :
-    G′ .versions ≡ rewritten base (starts base (setTxn (set (G .txns) 1 c) s noTxn)) (withNew (G .locks) s c) (G .versions)
+      G′ .versions ≡ rewritten base (starts base (setTxn (set (G .txns) 1 c) s noTxn)) (withNew (G .locks) s c) (G .versions)

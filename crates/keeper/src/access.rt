@@ -77,7 +77,15 @@ fn granted(value: u64, looked: u64) -> Answer
 }
 
 // What the lock decision's cell says: asked is 0 to read, 1 to write this value.
-pub fn access(txns: &mut [u64], locks: &mut [u64], versions: &[u64], slot: Slot, item: Item, asked: u64, value: u64) -> Answer
+pub fn access(
+    txns: &mut [u64],
+    locks: &mut [u64],
+    versions: &[u64],
+    slot: Slot,
+    item: Item,
+    asked: u64,
+    value: u64,
+) -> Answer
     requires { ⌜ Good base (tables (now txns) (now locks) (now versions)) × (slot .0 < base .slots) × (item .0 < base .items) × (asked < 2) ⌝ }
     ensures { λ r. ⌜ outcome r (now (txns .exit)) (now (locks .exit)) (now (versions .entry)) ≡ Step·access base (askedOf asked) (slot .0) (item .0) value (tables (now (txns .entry)) (now (locks .entry)) (now (versions .entry))) ⌝ }
 {

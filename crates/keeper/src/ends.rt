@@ -22,7 +22,13 @@ pub fn end_query(txns: &mut [u64], versions: &mut [u64], slot: Slot)
 }
 
 // An update commits under this stamp: its working values become versions, its locks and its row go.
-pub fn commit_update(txns: &mut [u64], locks: &mut [u64], versions: &mut [u64], slot: Slot, stamp: Stamp)
+pub fn commit_update(
+    txns: &mut [u64],
+    locks: &mut [u64],
+    versions: &mut [u64],
+    slot: Slot,
+    stamp: Stamp,
+)
     requires { ⌜ Good base (tables (now txns) (now locks) (now versions)) × (slot .0 < base .slots) × (stamp .0 ≡ clock (now txns) + 1) ⌝ }
     ensures { λ _. ⌜ Committed (slot .0) (stamp .0) (tables (now (txns .entry)) (now (locks .entry)) (now (versions .entry))) (tables (now (txns .exit)) (now (locks .exit)) (now (versions .exit))) ⌝ }
 {

@@ -23,26 +23,41 @@ ghost use Rattle.rules.specs.Step.{step};
 
 // The codes of an answer.
 pub const GRANTED: u64 = 0;
+
 pub const WAIT: u64 = 1;
+
 pub const DEADLOCK: u64 = 2;
+
 pub const UNKNOWN_TRANSACTION: u64 = 3;
+
 pub const UNKNOWN_ITEM: u64 = 4;
+
 pub const QUERY_MAY_NOT_WRITE: u64 = 5;
+
 pub const STILL_WAITING: u64 = 6;
+
 pub const NO_SLOT: u64 = 7;
+
 pub const NUMBERS_SPENT: u64 = 8;
+
 pub const CLOCK_SPENT: u64 = 9;
+
 pub const BAD_TABLES: u64 = 10;
 
 // Kinds of transactions and of locks, as the tables have them.
 const UPDATE: u64 = 0;
+
 const QUERY: u64 = 1;
+
 const NO_LOCK: u64 = 0;
+
 const SHARED: u64 = 1;
+
 const EXCLUSIVE: u64 = 2;
 
 // What an update asks for.
 const TO_READ: u64 = 0;
+
 const TO_WRITE: u64 = 1;
 
 // What is not named is 0.
@@ -79,7 +94,13 @@ pub fn begin_query(txns: &mut [u64], locks: &mut [u64], versions: &mut [u64]) ->
 }
 
 // Reads an item.
-pub fn read(txns: &mut [u64], locks: &mut [u64], versions: &mut [u64], number: u64, item: u64) -> Answer
+pub fn read(
+    txns: &mut [u64],
+    locks: &mut [u64],
+    versions: &mut [u64],
+    number: u64,
+    item: u64,
+) -> Answer
     ensures { λ r. ⌜ outcome r (now (txns .exit)) (now (locks .exit)) (now (versions .exit)) ≡ step base (call·read number item) (tables (now (txns .entry)) (now (locks .entry)) (now (versions .entry))) ⌝ }
 {
     if !tables::good(&txns[..], &locks[..], &versions[..]) {
@@ -105,7 +126,14 @@ pub fn read(txns: &mut [u64], locks: &mut [u64], versions: &mut [u64], number: u
 }
 
 // Writes an item.
-pub fn write(txns: &mut [u64], locks: &mut [u64], versions: &mut [u64], number: u64, item: u64, value: u64) -> Answer
+pub fn write(
+    txns: &mut [u64],
+    locks: &mut [u64],
+    versions: &mut [u64],
+    number: u64,
+    item: u64,
+    value: u64,
+) -> Answer
     ensures { λ r. ⌜ outcome r (now (txns .exit)) (now (locks .exit)) (now (versions .exit)) ≡ step base (call·write number item value) (tables (now (txns .entry)) (now (locks .entry)) (now (versions .entry))) ⌝ }
 {
     if !tables::good(&txns[..], &locks[..], &versions[..]) {

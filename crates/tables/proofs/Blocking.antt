@@ -1,5 +1,5 @@
 -- The word of those who block a request, built as the code builds it. Assumes nothing.
-use Prim.Native.Nat.{ℕ, zero, suc, _+_, _-_, _*_, _/_, _%_, _^_, _<_, _≤_}
+use Prim.Native.Nat.{ℕ, zero, suc, _-_, _^_, _<_, _≤_}
 use mathlib.Core.Path.{_≡_, refl, sym, ap, ap₂, _∙_, subst}
 use mathlib.Core.Logic.{_≢_, _⊎_, inl, inr}
 use mathlib.Core.Bool.{Bool, true, false, _&&_, _||_, not}
@@ -15,17 +15,17 @@ use Rattle.rules.proofs.Tests.{and-right, or-cases}
 use Rattle.rules.proofs.Bits.{bit-none, bit-below, below-bits}
 use Rattle.circles.proofs.Words.{or-at, sans-at, shifted}
 use Rattle.tables.specs.Waiting.{Blockers}
-use Rattle.tables.proofs.Masks.{alone-at}
+use Rattle.tables.proofs.Masks.{oneShifted, alone-at}
 
 -- the word w holds the exclusive holder
 abbrev pub Owner : ℕ → ℕ → Type 0
 Owner x w = (b : ℕ) → bit w b ≡ eqb x (suc b)
 
-pub owner-some : (x : ℕ) → x ≤ base .slots → x ≢ 0 → {w : ℕ} → w ≡ 1 * 2 ^ (x - 1) % 18446744073709551616 → Owner x w
+pub owner-some : (x : ℕ) → x ≤ base .slots → x ≢ 0 → {w : ℕ} → w ≡ oneShifted (x - 1) → Owner x w
 owner-some zero h n e = absurd (n refl)
 owner-some (suc y) h n {w} e =
     let d : suc y - 1 ≡ y = omega arith in
-    let p : w ≡ 2 ^ y = e ∙ ap (λ (k : ℕ). 1 * 2 ^ k % 18446744073709551616) d ∙ shifted y (omega arith) in
+    let p : w ≡ 2 ^ y = e ∙ ap oneShifted d ∙ shifted y (omega arith) in
     λ b. ap (λ (m : ℕ). bit m b) p ∙ alone-at y b ∙ sym (eqb·suc-suc y b)
 
 pub owner-none : (x : ℕ) → x ≡ 0 → {w : ℕ} → w ≡ 0 → Owner x w
@@ -55,7 +55,7 @@ and-swap false true = refl
 and-swap false false = refl
 
 -- without the slot itself
-pub blockers-of : (h : Lock) (k i w : ℕ) → h .shared < 2 ^ base .slots → h .exclusive ≤ base .slots → i < base .slots → Conflicting (h .shared) (h .exclusive) k w → Blockers h k i (bitXor w (bitAnd w (1 * 2 ^ i % 18446744073709551616)))
+pub blockers-of : (h : Lock) (k i w : ℕ) → h .shared < 2 ^ base .slots → h .exclusive ≤ base .slots → i < base .slots → Conflicting (h .shared) (h .exclusive) k w → Blockers h k i (bitXor w (bitAnd w (oneShifted i)))
 unfolding blocks conflicts holdsShared holdsExclusive
 blockers-of h k i w ls lx li o = rw (shifted i (omega arith)) (record { small = below-bits (base .slots) (bitXor w (bitAnd w (2 ^ i))) within; at = at })
   where

@@ -1,8 +1,8 @@
 -- The code's test of a lock is the rules' test, and no lock word is set where no update is live. Assumes nothing.
-use Prim.Native.Nat.{ℕ, zero, suc, _+_, _-_, _*_, _/_, _%_, _^_, _<_, _≤_}
+use Prim.Native.Nat.{ℕ, zero, suc, _+_, _*_, _/_, _%_, _^_, _<_}
 use mathlib.Core.Path.{_≡_, refl, sym, ap, _∙_, subst}
-use mathlib.Core.Logic.{_≢_, _⊎_, inl, inr}
-use mathlib.Core.Bool.{Bool, true, false, _&&_, _||_, not, cond}
+use mathlib.Core.Logic.{_⊎_, inl, inr}
+use mathlib.Core.Bool.{Bool, _&&_, not}
 use mathlib.Core.List.{List}
 use native.Mathlib.Omega.{arith}
 use native.Mathlib.Nat.{mod-eq-of-lt}
@@ -15,7 +15,7 @@ use Rattle.rules.specs.Words.{bit, everyBelow}
 use Rattle.rules.specs.Tables.{Lock, lock, lockWords, txn, liveUpdate, holds, holdsShared, holdsExclusive}
 use Rattle.rules.specs.Good.{GoodLock}
 use Rattle.rules.specs.Tested.{lockGood}
-use Rattle.rules.proofs.Tests.{and-left, and-right, and-both, or-cases, or-left, or-right, is-false, true-is, false-is, not-use, eq-make, same?}
+use Rattle.rules.proofs.Tests.{and-left, and-right, and-both, or-cases, or-left, or-right, is-false, false-is, not-use, eq-make}
 use Rattle.rules.proofs.Counts.{everyBelow→, →everyBelow}
 use Rattle.rules.proofs.Bits.{bit-suc, bit-none, bit-below, no-bits}
 use Rattle.rules.proofs.EqualRows.{lock→Good, Good→lock}
@@ -29,9 +29,9 @@ use Rattle.tables.proofs.Masks.{slots-at, slots-lt}
 part-of : (s u : ℕ) → ((b : ℕ) → T (bit s b) → T (bit u b)) → bitAnd s u ≡ s
 part-of s u f =
     let w : bitXor s (bitAnd s u) ≡ 0 =
-        no-bits (bitXor s (bitAnd s u)) (λ b. is-false (bit (bitXor s (bitAnd s u)) b) (λ t.
-        let k : T (bit s b && not (bit u b)) = subst T (sans-at s u b) t in
-        not-use (bit u b) (and-right (bit s b) (not (bit u b)) k) (f b (and-left (bit s b) (not (bit u b)) k)))) in
+    no-bits (bitXor s (bitAnd s u)) (λ b. is-false (bit (bitXor s (bitAnd s u)) b) (λ t.
+    let k : T (bit s b && not (bit u b)) = subst T (sans-at s u b) t in
+    not-use (bit u b) (and-right (bit s b) (not (bit u b)) k) (f b (and-left (bit s b) (not (bit u b)) k)))) in
     let x = xor-add-and s (bitAnd s u) in
     let y = and-le-l s u in
     let z = and-le-r s (bitAnd s u) in
@@ -93,7 +93,7 @@ module _ (t : List ℕ) (h : Lock) where
       let z = eqb→eq (h .shared) 0 (and-left (eqb (h .shared) 0) _ b) in
       let l = leb→le (h .exclusive) (base .slots) (and-right (eqb (h .shared) 0) _ b) in
       let o : T (bit u y) =
-          subst T (ap (λ (x : ℕ). eqb (u * 2 / 2 ^ (x % 64) % 2) 1) e ∙ owner-bit u y (omega arith)) (and-right (eqb (h .shared) 0 && leb (h .exclusive) (base .slots)) heldTest a) in
+      subst T (ap (λ (x : ℕ). eqb (u * 2 / 2 ^ (x % 64) % 2) 1) e ∙ owner-bit u y (omega arith)) (and-right (eqb (h .shared) 0 && leb (h .exclusive) (base .slots)) heldTest a) in
       record {
         holders = λ s k. who s z o (or-cases (bit (h .shared) s) _ k);
         neverBoth = inl z;

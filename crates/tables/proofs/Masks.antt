@@ -1,7 +1,7 @@
 -- Words of slots, built slot by slot. Assumes nothing.
 use Prim.Native.Nat.{ℕ, zero, suc, _+_, _*_, _%_, _^_, _<_, _≤_}
 use mathlib.Core.Path.{_≡_, refl, sym, ap, _∙_, subst}
-use mathlib.Core.Logic.{_≢_, ⊎-elim}
+use mathlib.Core.Logic.{⊎-elim}
 use mathlib.Core.Bool.{Bool, true, false, _||_, cond}
 use native.Mathlib.Omega.{arith}
 use native.Mathlib.Numerals.{add-one}
@@ -17,6 +17,10 @@ use Rattle.circles.proofs.Words.{or-at, shifted}
 use Rattle.tables.specs.Shape.{slotsThat}
 
 -- ---- the word of one slot
+-- as the code computes it
+abbrev pub oneShifted : ℕ → ℕ
+oneShifted k = 1 * 2 ^ k % 2 ^ 64
+
 alone : (k : ℕ) → withBit 0 k ≡ 2 ^ k
 unfolding withBit
 alone k = rw (bit-none k) (zero-add (2 ^ k))
@@ -43,7 +47,7 @@ or-alone n p =
     ap (bitOr (slotsThat n p)) (sym (one-mul (2 ^ n))) ∙ or-shifted-r 1 n (slotsThat n p) (slots-lt n p) ∙ omega arith
 
 -- one slot more, as the code adds it, or not
-pub slots-yes : (n : ℕ) (p : ℕ → Bool) → n < 64 → p n ≡ true → bitOr (slotsThat n p) (1 * 2 ^ n % 18446744073709551616) ≡ slotsThat (n + 1) p
+pub slots-yes : (n : ℕ) (p : ℕ → Bool) → n < 64 → p n ≡ true → bitOr (slotsThat n p) (oneShifted n) ≡ slotsThat (n + 1) p
 unfolding slotsThat
 slots-yes n p l e = rw (shifted n l, add-one, e) (or-alone n p)
 

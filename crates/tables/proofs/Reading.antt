@@ -1,23 +1,22 @@
 -- What is known of the tables once the rows and the locks passed. Assumes nothing.
-use Prim.Native.Nat.{ℕ, suc, _^_, _≤_, _<_}
-use mathlib.Core.Path.{_≡_, refl, sym, ap, _∙_, subst}
+use Prim.Native.Nat.{ℕ, suc, _<_}
+use mathlib.Core.Path.{_≡_, refl, sym, ap, subst}
 use mathlib.Core.Logic.{_≢_, _⊎_, inl, inr}
-use mathlib.Core.Bool.{Bool, true, false, _&&_, _||_, not}
+use mathlib.Core.Bool.{Bool, true, false, _&&_, not}
 use mathlib.Core.List.{List, []}
-use native.Mathlib.Omega.{arith}
 use lib.ListN.{length}
 use lib.Dec.{T, eqb, leb, eqb·zero-suc}
 use Rattle.names.specs.Sizes.{base}
-use Rattle.rules.specs.Words.{bit, implies, everyBelow}
-use Rattle.rules.specs.Tables.{Tables, tables, txnWords, lockWords, lastNumber, clock, Txn, txn, noTxn, live, liveUpdate, anUpdate, aQuery, noLock, sharedLock, exclusiveLock}
-use Rattle.rules.specs.Tables.{Lock, lock, holds, holdsShared, holdsExclusive}
+use Rattle.rules.specs.Words.{bit, implies}
+use Rattle.rules.specs.Tables.{tables, txnWords, lockWords, lastNumber, clock, Txn, txn, live, liveUpdate, anUpdate, aQuery, noLock, sharedLock, exclusiveLock}
+use Rattle.rules.specs.Tables.{lock, holds, holdsShared, holdsExclusive}
 use Rattle.rules.specs.Good.{Good, GoodTxn, GoodLock}
 use Rattle.rules.specs.Tested.{topsMost, freeZero, listed, startGood, awaitedGood, awaiterGood, txnGood, lockGood}
 use Rattle.rules.proofs.Tests.{and-left, and-right, and-both, or-cases, or-right, not-make, implies-make, ne-make, false-is}
 use Rattle.rules.proofs.Counts.{everyBelow→, →everyBelow}
 use Rattle.rules.proofs.Bits.{bit-none}
 use Rattle.rules.proofs.EqualRows.{txn→Good, Good→txn, lock→Good, Good→lock, free-or-live, live-update, live-query}
-use Rattle.tables.specs.Shape.{rowGood, rowsGood, slotsThat, waits, waitingIn}
+use Rattle.tables.specs.Shape.{rowGood, rowsGood, waits, waitingIn}
 use Rattle.tables.specs.Holding.{locksGood}
 use Rattle.tables.specs.Waiting.{Readable, Awaiting, awaitersGood}
 use Rattle.tables.proofs.Masks.{slots-at, slots-lt}
@@ -118,9 +117,10 @@ rows→Good t l h a s i =
 
 pub Good→rows : (t l : List ℕ) → T (topsMost t) → ((s : ℕ) → s < base .slots → GoodTxn base t l s (txn t s)) → T (rowsGood base t) × T (awaitersGood base t l)
 unfolding rowsGood awaitersGood
-Good→rows t l h g =
-    (and-both (topsMost t) _ h (→everyBelow (base .slots) (λ s. rowGood base t (txn t s)) (λ s i. and-left (rowGood base t (txn t s)) _ (both s i))),
-    →everyBelow (base .slots) (λ s. awaiterGood s (txn t s) (lock l ((txn t s) .awaitedItem))) (λ s i. and-right (rowGood base t (txn t s)) _ (both s i)))
+Good→rows t l h g = (
+  and-both (topsMost t) _ h (→everyBelow (base .slots) (λ s. rowGood base t (txn t s)) (λ s i. and-left (rowGood base t (txn t s)) _ (both s i))),
+  →everyBelow (base .slots) (λ s. awaiterGood s (txn t s) (lock l ((txn t s) .awaitedItem))) (λ s i. and-right (rowGood base t (txn t s)) _ (both s i)),
+)
   where
     both : (s : ℕ) → s < base .slots → T (rowGood base t (txn t s) && awaiterGood s (txn t s) (lock l ((txn t s) .awaitedItem)))
     both s i = subst T (row-parts t l s (txn t s)) (Good→txn base t l s (txn t s) (g s i))

@@ -1,13 +1,11 @@
 -- The words of links have a circle exactly if the tables have one; where nobody awaits, there is none. Assumes nothing.
-use Prim.Native.Nat.{ℕ, _^_, _<_}
-use mathlib.Core.Path.{_≡_, refl, sym, ap, _∙_, subst}
+use Prim.Native.Nat.{ℕ, _<_}
+use mathlib.Core.Path.{_≡_, sym, subst}
 use mathlib.Core.Logic.{_≢_, _⊎_, inl, inr, _↔_}
-use mathlib.Core.Bool.{Bool, true, false, _&&_, not}
+use mathlib.Core.Bool.{Bool}
 use mathlib.Core.List.{List}
-use lib.ListN.{getD, length}
-use lib.Dec.{T, eqb}
+use lib.Dec.{T}
 use Rattle.names.specs.Sizes.{base}
-use Rattle.rules.specs.Words.{bit, everyBelow}
 use Rattle.rules.specs.Tables.{txn, noLock, lock}
 use Rattle.rules.specs.Waits.{waitsFor, Walk, noCircle}
 use Rattle.rules.specs.Tested.{awaiterGood}

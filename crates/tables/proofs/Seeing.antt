@@ -1,5 +1,5 @@
 -- The pass over the transaction rows: what each kind of row is tested for, and what is known after some rows. Assumes nothing.
-use Prim.Native.Nat.{ℕ, suc, _+_, _*_, _%_, _^_, _<_, _≤_}
+use Prim.Native.Nat.{ℕ, _+_, _<_, _≤_}
 use mathlib.Core.Path.{_≡_, refl, sym, ap, _∙_}
 use mathlib.Core.Logic.{_≢_, _⊎_, inl, inr}
 use mathlib.Core.Bool.{Bool, true, false, _&&_, _||_, not, cond}
@@ -10,14 +10,14 @@ use lib.Dec.{eqb, leb, ltb}
 use borrow.Author.Tests.{eq-eqb, ne-eqb, eqb-true, le-leb, lt-leb, lt-ltb}
 use Rattle.names.specs.Sizes.{base}
 use Rattle.rules.specs.Words.{implies, everyBelow}
-use Rattle.rules.specs.Tables.{lastNumber, clock, Txn, txn, live, liveUpdate, liveQuery, anUpdate, aQuery, noLock, exclusiveLock}
+use Rattle.rules.specs.Tables.{lastNumber, clock, Txn, txn, live, liveUpdate, liveQuery, aQuery, noLock, exclusiveLock}
 use Rattle.rules.specs.Tested.{topsMost, freeZero, listed, startGood, awaitedGood}
 use Rattle.rules.proofs.Tests.{is-true, implies-make, same?}
 use Rattle.rules.proofs.Counts.{→everyBelow}
 use Rattle.rules.proofs.EqualRows.{live-number}
 use Rattle.versions.proofs.Zeros.{every-more}
 use Rattle.tables.specs.Shape.{rowGood, slotsThat, waits, freeOk, updateOk, queryOk, apartFrom, distinctAt}
-use Rattle.tables.proofs.Masks.{slots-yes, slots-no}
+use Rattle.tables.proofs.Masks.{oneShifted, slots-yes, slots-no}
 
 -- ---- truth tables
 free-law : (k₀ s₀ a₀ x₀ k₁ a₂ xᵢ : Bool) → (k₀ ≡ true → k₁ ≡ true) → (a₀ ≡ true → a₂ ≡ true) → (k₀ && s₀ && a₀ && x₀) ≡ ((k₀ && (s₀ && (a₀ && x₀))) && ((k₁ && a₂) && cond a₀ x₀ xᵢ))
@@ -152,22 +152,22 @@ module _ (t : List ℕ) {ok : Bool} {u w i : ℕ} (h : Passed t ok u w i) (l : i
       }
 
   -- a live update, which does not wait, or does
-  pub passed-still : {r c : Bool} {v x : ℕ} → r ≡ (ok && c) → c ≡ rowGood base t (txn t i) → liveUpdate (txn t i) ≡ true → (txn t i) .awaitedLock ≡ 0 → v ≡ bitOr u (1 * 2 ^ i % 18446744073709551616) → x ≡ w → Passed t r v x (i + 1)
+  pub passed-still : {r c : Bool} {v x : ℕ} → r ≡ (ok && c) → c ≡ rowGood base t (txn t i) → liveUpdate (txn t i) ≡ true → (txn t i) .awaitedLock ≡ 0 → v ≡ bitOr u (oneShifted i) → x ≡ w → Passed t r v x (i + 1)
   unfolding waits
   passed-still e d n z a b =
       record {
         within = omega arith;
         shaped = grown e d;
-        ofUpdates = a ∙ ap (λ (m : ℕ). bitOr m (1 * 2 ^ i % 18446744073709551616)) (h .ofUpdates) ∙ slots-yes i (λ s. liveUpdate (txn t s)) (omega arith) n;
+        ofUpdates = a ∙ ap (λ (m : ℕ). bitOr m (oneShifted i)) (h .ofUpdates) ∙ slots-yes i (λ s. liveUpdate (txn t s)) (omega arith) n;
         ofWaiting = b ∙ h .ofWaiting ∙ slots-no i (λ s. waits (txn t s)) (rw (n, eq-eqb ((txn t i) .awaitedLock) 0 z));
       }
 
-  pub passed-waits : {r c : Bool} {v x : ℕ} → r ≡ (ok && c) → c ≡ rowGood base t (txn t i) → liveUpdate (txn t i) ≡ true → (txn t i) .awaitedLock ≢ 0 → v ≡ bitOr u (1 * 2 ^ i % 18446744073709551616) → x ≡ bitOr w (1 * 2 ^ i % 18446744073709551616) → Passed t r v x (i + 1)
+  pub passed-waits : {r c : Bool} {v x : ℕ} → r ≡ (ok && c) → c ≡ rowGood base t (txn t i) → liveUpdate (txn t i) ≡ true → (txn t i) .awaitedLock ≢ 0 → v ≡ bitOr u (oneShifted i) → x ≡ bitOr w (oneShifted i) → Passed t r v x (i + 1)
   unfolding waits
   passed-waits e d n z a b =
       record {
         within = omega arith;
         shaped = grown e d;
-        ofUpdates = a ∙ ap (λ (m : ℕ). bitOr m (1 * 2 ^ i % 18446744073709551616)) (h .ofUpdates) ∙ slots-yes i (λ s. liveUpdate (txn t s)) (omega arith) n;
-        ofWaiting = b ∙ ap (λ (m : ℕ). bitOr m (1 * 2 ^ i % 18446744073709551616)) (h .ofWaiting) ∙ slots-yes i (λ s. waits (txn t s)) (omega arith) (rw (n, ne-eqb ((txn t i) .awaitedLock) 0 z));
+        ofUpdates = a ∙ ap (λ (m : ℕ). bitOr m (oneShifted i)) (h .ofUpdates) ∙ slots-yes i (λ s. liveUpdate (txn t s)) (omega arith) n;
+        ofWaiting = b ∙ ap (λ (m : ℕ). bitOr m (oneShifted i)) (h .ofWaiting) ∙ slots-yes i (λ s. waits (txn t s)) (omega arith) (rw (n, ne-eqb ((txn t i) .awaitedLock) 0 z));
       }

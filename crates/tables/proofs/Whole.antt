@@ -1,8 +1,7 @@
 -- The test of all tables, put together from what its parts say. Assumes nothing.
-use Prim.Native.Nat.{ℕ, _^_, _<_}
-use mathlib.Core.Path.{_≡_, refl, sym, ap, _∙_, subst}
-use mathlib.Core.Logic.{_≢_}
-use mathlib.Core.Bool.{Bool, true, false, _&&_}
+use Prim.Native.Nat.{ℕ, _<_}
+use mathlib.Core.Path.{_≡_, sym, _∙_, subst}
+use mathlib.Core.Bool.{Bool, false, _&&_}
 use mathlib.Core.List.{List}
 use lib.ListN.{length}
 use lib.Dec.{T, eqb, eqb→eq}
@@ -11,7 +10,7 @@ use Rattle.rules.specs.Words.{everyBelow, everyRow}
 use Rattle.rules.specs.Tables.{tables, txnWords, lockWords, versionWords, versionRow, clock, starts, txn, lock}
 use Rattle.rules.specs.Waits.{noCircle}
 use Rattle.rules.specs.Tested.{good, sizesExact, topsMost, txnGood, awaiterGood, distinct, lockGood, versionsGood}
-use Rattle.rules.proofs.Tests.{and-left, and-right, and-both, is-false, eq-make, true-is, false-is}
+use Rattle.rules.proofs.Tests.{and-left, and-right, and-both, is-false, eq-make}
 use Rattle.rules.proofs.Counts.{everyBelow→, →everyBelow}
 use Rattle.versions.proofs.Zeros.{iff-eq}
 use Rattle.tables.specs.Shape.{rowGood, rowsGood}

@@ -6,7 +6,7 @@ use lib.Dec.{eqb, leb, ltb}
 use Rattle.names.specs.declared.Sizes.{Sizes}
 use Rattle.names.specs.Sizes.{base}
 use Rattle.rules.specs.Words.{implies, everyBelow}
-use Rattle.rules.specs.Tables.{lastNumber, clock, Txn, txn, live, liveUpdate, anUpdate, aQuery, noLock, exclusiveLock}
+use Rattle.rules.specs.Tables.{lastNumber, clock, Txn, txn, live, liveUpdate, aQuery, noLock, exclusiveLock}
 use Rattle.rules.specs.Tested.{topsMost, freeZero, listed, startGood, awaitedGood}
 use Rattle.tables.specs.declared.Seen.{Seen}
 

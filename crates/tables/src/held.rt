@@ -23,9 +23,7 @@ fn lock_ok(shared: u64, exclusive: u64, working: u64, updates: u64) -> bool
     if exclusive == 0 {
         return (working == 0) & ((shared & updates) == shared);
     }
-    (shared == 0)
-        & (exclusive <= names::SLOTS)
-        & (((updates * 2) >> (exclusive % WIDTH)) % 2 == 1)
+    (shared == 0) & (exclusive <= names::SLOTS) & (((updates * 2) >> (exclusive % WIDTH)) % 2 == 1)
 }
 
 // Each lock.

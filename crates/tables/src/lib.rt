@@ -7,6 +7,7 @@ ghost use mathlib.Core.Path.{_≡_};
 ghost use Rattle.names.specs.Sizes.{base};
 ghost use Rattle.rules.specs.Tables.{tables};
 ghost use Rattle.rules.specs.Tested.{good};
+
 mod held;
 mod shape;
 mod waiting;

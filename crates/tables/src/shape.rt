@@ -31,7 +31,15 @@ fn update_ok(last: u64, number: u64, start: u64, wanted: u64, item: u64) -> bool
 }
 
 // A live query has a number that was given and a start that was; it awaits nothing.
-fn query_ok(last: u64, clock: u64, number: u64, kind: u64, start: u64, wanted: u64, item: u64) -> bool
+fn query_ok(
+    last: u64,
+    clock: u64,
+    number: u64,
+    kind: u64,
+    start: u64,
+    wanted: u64,
+    item: u64,
+) -> bool
     ensures { λ r. ⌜ r ≡ queryOk last clock number kind start wanted item ⌝ }
 {
     (number <= last) & (kind == 1) & (start <= clock) & (wanted == 0) & (item == 0)

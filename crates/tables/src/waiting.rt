@@ -56,10 +56,7 @@ pub fn waits(txns: &[u64], locks: &[u64]) -> Waiters
         }
         slot += 1;
     }
-    Waiters {
-        ok,
-        links,
-    }
+    Waiters { ok, links }
 }
 
 // Whether each who awaits a lock may, and nobody waits in a circle; `waiting` holds those who await.

@@ -4,7 +4,6 @@ use mathlib.Core.Path.{_≡_, refl, sym, ap, ap₂, _∙_}
 use mathlib.Core.Bool.{Bool, true, false, _||_, cond}
 use mathlib.Core.List.{List, [], _∷_}
 use native.Mathlib.Omega.{arith}
-use native.Mathlib.Nat.{add-zero, add-suc, suc-add}
 use lib.ListN.{getD, length, drop}
 use lib.Seq.{drop-cons}
 use lib.Dec.{eqb}
@@ -15,7 +14,7 @@ use Rattle.rules.proofs.Choice.{Falls, length-versionsIn}
 use Rattle.rules.proofs.Trim.{kept-first, length-kept}
 use Rattle.versions.specs.Ordered.{guard, InOrder}
 use Rattle.versions.specs.Rows.{between}
-use Rattle.versions.specs.Written.{readAfter, Few, Sound}
+use Rattle.versions.specs.Written.{readAfter}
 use Rattle.versions.proofs.Read.{pairAt, version-in, read-same}
 
 module _ (qs q : List ℕ) (ordered : InOrder qs q) (v : Version) (vs : List Version) (fall : Falls (v ∷ vs)) (low : v .stamp ≤ guard) where
@@ -49,7 +48,8 @@ module _ (qs q : List ℕ) (ordered : InOrder qs q) (v : Version) (vs : List Ver
   unfolding stampAt
   kept-is =
       kept-first qs v vs
-      ∙ ap {B = List Version} (λ l. v ∷ l) (kept-from 0 (v .stamp) vs refl (omega arith) (λ j h. ap (λ (i : ℕ). getD all i noVersion) (let z : suc j ≡ suc 0 + j = omega arith in z)))
+      ∙ ap {B = List Version} (λ l. v ∷ l) (kept-from 0 (v .stamp) vs refl (omega arith)
+      (λ j h. ap (λ (i : ℕ). getD all i noVersion) (let z : suc j ≡ suc 0 + j = omega arith in z)))
 
   -- there is room for what is read
   pub kept-room : length qs < base .places → length (readAfter q (v .stamp) vs) < base .places
@@ -82,10 +82,14 @@ module _ (q r : List ℕ) (hi j : ℕ) (inside : j < getD r 0 0) where
       drop-cons vs j noVersion (omega (arith, length-versionsIn r))
       ∙ ap₂ {C = List Version} (λ v n. v ∷ drop n vs) (version-in r j inside) (let z : suc j ≡ j + 1 = omega arith in z)
 
-  pub after-yes : between q (getD r (j * 2 + 1) 0) hi ≡ true → readAfter q hi (drop j (versionsIn r)) ≡ pairAt r j ∷ readAfter q (getD r (j * 2 + 1) 0) (drop (j + 1) (versionsIn r))
+  pub after-yes :
+      between q (getD r (j * 2 + 1) 0) hi ≡ true
+      → readAfter q hi (drop j (versionsIn r)) ≡ pairAt r j ∷ readAfter q (getD r (j * 2 + 1) 0) (drop (j + 1) (versionsIn r))
   unfolding readAfter
   after-yes e = rw (next, e)
 
-  pub after-no : between q (getD r (j * 2 + 1) 0) hi ≡ false → readAfter q hi (drop j (versionsIn r)) ≡ readAfter q (getD r (j * 2 + 1) 0) (drop (j + 1) (versionsIn r))
+  pub after-no :
+      between q (getD r (j * 2 + 1) 0) hi ≡ false
+      → readAfter q hi (drop j (versionsIn r)) ≡ readAfter q (getD r (j * 2 + 1) 0) (drop (j + 1) (versionsIn r))
   unfolding readAfter
   after-no e = rw (next, e)

@@ -10,3 +10,4 @@ pub mod Keep
 pub mod Pack
 pub mod Table
 pub mod Renew
+pub mod Handed

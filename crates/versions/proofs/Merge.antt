@@ -1,13 +1,12 @@
 -- The walk of a row beside the starts in order. Assumes nothing.
-use Prim.Native.Nat.{ℕ, zero, suc, _+_, _-_, _*_, _<_, _≤_}
+use Prim.Native.Nat.{ℕ, _+_, _-_, _*_, _<_, _≤_}
 use mathlib.Core.Path.{_≡_, refl, sym, ap, _∙_, subst}
-use mathlib.Core.Logic.{_⊎_, inl, inr, ⊎-elim}
-use mathlib.Core.Bool.{Bool, true, false, _&&_, not}
+use mathlib.Core.Bool.{Bool, true, false, _&&_}
 use mathlib.Core.List.{List}
 use native.Mathlib.Omega.{arith}
-use lib.ListN.{getD, length}
-use lib.Dec.{T, eqb, leb, ltb, ltb→lt, lt→ltb, leb→le, le→leb}
-use borrow.Author.Tests.{eq-eqb, ne-eqb, eqb-true, eqb-false, ltb-true, ltb-false, lt-ltb, le-ltb, leb-true, leb-false, le-leb}
+use lib.ListN.{getD}
+use lib.Dec.{T, leb, ltb, ltb→lt, lt→ltb, leb→le, le→leb}
+use borrow.Author.Tests.{ltb-true, ltb-false, lt-ltb, le-ltb, le-leb}
 use Rattle.names.specs.Sizes.{base}
 use Rattle.rules.proofs.Tests.{and-left, and-right, and-both}
 use Rattle.rules.proofs.Counts.{someBelow→, →someBelow, everyBelow→, →everyBelow}
@@ -74,11 +73,14 @@ unfolding readIn
 fails q r m p j s g h =
     let l = g .low in
     let k = g .high in
-    let e : everyBelow (m - 1) (readAt q r) ≡ false = every-false (readAt q r) (m - 1) (j - 1) (omega arith) (read-next q r m p j s g ∙ le-ltb (getD q p 0) (getD r (j * 2 - 1) 0) h) in
+    let e : everyBelow (m - 1) (readAt q r) ≡ false =
+    every-false (readAt q r) (m - 1) (j - 1) (omega arith) (read-next q r m p j s g ∙ le-ltb (getD q p 0) (getD r (j * 2 - 1) 0) h) in
     rw (g .old, e)
 
 -- it is: the next first start is found from p + 1 on
-pub next : (q r : List ℕ) (m p j k : ℕ) → Rises q → Merging q r m p j → 1 < j → getD q p 0 < getD r (j * 2 - 1) 0 → Skipped q (p + 1) (getD r (j * 2 - 1) 0) k → Merging q r m k (j - 1)
+pub next :
+    (q r : List ℕ) (m p j k : ℕ) → Rises q → Merging q r m p j → 1 < j → getD q p 0 < getD r (j * 2 - 1) 0
+    → Skipped q (p + 1) (getD r (j * 2 - 1) 0) k → Merging q r m k (j - 1)
 next q r m p j k s g h b z =
     let l = g .low in
     let u = g .high in

@@ -1,25 +1,19 @@
 -- A row that is sound, rewritten with a new version and without, and the rows that an update writes. Assumes nothing.
 use Prim.Native.Nat.{ℕ, _+_, _*_, _<_, _≤_}
-use mathlib.Core.Path.{_≡_, refl, sym, ap, _∙_, subst, fun-ext}
+use mathlib.Core.Path.{_≡_, ap, _∙_, subst, fun-ext}
 use mathlib.Core.List.{List, _∷_}
-use native.Mathlib.Omega.{arith}
 use native.Mathlib.Numerals.{add-one}
 use lib.ListN.{getD, length, drop}
 use lib.Dec.{eqb}
 use Rattle.names.specs.Sizes.{base}
 use Rattle.rules.specs.Tables.{lockRow, lock, holdsExclusive}
 use Rattle.rules.specs.Versions.{Version, versionsIn, stampAt, kept}
-use Rattle.rules.specs.Good.{GoodVersions}
 use Rattle.rules.specs.Step.{withNew}
 use Rattle.rules.proofs.Choice.{Falls}
 use Rattle.versions.specs.Ordered.{guard}
 use Rattle.versions.specs.Written.{readAfter, fronted, claimed, Few, Sound}
 use Rattle.versions.proofs.Read.{pairAt}
 use Rattle.versions.proofs.Keep.{kept-is, kept-room, falls-new, first-in}
-
--- a good row is sound
-pub good-sound : (t r : List ℕ) → GoodVersions base t r → Sound r
-good-sound t r g = record { least = g .countLeast; most = g .countMost; fall = g .fall }
 
 module _ (qs q r : List ℕ) (few : Few qs q) (sound : Sound r) where
   module _ (stamp value : ℕ) (low : stamp ≤ guard) (newer : stampAt (versionsIn r) 0 < stamp) where

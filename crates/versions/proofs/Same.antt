@@ -1,20 +1,20 @@
 -- What the code tests of a row of versions is what the rules say of it, and so for all rows. Assumes nothing.
 use Prim.Native.Nat.{ℕ, zero, suc, _+_, _-_, _*_, _<_, _≤_}
 use mathlib.Core.Path.{_≡_, refl, sym, ap, ap₂, _∙_, subst}
-use mathlib.Core.Logic.{_⊎_, inl, inr, ⊎-elim}
+use mathlib.Core.Logic.{_⊎_, inl, inr}
 use mathlib.Core.Bool.{Bool, true, false, _&&_, _||_, not, cond}
 use mathlib.Core.List.{List, List·Memᴰ}
 use native.Mathlib.Omega.{arith}
 use native.Mathlib.Nat.{not-suc-le-zero, zero-add, eq-or-lt-of-le}
 use lib.ListN.{getD, length, drop, length-drop, length-take}
 use lib.Dec.{T, eqb, leb, ltb, leb→le, le→leb, ltb→lt, eqb→eq}
-use borrow.Author.Tests.{ne-eqb, eqb-true, eqb-false, le-ltb, ltb-false}
+use borrow.Author.Tests.{eqb-true, le-ltb, ltb-false}
 use Rattle.names.specs.Sizes.{base}
-use Rattle.rules.specs.Words.{every, everyBelow, someBelow, everyRow, row}
+use Rattle.rules.specs.Words.{every, everyBelow, everyRow, row}
 use Rattle.rules.specs.Tables.{versionRow, versionWords}
 use Rattle.rules.specs.Versions.{Version, versionsIn, stampAt, readBySome}
 use Rattle.rules.specs.Tested.{falls, lastOld, allRead, versionsGood}
-use Rattle.rules.proofs.Tests.{and-left, and-right, and-both, or-cases, or-right, not-make, not-use, eq-make, ne-make, ne-use, true-is}
+use Rattle.rules.proofs.Tests.{and-left, and-right, and-both, or-cases, or-right, ne-make, ne-use}
 use Rattle.rules.proofs.Counts.{everyBelow→, →everyBelow, someBelow→, every-mem, mem-every}
 use Rattle.rules.proofs.Rows.{everyRow→, →everyRow}
 use Rattle.rules.proofs.Choice.{length-versionsIn, Falls, falls→Falls, Falls→falls}
@@ -219,7 +219,10 @@ module _ (now : ℕ) (qs q r : List ℕ) (clocked : now ≤ guard) (size : lengt
         unused = unused;
         new = let a = stamp-in r 0 (let l = least in omega arith) in let b = first in omega arith;
         old = old (ordered .only 0 (omega arith));
-        read = λ j b. reads j (let z = b in omega arith) (allRead→ qs vs 0 vs (and-right (lastOld qs vs) (allRead qs vs 0 vs) t₅) (suc j) (let l = length-versionsIn r in omega arith));
+        read =
+            λ j b.
+            reads j (omega arith)
+            (allRead→ qs vs 0 vs (and-right (lastOld qs vs) (allRead qs vs 0 vs) t₅) (suc j) (let l = length-versionsIn r in omega arith));
       }
     where
       t₁ : T (leb m (base .places) && (every (λ w. eqb w 0) (drop (1 + 2 * m) r) && (falls vs && (leb (stampAt vs 0) now && (lastOld qs vs && allRead qs vs 0 vs)))))
@@ -266,7 +269,9 @@ module _ (now : ℕ) (qs q r : List ℕ) (clocked : now ≤ guard) (size : lengt
       old (inl e) = let a = last-stamp least in let b = lowest in omega arith
       old (inr i) =
           let a = last-stamp least in
-          let b = leb→le (stampAt vs (length vs - 1)) (getD q 0 0) (every-mem (λ q. leb (stampAt vs (length vs - 1)) q) (and-left (lastOld qs vs) (allRead qs vs 0 vs) t₅) i) in
+          let b =
+          leb→le (stampAt vs (length vs - 1)) (getD q 0 0)
+          (every-mem (λ q. leb (stampAt vs (length vs - 1)) q) (and-left (lastOld qs vs) (allRead qs vs 0 vs) t₅) i) in
           omega arith
 
       reads : (j : ℕ) → suc j < m → T (eqb (0 + suc j) 0 || readBySome qs vs (0 + suc j)) → T (readAt q r j)

@@ -1,9 +1,9 @@
 -- The table while its rows are replaced one by one: the rows passed are new, the others as they were. Assumes nothing.
 use Prim.Native.Nat.{ℕ, zero, suc, _+_, _*_, _<_, _≤_}
-use mathlib.Core.Path.{_≡_, refl, sym, ap, ap₂, _∙_, subst}
+use mathlib.Core.Path.{_≡_, refl, sym, ap, ap₂, _∙_}
 use mathlib.Core.List.{List, _++_, append-assoc}
 use native.Mathlib.Omega.{arith}
-use native.Mathlib.Nat.{add-zero, zero-add, add-suc, suc-add, mul-zero}
+use native.Mathlib.Nat.{add-zero, zero-add, mul-zero}
 use native.Mathlib.Numerals.{add-one}
 use lib.ListN.{length, take, drop, length-drop}
 use lib.Seq.{take-append-add, drop-append-add, drop-drop, length-take-le}

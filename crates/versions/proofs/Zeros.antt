@@ -9,7 +9,7 @@ use lib.Bits.{bitOr, or-zero-l, or-add-and, and-le-r, and-le-l}
 use lib.ListN.{getD, length, drop, List·getD-eq-default}
 use lib.Seq.{getD-drop}
 use lib.Dec.{T, eqb, ltb, eqb→eq}
-use borrow.Author.Tests.{eqb-true, eqb-false, ltb-true, ltb-false}
+use borrow.Author.Tests.{ltb-true, ltb-false}
 use Rattle.rules.specs.Words.{everyBelow, someBelow, every}
 use Rattle.rules.proofs.Tests.{and-left, and-right, and-both, is-false, false-is, eq-make}
 use Rattle.rules.proofs.Counts.{everyBelow→, →everyBelow}

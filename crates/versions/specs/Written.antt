@@ -7,9 +7,9 @@ use lib.ListN.{getD, length, take, drop}
 use lib.Dec.{eqb}
 use Rattle.names.specs.Sizes.{base}
 use Rattle.rules.specs.Words.{row}
-use Rattle.rules.specs.Tables.{versionRow, versionWords, lockRow}
-use Rattle.rules.specs.Versions.{Version, versionsIn, stampAt}
-use Rattle.versions.specs.Ordered.{InOrder}
+use Rattle.rules.specs.Tables.{versionRow, versionWords, lockRow, lockWords}
+use Rattle.rules.specs.Versions.{Version, versionsIn, versionsOf, stampAt, rowOf, kept}
+use Rattle.versions.specs.Ordered.{lanes, InOrder}
 use Rattle.versions.specs.Rows.{between}
 
 -- those of some versions that one of the starts q reads, hi being the stamp before them
@@ -22,6 +22,10 @@ readAfter q hi (v ∷ rest) =
 -- the versions of a row, with a new one in front or without
 abbrev pub fronted : Bool → ℕ → ℕ → List Version → List Version
 fronted new stamp value vs = cond new (record { stamp = stamp; value = value } ∷ vs) vs
+
+-- the words of the row r so rewritten: what the starts qs read is kept
+abbrev pub newWords : List ℕ → Bool → ℕ → ℕ → List ℕ → List ℕ
+newWords qs new stamp value r = rowOf base (kept qs (fronted new stamp value (versionsIn r)))
 
 -- the versions of item x with the working value in front, where the slot of owner - 1 holds the item exclusively, by the words l
 -- of the locks
@@ -51,9 +55,23 @@ pub record Writable (r q : List ℕ) (new : Bool) (stamp : ℕ) : Type 0 where
   pub starts : List ℕ
   pub few : Few starts q
 
+-- a row that can be packed behind a pair of that stamp, from place from on: there is room
+pub record Packable (r q : List ℕ) (stamp from : ℕ) : Type 0 where
+  pub size : length r ≡ versionRow base
+  pub most : getD r 0 0 ≤ base .places
+  pub starts : length q ≡ lanes
+  pub room : length (readAfter q stamp (drop from (versionsIn r))) < base .places
+
 -- a table whose rows can all be rewritten
 pub record AllSound (v q : List ℕ) : Type 0 where
   pub size : length v ≡ versionWords base
   pub rows : (x : ℕ) → x < base .items → Sound (row (versionRow base) x v)
   pub starts : List ℕ
   pub few : Few starts q
+
+-- tables on which the update in slot s can commit at that stamp, by the words l of the locks
+pub record Committable (v l q : List ℕ) (s stamp : ℕ) : Type 0 where
+  pub sound : AllSound v q
+  pub locks : length l ≡ lockWords base
+  pub inside : s < base .slots
+  pub newer : (x : ℕ) → x < base .items → stampAt (versionsOf base v x) 0 < stamp

@@ -1,9 +1,11 @@
-// The version table: which version a start reads, the test of every row, and rows rewritten with
-// and without a new version.
+// The table of versions: the test of its rows, the version that a start reads, and its rows
+// rewritten, with a new version in front or without.
 //
-// Every function is proved against the rules of the crate `rules`.
+// Every function is proved against the definitions of the crate `rules`. Each has a `requires` that
+// good tables meet, as the laws of proofs/Handed say.
 mod choose;
 mod order;
+mod rewrite;
 mod test;
 mod write;
 
@@ -11,12 +13,19 @@ pub use choose::Choice;
 pub use choose::chosen;
 pub use choose::newest;
 pub use order::starts_in_order;
+pub use rewrite::commit_all;
+pub use rewrite::trim_all;
 pub use test::all_good;
-pub use write::commit_all;
-pub use write::trim_all;
 pub use write::write_row;
 
-// The words of a row: a count, then pairs of stamp and value.
+// The words before the rows of the transactions, those of such a row, and those of a lock.
+const HEAD: usize = 2;
+
+const TXN: usize = 5;
+
+const LOCK: usize = 3;
+
+// The words of a row of versions: a count, then pairs of stamp and value.
 const PAIRS: usize = 2 * (names::PLACES as usize);
 
 const ROW: usize = 1 + PAIRS;

@@ -1,55 +1,71 @@
+-- A begin on good tables; code 10 on others. Assumes nothing.
+use Prim.Native.Nat.{ℕ, _+_, _≤_, _<_}
+use mathlib.Core.Path.{_≡_, refl, sym, ap, _∙_, subst}
+use mathlib.Core.Bool.{Bool, true, false}
+use native.Mathlib.Omega.{arith}
+use lib.Dec.{eqb}
+use borrow.Author.Tests.{eq-eqb, ne-eqb}
+use Rattle.names.specs.declared.Answer.{Answer}
+use Rattle.names.specs.Sizes.{base, lastWord}
+use Rattle.rules.specs.Tables.{Tables, tables, clock, anUpdate, aQuery, sharedLock, exclusiveLock}
+use Rattle.rules.specs.Good.{Good}
+use Rattle.rules.specs.Answers.{Outcome, outcome, beginUpdate, beginQuery, read, write, commit, abort}
+use Rattle.rules.specs.Step.{act, begin, queryRead}
+use Rattle.rules.proofs.Steps.{step-good, step-bad}
+use Rattle.keeper.specs.Verdicts.{Done, begunBy, beginDone, callerOf, leaverOf, quitterOf}
+use Rattle.keeper.proofs.Admitted.{admitted, turned-away, rows-of, passed, CallerSays, caller-says, LeaverSays, leaver-says, quitter-says}
+use Rattle.keeper.proofs.Admitted.{begins-is, readOut, read-is, writeOut, write-is, commitOut, commit-is, abortOut, abort-is}
+use Rattle.keeper.proofs.Admitted.{ended-is, committed-is, aborted-is, next-at, next-spent}
 use borrow.Author.Needs.{needs}
 use Rattle.keeper.proofs.begin_update.Statement.{statement}
 use Rattle.keeper.proofs.begin_update.Tie as tie
-use Rattle.keeper.proofs.begin_update.Reads as reads
-use Rattle.keeper.proofs.begin_update.Lts as lts
-use Rattle.keeper.proofs.begins.begin.Reads as begin-reads
-use Rattle.keeper.proofs.refusal.Reads as refusal-reads
-use Rattle.tables.proofs.good.Reads as good-reads
 
--- src/lib.rt:64:9
 good-requires : tie.Need-good-requires
 good-requires c κs = search needs
 
--- src/lib.rt:65:9
 refusal-requires : tie.Need-refusal-requires
 refusal-requires c κs = search needs
 
--- src/lib.rt:65:9
 same-length : tie.Need-same-length
 same-length c = search needs
 
--- src/lib.rt:65:9
 same-length-2 : tie.Need-same-length-2
 same-length-2 c = search needs
 
--- src/lib.rt:65:9
 same-length-3 : tie.Need-same-length-3
 same-length-3 c = search needs
 
--- src/lib.rt:65:9
 returns : tie.Need-returns
-returns c = ?
+returns c =
+    let a = c .before .before .before .before .before .before .before .before .before .args in
+    let G : Tables = tables (a .txns .now) (a .locks .now) (a .versions .now) in
+    ap (λ (r : Answer). outcome r (G .txns) (G .locks) (G .versions)) (c .refusal .ensures)
+    ∙ sym (step-bad base beginUpdate G (turned-away G (c .before .before .good2 .result) (c .before .before .good2 .ensures) (c .before .if1 .taken)))
 
--- src/lib.rt:67:5
 begin-requires : tie.Need-begin-requires
-begin-requires c κs = ?
+begin-requires c κs =
+    let a = c .before .before .before .before .before .before .before .before .before .args in
+    let G : Tables = tables (a .txns .now) (a .locks .now) (a .versions .now) in
+    let g = admitted G (c .before .before .good2 .result) (c .before .before .good2 .ensures) (c .before .if1 .left) in
+    rows-of G g
 
--- src/lib.rt:61:1
 same-length-4 : tie.Need-same-length-4
 same-length-4 c = search needs
 
--- src/lib.rt:61:1
 same-length-5 : tie.Need-same-length-5
 same-length-5 c = search needs
 
--- src/lib.rt:61:1
 same-length-6 : tie.Need-same-length-6
 same-length-6 c = search needs
 
--- src/lib.rt:61:1
 returns-2 : tie.Need-returns-2
-returns-2 c = ?
+unfolding act
+returns-2 c =
+    let a = c .before .before .before .before .before .before .before .before .before .before .before .before .args in
+    let G : Tables = tables (a .txns .now) (a .locks .now) (a .versions .now) in
+    let g = admitted G (c .before .before .before .before .before .good2 .result) (c .before .before .before .before .before .good2 .ensures) (c .before .before .before .before .if1 .left) in
+    ap (λ (d : Done). outcome (d .answer) (d .txns) (G .locks) (G .versions)) (c .before .before .begin .ensures)
+    ∙ sym (step-good base beginUpdate G (passed G g) ∙ begins-is G g anUpdate 0)
 
 pub begin-update-spec : {M : Type 1} → statement M
 begin-update-spec =

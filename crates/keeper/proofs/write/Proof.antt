@@ -1,160 +1,178 @@
+-- A write on good tables is what the judged caller gets; code 10 on others. Assumes nothing.
+use Prim.Native.Nat.{ℕ, _+_, _≤_, _<_}
+use mathlib.Core.Path.{_≡_, refl, sym, ap, _∙_, subst}
+use mathlib.Core.Bool.{Bool, true, false}
+use native.Mathlib.Omega.{arith}
+use lib.Dec.{eqb}
+use borrow.Author.Tests.{eq-eqb, ne-eqb}
+use Rattle.names.specs.declared.Answer.{Answer}
+use Rattle.names.specs.Sizes.{base, lastWord}
+use Rattle.rules.specs.Tables.{Tables, tables, clock, anUpdate, aQuery, sharedLock, exclusiveLock}
+use Rattle.rules.specs.Good.{Good}
+use Rattle.rules.specs.Answers.{Outcome, outcome, beginUpdate, beginQuery, read, write, commit, abort}
+use Rattle.rules.specs.Step.{act, begin, queryRead}
+use Rattle.rules.proofs.Steps.{step-good, step-bad}
+use Rattle.keeper.specs.Verdicts.{Done, begunBy, beginDone, callerOf, leaverOf, quitterOf}
+use Rattle.keeper.proofs.Admitted.{admitted, turned-away, rows-of, passed, CallerSays, caller-says, LeaverSays, leaver-says, quitter-says}
+use Rattle.keeper.proofs.Admitted.{begins-is, readOut, read-is, writeOut, write-is, commitOut, commit-is, abortOut, abort-is}
+use Rattle.keeper.proofs.Admitted.{ended-is, committed-is, aborted-is, next-at, next-spent}
 use borrow.Author.Needs.{needs}
 use Rattle.keeper.proofs.write.Statement.{statement}
 use Rattle.keeper.proofs.write.Tie as tie
-use Rattle.keeper.proofs.write.Reads as reads
-use Rattle.keeper.proofs.write.Lts as lts
-use Rattle.keeper.proofs.access.access.Reads as access-reads
-use Rattle.keeper.proofs.judge.who_calls.Reads as who-calls-reads
-use Rattle.keeper.proofs.refusal.Reads as refusal-reads
-use Rattle.tables.proofs.good.Reads as good-reads
 
--- src/lib.rt:111:9
 good-requires : tie.Need-good-requires
 good-requires c κs = search needs
 
--- src/lib.rt:112:9
 refusal-requires : tie.Need-refusal-requires
 refusal-requires c κs = search needs
 
--- src/lib.rt:112:9
 same-length : tie.Need-same-length
 same-length c = search needs
 
--- src/lib.rt:112:9
 same-length-2 : tie.Need-same-length-2
 same-length-2 c = search needs
 
--- src/lib.rt:112:9
 same-length-3 : tie.Need-same-length-3
 same-length-3 c = search needs
 
--- src/lib.rt:112:9
 returns : tie.Need-returns
-returns c = ?
+returns c =
+    let a = c .before .before .before .before .before .before .before .before .before .args in
+    let G : Tables = tables (a .txns .now) (a .locks .now) (a .versions .now) in
+    ap (λ (r : Answer). outcome r (G .txns) (G .locks) (G .versions)) (c .refusal .ensures)
+    ∙ sym (step-bad base (write (a .number) (a .item) (a .value)) G (turned-away G (c .before .before .good2 .result) (c .before .before .good2 .ensures) (c .before .if1 .taken)))
 
--- src/lib.rt:114:9
 who-calls-requires : tie.Need-who-calls-requires
-who-calls-requires c κs = ?
+who-calls-requires c κs =
+    let a = c .before .before .before .before .before .before .before .before .before .args in
+    let G : Tables = tables (a .txns .now) (a .locks .now) (a .versions .now) in
+    let g = admitted G (c .before .before .good2 .result) (c .before .before .good2 .ensures) (c .before .if1 .left) in
+    rows-of G g
 
--- src/lib.rt:116:28
 enum-told : tie.Need-enum-told
 enum-told c = search needs
 
--- src/lib.rt:116:28
 refusal-requires-2 : tie.Need-refusal-requires-2
 refusal-requires-2 c κs = search needs
 
--- src/lib.rt:117:27
 enum-told-2 : tie.Need-enum-told-2
 enum-told-2 c = search needs
 
--- src/lib.rt:117:27
 refusal-requires-3 : tie.Need-refusal-requires-3
 refusal-requires-3 c κs = search needs
 
--- src/lib.rt:118:28
 enum-told-3 : tie.Need-enum-told-3
 enum-told-3 c = search needs
 
--- src/lib.rt:118:28
 refusal-requires-4 : tie.Need-refusal-requires-4
 refusal-requires-4 c κs = search needs
 
--- src/lib.rt:119:32
 enum-told-4 : tie.Need-enum-told-4
 enum-told-4 c = search needs
 
--- src/lib.rt:119:32
 refusal-requires-5 : tie.Need-refusal-requires-5
 refusal-requires-5 c κs = search needs
 
--- src/lib.rt:120:24
 enum-known-caller : tie.Need-enum-known-caller
 enum-known-caller c = search needs
 
--- src/lib.rt:121:13
 access-requires : tie.Need-access-requires
-access-requires c κs = ?
+access-requires c κs =
+    let a = c .before .before .before .before .before .before .before .before .before .before .before .before .before .before .before .before .args in
+    let G : Tables = tables (a .txns .now) (a .locks .now) (a .versions .now) in
+    let g = admitted G (c .before .before .before .before .before .before .before .before .before .good2 .result) (c .before .before .before .before .before .before .before .before .before .good2 .ensures) (c .before .before .before .before .before .before .before .before .if1 .left) in
+    let e = sym (c .before .before .before .before .before .before .who-calls .ensures) ∙ c .before .before .before .before .caller .given .1 in
+    let f = subst (CallerSays G g) e (caller-says G g (a .number) (a .item) exclusiveLock) in
+    (g, f .0, f .1, omega arith)
 
--- src/lib.rt:108:1
 same-length-4 : tie.Need-same-length-4
 same-length-4 c = search needs
 
--- src/lib.rt:108:1
 same-length-5 : tie.Need-same-length-5
 same-length-5 c = search needs
 
--- src/lib.rt:108:1
 same-length-6 : tie.Need-same-length-6
 same-length-6 c = search needs
 
--- src/lib.rt:108:1
 returns-2 : tie.Need-returns-2
-returns-2 c = ?
+returns-2 c =
+    let a = c .before .before .before .before .before .before .before .before .before .before .before .before .before .args in
+    let G : Tables = tables (a .txns .now) (a .locks .now) (a .versions .now) in
+    let g = admitted G (c .before .before .before .before .before .before .good2 .result) (c .before .before .before .before .before .before .good2 .ensures) (c .before .before .before .before .before .if1 .left) in
+    let e = sym (c .before .before .before .who-calls .ensures) ∙ c .before .enum-told .given .1 in
+    ap (λ (r : Answer). outcome r (G .txns) (G .locks) (G .versions)) (c .refusal2 .ensures)
+    ∙ sym (write-is G g (a .number) (a .item) (a .value) ∙ ap (writeOut G g (a .value)) e)
 
--- src/lib.rt:108:1
 same-length-7 : tie.Need-same-length-7
 same-length-7 c = search needs
 
--- src/lib.rt:108:1
 same-length-8 : tie.Need-same-length-8
 same-length-8 c = search needs
 
--- src/lib.rt:108:1
 same-length-9 : tie.Need-same-length-9
 same-length-9 c = search needs
 
--- src/lib.rt:108:1
 returns-3 : tie.Need-returns-3
-returns-3 c = ?
+returns-3 c =
+    let a = c .before .before .before .before .before .before .before .before .before .before .before .before .before .args in
+    let G : Tables = tables (a .txns .now) (a .locks .now) (a .versions .now) in
+    let g = admitted G (c .before .before .before .before .before .before .good2 .result) (c .before .before .before .before .before .before .good2 .ensures) (c .before .before .before .before .before .if1 .left) in
+    let e = sym (c .before .before .before .who-calls .ensures) ∙ c .before .enum-told2 .given .1 in
+    ap (λ (r : Answer). outcome r (G .txns) (G .locks) (G .versions)) (c .refusal3 .ensures)
+    ∙ sym (write-is G g (a .number) (a .item) (a .value) ∙ ap (writeOut G g (a .value)) e)
 
--- src/lib.rt:108:1
 same-length-10 : tie.Need-same-length-10
 same-length-10 c = search needs
 
--- src/lib.rt:108:1
 same-length-11 : tie.Need-same-length-11
 same-length-11 c = search needs
 
--- src/lib.rt:108:1
 same-length-12 : tie.Need-same-length-12
 same-length-12 c = search needs
 
--- src/lib.rt:108:1
 returns-4 : tie.Need-returns-4
-returns-4 c = ?
+returns-4 c =
+    let a = c .before .before .before .before .before .before .before .before .before .before .before .before .before .args in
+    let G : Tables = tables (a .txns .now) (a .locks .now) (a .versions .now) in
+    let g = admitted G (c .before .before .before .before .before .before .good2 .result) (c .before .before .before .before .before .before .good2 .ensures) (c .before .before .before .before .before .if1 .left) in
+    let e = sym (c .before .before .before .who-calls .ensures) ∙ c .before .enum-told3 .given .1 in
+    ap (λ (r : Answer). outcome r (G .txns) (G .locks) (G .versions)) (c .refusal4 .ensures)
+    ∙ sym (write-is G g (a .number) (a .item) (a .value) ∙ ap (writeOut G g (a .value)) e)
 
--- src/lib.rt:108:1
 same-length-13 : tie.Need-same-length-13
 same-length-13 c = search needs
 
--- src/lib.rt:108:1
 same-length-14 : tie.Need-same-length-14
 same-length-14 c = search needs
 
--- src/lib.rt:108:1
 same-length-15 : tie.Need-same-length-15
 same-length-15 c = search needs
 
--- src/lib.rt:108:1
 returns-5 : tie.Need-returns-5
-returns-5 c = ?
+returns-5 c =
+    let a = c .before .before .before .before .before .before .before .before .before .before .before .before .before .args in
+    let G : Tables = tables (a .txns .now) (a .locks .now) (a .versions .now) in
+    let g = admitted G (c .before .before .before .before .before .before .good2 .result) (c .before .before .before .before .before .before .good2 .ensures) (c .before .before .before .before .before .if1 .left) in
+    let e = sym (c .before .before .before .who-calls .ensures) ∙ c .before .enum-told4 .given .1 in
+    ap (λ (r : Answer). outcome r (G .txns) (G .locks) (G .versions)) (c .refusal5 .ensures)
+    ∙ sym (write-is G g (a .number) (a .item) (a .value) ∙ ap (writeOut G g (a .value)) e)
 
--- src/lib.rt:108:1
 same-length-16 : tie.Need-same-length-16
 same-length-16 c = search needs
 
--- src/lib.rt:108:1
 same-length-17 : tie.Need-same-length-17
 same-length-17 c = search needs
 
--- src/lib.rt:108:1
 same-length-18 : tie.Need-same-length-18
 same-length-18 c = search needs
 
--- src/lib.rt:108:1
 returns-6 : tie.Need-returns-6
-returns-6 c = ?
+returns-6 c =
+    let a = c .before .before .before .before .before .before .before .before .before .before .before .before .before .before .before .before .before .before .before .before .before .args in
+    let G : Tables = tables (a .txns .now) (a .locks .now) (a .versions .now) in
+    let g = admitted G (c .before .before .before .before .before .before .before .before .before .before .before .before .before .before .good2 .result) (c .before .before .before .before .before .before .before .before .before .before .before .before .before .before .good2 .ensures) (c .before .before .before .before .before .before .before .before .before .before .before .before .before .if1 .left) in
+    let e = sym (c .before .before .before .before .before .before .before .before .before .before .before .who-calls .ensures) ∙ c .before .before .before .before .before .before .before .before .before .caller .given .1 in
+    c .before .before .before .before .access .ensures ∙ sym (write-is G g (a .number) (a .item) (a .value) ∙ ap (writeOut G g (a .value)) e)
 
 pub write-spec : {M : Type 1} → statement M
 write-spec =

@@ -1,8 +1,9 @@
 -- The test of all tables: each part that fails makes them bad, and where all others pass the versions decide. Assumes nothing.
 use Prim.Native.Nat.{ℕ, _^_, _<_}
-use mathlib.Core.Path.{_≡_, sym, ap, ap₂, _∙_, subst}
+use mathlib.Core.Path.{sym, ap, _∙_, subst}
 use mathlib.Core.Logic.{⊎-elim}
 use mathlib.Core.Bool.{_&&_}
+use mathlib.Core.List.{List}
 use lib.Dec.{T}
 use borrow.Author.Tests.{not-true, not-false}
 use borrow.Author.Needs.{needs}
@@ -12,7 +13,7 @@ use Rattle.rules.specs.Tested.{distinct}
 use Rattle.rules.specs.Waits.{noCircle}
 use Rattle.rules.proofs.Tests.{and-left, and-right, and-both, true-is, false-is}
 use Rattle.tables.specs.declared.Seen.{Seen}
-use Rattle.tables.specs.Shape.{rowsGood, updatesIn, waitingIn}
+use Rattle.tables.specs.Shape.{rowsGood}
 use Rattle.tables.specs.Holding.{locksGood}
 use Rattle.tables.specs.Waiting.{Readable, Awaiting, awaitersGood}
 use Rattle.tables.proofs.Holders.{updates-lt}
@@ -31,49 +32,63 @@ returns-2 c = fails _ _ _ (λ p. c .if2 .taken (p .locksExact))
 returns-3 : tie.Need-returns-3
 returns-3 c = fails _ _ _ (λ p. c .if3 .taken (p .versionsExact))
 
+-- the words of the tables, whose sizes are exact
+abbrev txns : tie.Else3 → List ℕ
+txns c = c .before .before .before .before .before .before .args .txns .now
+
+abbrev locks : tie.Else3 → List ℕ
+locks c = c .before .before .before .before .before .before .args .locks .now
+
 rows-requires : tie.Need-rows-requires
-rows-requires c κs = search needs
+rows-requires c κs = c .before .before .if1 .left
 
 returns-4 : tie.Need-returns-4
-returns-4 c = fails _ _ _ (λ p. false-is (sym (ap (λ (s : Seen). s .ok) (c .before .rows .ensures)) ∙ not-true _ (c .if4 .taken)) (p .rows))
+returns-4 c =
+    fails _ _ _ (λ p. false-is (sym (ap (λ (s : Seen). s .ok) (c .before .rows .ensures)) ∙ not-true _ (c .if4 .taken)) (p .rows))
 
 -- the rows passed
-rows-pass : (c : tie.Else4) → T (rowsGood base (c .before .before .before .before .before .before .before .before .args .txns .now))
-rows-pass c = true-is (sym (ap (λ (s : Seen). s .ok) (c .before .rows .ensures)) ∙ not-false _ (c .if4 .left))
+rows-passed : (c : tie.Else4) → T (rowsGood base (txns (c .before .before)))
+rows-passed c = true-is (sym (ap (λ (s : Seen). s .ok) (c .before .rows .ensures)) ∙ not-false _ (c .if4 .left))
 
 locks-pass-requires : tie.Need-locks-pass-requires
-locks-pass-requires c κs = (c .before .before .before .if2 .left, subst (λ (u : ℕ). u < 2 ^ base .slots) (sym (ap (λ (s : Seen). s .updates) (c .before .rows .ensures))) (updates-lt (c .before .before .before .before .before .before .before .before .args .txns .now)))
+locks-pass-requires c κs =
+    let e = ap (λ (s : Seen). s .updates) (c .before .rows .ensures) in
+    (c .before .before .before .if2 .left, subst (λ (u : ℕ). u < 2 ^ base .slots) (sym e) (updates-lt (txns (c .before .before))))
 
 returns-5 : tie.Need-returns-5
-returns-5 c = fails _ _ _ (λ p. false-is (sym (c .before .locks-pass .ensures _ (ap (λ (s : Seen). s .updates) (c .before .before .before .rows .ensures))) ∙ not-true _ (c .if5 .taken)) (p .locks))
+returns-5 c =
+    let e = ap (λ (s : Seen). s .updates) (c .before .before .before .rows .ensures) in
+    fails _ _ _ (λ p. false-is (sym (c .before .locks-pass .ensures _ e) ∙ not-true _ (c .if5 .taken)) (p .locks))
 
 -- and the locks, so the waits can be read
-locks-passed : (c : tie.Else5) → T (locksGood base (c .before .before .before .before .before .before .before .before .before .before .args .txns .now) (c .before .before .before .before .before .before .before .before .before .before .args .locks .now))
+locks-passed : (c : tie.Else5) → T (locksGood base (txns (c .before .before .before .before)) (locks (c .before .before .before .before)))
 locks-passed c =
-    true-is
-    (sym (c .before .locks-pass .ensures (c .before .before .before .before .before .before .before .before .before .before .args .txns .now) (ap (λ (s : Seen). s .updates) (c .before .before .before .rows .ensures))) ∙ not-false _ (c .if5 .left))
+    let e = ap (λ (s : Seen). s .updates) (c .before .before .before .rows .ensures) in
+    true-is (sym (c .before .locks-pass .ensures (txns (c .before .before .before .before)) e) ∙ not-false _ (c .if5 .left))
 
-readable-here : (c : tie.Else5) → Readable (c .before .before .before .before .before .before .before .before .before .before .args .txns .now) (c .before .before .before .before .before .before .before .before .before .before .args .locks .now)
+readable-here : (c : tie.Else5) → Readable (txns (c .before .before .before .before)) (locks (c .before .before .before .before))
 readable-here c =
-    readable (c .before .before .before .before .before .before .before .before .before .before .args .txns .now) (rows-pass (c .before .before)) (c .before .before .before .before .before .before .before .before .before .before .args .locks .now) (c .before .before .before .before .before .before .if1 .left) (c .before .before .before .before .before .if2 .left) (locks-passed c)
+    readable (txns (c .before .before .before .before)) (rows-passed (c .before .before)) (locks (c .before .before .before .before)) (c .before .before .before .before .before .before .if1 .left) (c .before .before .before .before .before .if2 .left) (locks-passed c)
 
 distinct-requires : tie.Need-distinct-requires
-distinct-requires c κs = search needs
+distinct-requires c κs = c .before .before .before .before .before .before .if1 .left
 
 returns-6 : tie.Need-returns-6
 returns-6 c = fails _ _ _ (λ p. false-is (sym (c .before .distinct .ensures) ∙ not-true _ (c .if6 .taken)) (p .numbers))
 
 waits-pass-requires : tie.Need-waits-pass-requires
-waits-pass-requires c κs = 
+waits-pass-requires c κs =
+    let t = txns (c .before .before .before .before .before .before .before) in
     let e = ap (λ (s : Seen). s .waiting) (c .before .before .before .before .before .before .rows .ensures) in
-    (readable-here (c .before .before .before), subst (λ (u : ℕ). Awaiting (c .before .before .before .before .before .before .before .before .before .before .before .before .before .args .txns .now) u) (sym e) (awaiting (c .before .before .before .before .before .before .before .before .before .before .before .before .before .args .txns .now) (rows-pass (c .before .before .before .before .before))))
+    (readable-here (c .before .before .before), subst (λ (u : ℕ). Awaiting t u) (sym e) (awaiting t (rows-passed (c .before .before .before .before .before))))
 
 returns-7 : tie.Need-returns-7
-returns-7 c = 
-    fails _ _ _ (λ p. false-is (sym (c .before .waits-pass .ensures) ∙ not-true _ (c .if8 .taken)) (and-both (awaitersGood base _ _) _ (p .awaiters) (p .free)))
+returns-7 c =
+    fails _ _ _
+    (λ p. false-is (sym (c .before .waits-pass .ensures) ∙ not-true _ (c .if8 .taken)) (and-both (awaitersGood base _ _) _ (p .awaiters) (p .free)))
 
 starts-in-order-requires : tie.Need-starts-in-order-requires
-starts-in-order-requires c κs = search needs
+starts-in-order-requires c κs = c .before .before .before .before .before .before .before .before .before .if1 .left
 
 shared-slice-read-all-good : tie.Need-shared-slice-read-all-good
 shared-slice-read-all-good c = search needs
@@ -82,30 +97,30 @@ slice-aggregate-all-good : tie.Need-slice-aggregate-all-good
 slice-aggregate-all-good c = search needs
 
 all-good-requires : tie.Need-all-good-requires
-all-good-requires c κs = search needs
+all-good-requires c κs = (c .before .before .before .before .before .before .before .before .before .before .if3 .left, c .before .before .starts-in-order .ensures .order)
 
 returns-8 : tie.Need-returns-8
-returns-8 c = 
-    let t = c .before .before .before .before .before .before .before .before .before .before .before .before .before .before .before .before .before .args .txns .now in
-    let l = c .before .before .before .before .before .before .before .before .before .before .before .before .before .before .before .before .before .args .locks .now in
-    let rows = rows-pass (c .before .before .before .before .before .before .before .before .before) in
-    let locks = locks-passed (c .before .before .before .before .before .before .before) in
+returns-8 c =
+    let t = txns (c .before .before .before .before .before .before .before .before .before .before .before) in
+    let l = locks (c .before .before .before .before .before .before .before .before .before .before .before) in
+    let rows = rows-passed (c .before .before .before .before .before .before .before .before .before) in
     let can = readable-here (c .before .before .before .before .before .before .before) in
+    let e = ap (λ (s : Seen). s .waiting) (c .before .before .before .before .before .before .before .before .before .before .rows .ensures) in
     let waits : T (awaitersGood base t l && noCircle base t l) =
-        ⊎-elim
-        (λ w. true-is (sym (w .1 .ensures) ∙ not-false _ (w .2 .left)))
-        (λ w.
-        let none : Awaiting t 0 = subst (λ (u : ℕ). Awaiting t u) (sym (ap (λ (s : Seen). s .waiting) (c .before .before .before .before .before .before .before .before .before .before .rows .ensures)) ∙ w .left) (awaiting t rows) in
-        and-both (awaitersGood base t l) _ (none-awaits t l can none) (none-circles t l can none))
-        (c .before .before .before .before .if7 .came) in
-    decides t l (c .before .before .before .before .before .before .before .before .before .before .before .before .before .before .before .before .before .args .versions .now) (c .all-good .ensures (starts base t) (c .before .before .before .starts-in-order .ensures))
+    ⊎-elim
+    (λ w. true-is (sym (w .1 .ensures) ∙ not-false _ (w .2 .left)))
+    (λ w.
+    let none : Awaiting t 0 = subst (λ (u : ℕ). Awaiting t u) (sym e ∙ w .left) (awaiting t rows) in
+    and-both (awaitersGood base t l) _ (none-awaits t l can none) (none-circles t l can none))
+    (c .before .before .before .before .if7 .came) in
+    decides t l _ (c .all-good .ensures (starts base t) (c .before .before .before .starts-in-order .ensures))
     (λ x.
     record {
       txnsExact = c .before .before .before .before .before .before .before .before .before .before .before .before .before .if1 .left;
       locksExact = c .before .before .before .before .before .before .before .before .before .before .before .before .if2 .left;
       versionsExact = c .before .before .before .before .before .before .before .before .before .before .before .if3 .left;
       rows = rows;
-      locks = locks;
+      locks = locks-passed (c .before .before .before .before .before .before .before);
       numbers = true-is (sym (c .before .before .before .before .before .before .distinct .ensures) ∙ not-false _ (c .before .before .before .before .before .if6 .left));
       awaiters = and-left (awaitersGood base t l) _ waits;
       free = and-right (awaitersGood base t l) _ waits;

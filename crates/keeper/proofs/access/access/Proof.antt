@@ -1,229 +1,232 @@
+-- Each cell carried out as its law says. Assumes nothing.
+use Prim.Native.Nat.{_+_}
+use mathlib.Core.Path.{sym, ap, _∙_, subst}
+use native.Mathlib.Omega.{arith}
+use Rattle.rules.specs.Tables.{Lock, lock}
+use Rattle.rules.specs.Step.{sharedToo, replaced, taken}
+use Rattle.keeper.specs.Cells.{askedOf, Slots}
+use Rattle.keeper.proofs.Decided.{decided, cell-told, lock-slots, wanted-is}
+use Rattle.keeper.proofs.Decided.{own-done, newest-done, shared-done, replaced-done, exchanged-done, taken-done, conflict-done}
 use borrow.Author.Needs.{needs}
 use Rattle.keeper.proofs.access.access.Statement.{statement}
 use Rattle.keeper.proofs.access.access.Tie as tie
-use Rattle.keeper.proofs.access.access.Reads as reads
-use Rattle.keeper.proofs.access.access.Lts as lts
-use Rattle.keeper.proofs.access.conflict.Reads as conflict-reads
-use Rattle.keeper.proofs.access.granted.Reads as granted-reads
-use Rattle.keeper.proofs.access.shared_too.Reads as shared-too-reads
-use Rattle.keeper.proofs.access.taken.Reads as taken-reads
-use Rattle.keeper.proofs.cells.decision.Reads as decision-reads
-use Rattle.rows.proofs.lock_at.Reads as lock-at-reads
-use Rattle.rows.proofs.set_lock.Reads as set-lock-reads
-use Rattle.rows.proofs.set_awaited.Reads as set-awaited-reads
-use Rattle.versions.proofs.newest.Reads as newest-reads
 
--- src/access.rt:84:9
 lock-at-requires : tie.Need-lock-at-requires
 lock-at-requires c κs = search needs
 
--- src/access.rt:85:9
 decision-requires : tie.Need-decision-requires
-decision-requires c κs = ?
+decision-requires c κs =
+    let a = c .before .before .before .before .before .args in
+    let p = c .before .before .before .before .before .pre in
+    (p .3, subst Slots (sym (c .lock-at .ensures)) (lock-slots (a .txns .now) (a .locks .now) (a .versions .now) (p .0) (a .item .0) (p .2)), p .1)
 
--- src/access.rt:88:31
 enum-told : tie.Need-enum-told
 enum-told c = search needs
 
--- src/access.rt:88:13
 set-awaited-requires : tie.Need-set-awaited-requires
 set-awaited-requires c κs = search needs
 
--- src/access.rt:89:13
 granted-requires : tie.Need-granted-requires
 granted-requires c κs = search needs
 
--- src/access.rt:92:31
 enum-told-2 : tie.Need-enum-told-2
 enum-told-2 c = search needs
 
--- src/access.rt:92:13
 set-awaited-requires-2 : tie.Need-set-awaited-requires-2
 set-awaited-requires-2 c κs = search needs
 
--- src/access.rt:93:21
 newest-requires : tie.Need-newest-requires
-newest-requires c κs = ?
+newest-requires c κs =
+    let a = c .before .before .before .before .before .before .before .before .before .before .before .before .args in
+    let p = c .before .before .before .before .before .before .before .before .before .before .before .before .pre in
+    (p .0 .versionsExact, p .2, p .0 .versionsGood (a .item .0) (p .2) .countLeast)
 
--- src/access.rt:93:13
 granted-requires-2 : tie.Need-granted-requires-2
 granted-requires-2 c κs = search needs
 
--- src/access.rt:96:31
 enum-told-3 : tie.Need-enum-told-3
 enum-told-3 c = search needs
 
--- src/access.rt:96:13
 set-awaited-requires-3 : tie.Need-set-awaited-requires-3
 set-awaited-requires-3 c κs = search needs
 
--- src/access.rt:97:41
 shared-too-requires : tie.Need-shared-too-requires
 shared-too-requires c κs = search needs
 
--- src/access.rt:97:13
 set-lock-requires : tie.Need-set-lock-requires
 set-lock-requires c κs = search needs
 
--- src/access.rt:98:21
 newest-requires-2 : tie.Need-newest-requires-2
-newest-requires-2 c κs = ?
+newest-requires-2 c κs =
+    let a = c .before .before .before .before .before .before .before .before .before .before .before .before .before .before .before .before .before .args in
+    let p = c .before .before .before .before .before .before .before .before .before .before .before .before .before .before .before .before .before .pre in
+    (p .0 .versionsExact, p .2, p .0 .versionsGood (a .item .0) (p .2) .countLeast)
 
--- src/access.rt:98:13
 granted-requires-3 : tie.Need-granted-requires-3
 granted-requires-3 c κs = search needs
 
--- src/access.rt:101:31
 enum-told-4 : tie.Need-enum-told-4
 enum-told-4 c = search needs
 
--- src/access.rt:101:13
 set-awaited-requires-4 : tie.Need-set-awaited-requires-4
 set-awaited-requires-4 c κs = search needs
 
--- src/access.rt:102:13
 set-lock-requires-2 : tie.Need-set-lock-requires-2
 set-lock-requires-2 c κs = search needs
 
--- src/access.rt:111:13
 granted-requires-4 : tie.Need-granted-requires-4
 granted-requires-4 c κs = search needs
 
--- src/access.rt:114:31
 enum-told-5 : tie.Need-enum-told-5
 enum-told-5 c = search needs
 
--- src/access.rt:114:13
 set-awaited-requires-5 : tie.Need-set-awaited-requires-5
 set-awaited-requires-5 c κs = search needs
 
--- src/access.rt:115:41
 taken-requires : tie.Need-taken-requires
 taken-requires c κs = search needs
 
--- src/access.rt:115:13
 set-lock-requires-3 : tie.Need-set-lock-requires-3
 set-lock-requires-3 c κs = search needs
 
--- src/access.rt:116:13
 granted-requires-5 : tie.Need-granted-requires-5
 granted-requires-5 c κs = search needs
 
--- src/access.rt:119:31
 enum-told-6 : tie.Need-enum-told-6
 enum-told-6 c = search needs
 
--- src/access.rt:119:13
 set-awaited-requires-6 : tie.Need-set-awaited-requires-6
 set-awaited-requires-6 c κs = search needs
 
--- src/access.rt:120:41
 taken-requires-2 : tie.Need-taken-requires-2
 taken-requires-2 c κs = search needs
 
--- src/access.rt:120:13
 set-lock-requires-4 : tie.Need-set-lock-requires-4
 set-lock-requires-4 c κs = search needs
 
--- src/access.rt:121:13
 granted-requires-6 : tie.Need-granted-requires-6
 granted-requires-6 c κs = search needs
 
--- src/access.rt:123:36
 enum-told-7 : tie.Need-enum-told-7
 enum-told-7 c = search needs
 
--- src/access.rt:123:60
 add-conflict : tie.Need-add-conflict
 add-conflict c = search needs
 
--- src/access.rt:123:27
 conflict-requires : tie.Need-conflict-requires
-conflict-requires c κs = ?
+conflict-requires c κs =
+    let a = c .before .before .before .before .before .before .before .before .before .before .args in
+    let p = c .before .before .before .before .before .before .before .before .before .before .pre in
+    record {
+      versions = a .versions .now;
+      good = p .0;
+      inside = p .1;
+      known = p .2;
+      some = λ e. omega arith;
+      listed = omega arith;
+    }
 
--- src/access.rt:80:1
 same-length : tie.Need-same-length
 same-length c = search needs
 
--- src/access.rt:80:1
 same-length-2 : tie.Need-same-length-2
 same-length-2 c = search needs
 
--- src/access.rt:80:1
 returns : tie.Need-returns
-returns c = ?
+unfolding decided
+returns c =
+    let a = c .before .before .before .before .before .before .before .before .before .before .before .before .before .args in
+    let k = c .before .before .before .before .before .before .before .before .lock-at .ensures in
+    let d = cell-told (askedOf (a .asked)) (lock (a .locks .now) (a .item .0)) (a .slot .0) (c .before .before .before .before .before .before .before .before .lock-at .result) k (c .before .before .before .before .before .before .before .decision .ensures) (c .before .before .before .before .before .enum-told .given .1) in
+    own-done (a .txns .now) (a .locks .now) (a .versions .now) (askedOf (a .asked)) (a .slot .0) (a .item .0) (a .value) d (ap (λ (h : Lock). h .working) k) (c .granted .ensures) (c .before .before .before .set-awaited .ensures)
 
--- src/access.rt:80:1
 same-length-3 : tie.Need-same-length-3
 same-length-3 c = search needs
 
--- src/access.rt:80:1
 same-length-4 : tie.Need-same-length-4
 same-length-4 c = search needs
 
--- src/access.rt:80:1
 returns-2 : tie.Need-returns-2
-returns-2 c = ?
+unfolding decided
+returns-2 c =
+    let a = c .before .before .before .before .before .before .before .before .before .before .before .before .before .before .args in
+    let k = c .before .before .before .before .before .before .before .before .before .lock-at .ensures in
+    let d = cell-told (askedOf (a .asked)) (lock (a .locks .now) (a .item .0)) (a .slot .0) (c .before .before .before .before .before .before .before .before .before .lock-at .result) k (c .before .before .before .before .before .before .before .before .decision .ensures) (c .before .before .before .before .before .before .enum-told2 .given .1) in
+    newest-done (a .txns .now) (a .locks .now) (a .versions .now) (askedOf (a .asked)) (a .slot .0) (a .item .0) (a .value) d (c .before .newest .ensures) (c .granted2 .ensures) (c .before .before .before .before .set-awaited2 .ensures)
 
--- src/access.rt:80:1
 same-length-5 : tie.Need-same-length-5
 same-length-5 c = search needs
 
--- src/access.rt:80:1
 same-length-6 : tie.Need-same-length-6
 same-length-6 c = search needs
 
--- src/access.rt:80:1
 returns-3 : tie.Need-returns-3
-returns-3 c = ?
+unfolding decided
+returns-3 c =
+    let a = c .before .before .before .before .before .before .before .before .before .before .before .before .before .before .before .before .before .before .before .args in
+    let k = c .before .before .before .before .before .before .before .before .before .before .before .before .before .before .lock-at .ensures in
+    let d = cell-told (askedOf (a .asked)) (lock (a .locks .now) (a .item .0)) (a .slot .0) (c .before .before .before .before .before .before .before .before .before .before .before .before .before .before .lock-at .result) k (c .before .before .before .before .before .before .before .before .before .before .before .before .before .decision .ensures) (c .before .before .before .before .before .before .before .before .before .before .before .enum-told3 .given .1) in
+    shared-done (a .txns .now) (a .locks .now) (a .versions .now) (askedOf (a .asked)) (a .slot .0) (a .item .0) (a .value) d (c .before .newest2 .ensures) (c .granted3 .ensures) (c .before .before .before .before .before .before .before .before .before .set-awaited3 .ensures) (c .before .before .before .before .set-lock .ensures)
+    (c .before .before .before .before .before .shared-too .ensures ∙ ap (λ (h : Lock). sharedToo h (a .slot .0)) k)
 
--- src/access.rt:80:1
 same-length-7 : tie.Need-same-length-7
 same-length-7 c = search needs
 
--- src/access.rt:80:1
 same-length-8 : tie.Need-same-length-8
 same-length-8 c = search needs
 
--- src/access.rt:80:1
 returns-4 : tie.Need-returns-4
-returns-4 c = ?
+unfolding decided
+returns-4 c =
+    let a = c .before .before .before .before .before .before .before .before .before .before .before .before .before .before .before .before .before .args in
+    let k = c .before .before .before .before .before .before .before .before .before .before .before .before .lock-at .ensures in
+    let d = cell-told (askedOf (a .asked)) (lock (a .locks .now) (a .item .0)) (a .slot .0) (c .before .before .before .before .before .before .before .before .before .before .before .before .lock-at .result) k (c .before .before .before .before .before .before .before .before .before .before .before .decision .ensures) (c .before .before .before .before .before .before .before .before .before .enum-told4 .given .1) in
+    replaced-done (a .txns .now) (a .locks .now) (a .versions .now) (askedOf (a .asked)) (a .slot .0) (a .item .0) (a .value) d (c .granted4 .ensures) (c .before .before .before .before .before .before .before .set-awaited4 .ensures) (c .before .before .before .set-lock2 .ensures)
+    (ap (λ (h : Lock). replaced h (a .value)) k)
 
--- src/access.rt:80:1
 same-length-9 : tie.Need-same-length-9
 same-length-9 c = search needs
 
--- src/access.rt:80:1
 same-length-10 : tie.Need-same-length-10
 same-length-10 c = search needs
 
--- src/access.rt:80:1
 returns-5 : tie.Need-returns-5
-returns-5 c = ?
+unfolding decided
+returns-5 c =
+    let a = c .before .before .before .before .before .before .before .before .before .before .before .before .before .before .before .before .before .before .args in
+    let k = c .before .before .before .before .before .before .before .before .before .before .before .before .before .lock-at .ensures in
+    let d = cell-told (askedOf (a .asked)) (lock (a .locks .now) (a .item .0)) (a .slot .0) (c .before .before .before .before .before .before .before .before .before .before .before .before .before .lock-at .result) k (c .before .before .before .before .before .before .before .before .before .before .before .before .decision .ensures) (c .before .before .before .before .before .before .before .before .before .before .enum-told5 .given .1) in
+    exchanged-done (a .txns .now) (a .locks .now) (a .versions .now) (askedOf (a .asked)) (a .slot .0) (a .item .0) (a .value) d (c .granted5 .ensures) (c .before .before .before .before .before .before .before .before .set-awaited5 .ensures) (c .before .before .before .set-lock3 .ensures)
+    (c .before .before .before .before .taken .ensures ∙ ap (λ (h : Lock). taken h (a .slot .0) (a .value)) k)
 
--- src/access.rt:80:1
 same-length-11 : tie.Need-same-length-11
 same-length-11 c = search needs
 
--- src/access.rt:80:1
 same-length-12 : tie.Need-same-length-12
 same-length-12 c = search needs
 
--- src/access.rt:80:1
 returns-6 : tie.Need-returns-6
-returns-6 c = ?
+unfolding decided
+returns-6 c =
+    let a = c .before .before .before .before .before .before .before .before .before .before .before .before .before .before .before .before .before .before .args in
+    let k = c .before .before .before .before .before .before .before .before .before .before .before .before .before .lock-at .ensures in
+    let d = cell-told (askedOf (a .asked)) (lock (a .locks .now) (a .item .0)) (a .slot .0) (c .before .before .before .before .before .before .before .before .before .before .before .before .before .lock-at .result) k (c .before .before .before .before .before .before .before .before .before .before .before .before .decision .ensures) (c .before .before .before .before .before .before .before .before .before .before .enum-told6 .given .1) in
+    taken-done (a .txns .now) (a .locks .now) (a .versions .now) (askedOf (a .asked)) (a .slot .0) (a .item .0) (a .value) d (c .granted6 .ensures) (c .before .before .before .before .before .before .before .before .set-awaited6 .ensures) (c .before .before .before .set-lock4 .ensures)
+    (c .before .before .before .before .taken2 .ensures ∙ ap (λ (h : Lock). taken h (a .slot .0) (a .value)) k)
 
--- src/access.rt:80:1
 same-length-13 : tie.Need-same-length-13
 same-length-13 c = search needs
 
--- src/access.rt:80:1
 same-length-14 : tie.Need-same-length-14
 same-length-14 c = search needs
 
--- src/access.rt:80:1
 returns-7 : tie.Need-returns-7
-returns-7 c = ?
+unfolding decided
+returns-7 c =
+    let a = c .before .before .before .before .before .before .before .before .before .before .before .before .before .args in
+    let k = c .before .before .before .before .before .before .before .before .lock-at .ensures in
+    let d = cell-told (askedOf (a .asked)) (lock (a .locks .now) (a .item .0)) (a .slot .0) (c .before .before .before .before .before .before .before .before .lock-at .result) k (c .before .before .before .before .before .before .before .decision .ensures) (c .before .before .before .before .before .enum-told7 .given .1) in
+    conflict-done (a .txns .now) (a .locks .now) (a .versions .now) (askedOf (a .asked)) (a .slot .0) (a .item .0) (a .value) d (a .asked + 1) (wanted-is (a .asked) (c .before .before .before .before .before .before .before .before .before .before .before .before .before .pre .3)) (c .before .before .conflict .ensures)
 
 pub access-spec : {M : Type 1} → statement M
 access-spec =

@@ -1,24 +1,29 @@
+-- The shared bits without that of the slot. Assumes nothing.
+use mathlib.Core.Path.{refl}
+use Rattle.rows.specs.Founds.{lockOf}
+use Rattle.rows.proofs.Bits.{digit-le, digit-shifted, cleared-is}
+use Rattle.keeper.proofs.Decided.{shares-is}
 use borrow.Author.Needs.{needs}
 use Rattle.keeper.proofs.cells.another_shares.Statement.{statement}
 use Rattle.keeper.proofs.cells.another_shares.Tie as tie
-use Rattle.keeper.proofs.cells.another_shares.Reads as reads
-use Rattle.keeper.proofs.cells.another_shares.Lts as lts
 
--- src/cells.rt:48:19
 shr-result : tie.Need-shr-result
 shr-result c = search needs
 
--- src/cells.rt:48:17
 shl-result : tie.Need-shl-result
 shl-result c = search needs
 
--- src/cells.rt:48:7
 sub-result : tie.Need-sub-result
-sub-result c = ?
+sub-result c =
+    let s = c .args .slot .0 in
+    let h = c .args .row .shared in
+    rw (digit-shifted h s (c .pre .1)) (digit-le h s)
 
--- src/cells.rt:42:1
 returns : tie.Need-returns
-returns c = ?
+returns c =
+    let s = c .args .slot .0 in
+    let h = c .args .row .shared in
+    rw (digit-shifted h s (c .pre .1), cleared-is h s) (shares-is (lockOf (c .args .row)) s (c .pre .0))
 
 pub another-shares-spec : {M : Type 1} → statement M
 another-shares-spec = tie.close (tie.spec shr-result shl-result sub-result returns)

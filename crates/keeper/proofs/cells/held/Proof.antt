@@ -1,28 +1,41 @@
+-- The two tests are those of the definition. Assumes nothing.
+use Prim.Native.Nat.{suc}
+use mathlib.Core.Path.{refl, sym, _∙_}
+use native.Mathlib.Omega.{arith}
+use native.Mathlib.Numerals.{add-one}
+use borrow.Author.Tests.{eq-eqb, ne-eqb}
+use Rattle.rules.specs.Words.{bit}
+use Rattle.rules.specs.Tables.{holdsShared, holdsExclusive}
+use Rattle.rules.specs.Locks.{heldBy}
 use borrow.Author.Needs.{needs}
 use Rattle.keeper.proofs.cells.held.Statement.{statement}
 use Rattle.keeper.proofs.cells.held.Tie as tie
-use Rattle.keeper.proofs.cells.held.Reads as reads
-use Rattle.keeper.proofs.cells.held.Lts as lts
 
--- src/cells.rt:32:21
 add-if1 : tie.Need-add-if1
 add-if1 c = search needs
 
--- src/cells.rt:33:9
 returns : tie.Need-returns
-returns c = ?
+unfolding heldBy holdsExclusive
+returns c =
+    let a = c .before .args in
+    rw (eq-eqb (a .row .exclusive) (suc (a .slot .0)) (c .if1 .taken ∙ add-one (a .slot .0))) (refl, omega arith)
 
--- src/cells.rt:35:9
 shr-if2 : tie.Need-shr-if2
 shr-if2 c = search needs
 
--- src/cells.rt:36:9
 returns-2 : tie.Need-returns-2
-returns-2 c = ?
+unfolding heldBy holdsExclusive holdsShared bit
+returns-2 c =
+    let a = c .before .before .args in
+    rw (ne-eqb (a .row .exclusive) (suc (a .slot .0)) (λ e. c .before .if1 .left (e ∙ sym (add-one (a .slot .0)))), eq-eqb _ 1 (c .if2 .taken))
+    (refl, omega arith)
 
--- src/cells.rt:25:1
 returns-3 : tie.Need-returns-3
-returns-3 c = ?
+unfolding heldBy holdsExclusive holdsShared bit
+returns-3 c =
+    let a = c .before .before .args in
+    rw (ne-eqb (a .row .exclusive) (suc (a .slot .0)) (λ e. c .before .if1 .left (e ∙ sym (add-one (a .slot .0)))), ne-eqb _ 1 (c .if2 .left))
+    (refl, omega arith)
 
 pub held-spec : {M : Type 1} → statement M
 held-spec = tie.close (tie.spec add-if1 returns shr-if2 returns-2 returns-3)

@@ -1,52 +1,88 @@
+-- Each code is one row and one column of the table. Assumes nothing.
+use mathlib.Core.Path.{_≡_, refl}
+use native.Mathlib.Omega.{arith}
+use Rattle.rules.specs.Locks.{decide}
 use borrow.Author.Needs.{needs}
 use Rattle.keeper.proofs.cells.look_up.Statement.{statement}
 use Rattle.keeper.proofs.cells.look_up.Tie as tie
-use Rattle.keeper.proofs.cells.look_up.Reads as reads
-use Rattle.keeper.proofs.cells.look_up.Lts as lts
 
--- src/cells.rt:66:16
 mul-code : tie.Need-mul-code
 mul-code c = search needs
 
--- src/cells.rt:66:16
 add-code : tie.Need-add-code
 add-code c = search needs
 
--- src/cells.rt:62:1
 returns : tie.Need-returns
-returns c = ?
+unfolding decide
+returns c =
+    let a = c .before .args in
+    let p : a .asked ≡ 0 = omega arith in
+    let q : a .held ≡ 0 = omega arith in
+    rw (p, q)
 
--- src/cells.rt:62:1
 returns-2 : tie.Need-returns-2
-returns-2 c = ?
+unfolding decide
+returns-2 c =
+    let a = c .before .args in
+    let p : a .asked ≡ 0 = omega arith in
+    let q : a .held ≡ 1 = omega arith in
+    rw (p, q)
 
--- src/cells.rt:62:1
 returns-3 : tie.Need-returns-3
-returns-3 c = ?
+unfolding decide
+returns-3 c =
+    let a = c .before .before .args in
+    let p : a .asked ≡ 0 = omega arith in
+    let q : a .held ≡ 2 = omega arith in
+    rw (p, q, c .if1 .taken)
 
--- src/cells.rt:62:1
 returns-4 : tie.Need-returns-4
-returns-4 c = ?
+unfolding decide
+returns-4 c =
+    let a = c .before .before .args in
+    let p : a .asked ≡ 0 = omega arith in
+    let q : a .held ≡ 2 = omega arith in
+    rw (p, q, c .if1 .left)
 
--- src/cells.rt:62:1
 returns-5 : tie.Need-returns-5
-returns-5 c = ?
+unfolding decide
+returns-5 c =
+    let a = c .before .args in
+    let p : a .asked ≡ 1 = omega arith in
+    let q : a .held ≡ 0 = omega arith in
+    rw (p, q)
 
--- src/cells.rt:62:1
 returns-6 : tie.Need-returns-6
-returns-6 c = ?
+unfolding decide
+returns-6 c =
+    let a = c .before .before .args in
+    let p : a .asked ≡ 1 = omega arith in
+    let q : a .held ≡ 1 = omega arith in
+    rw (p, q, c .if2 .taken)
 
--- src/cells.rt:62:1
 returns-7 : tie.Need-returns-7
-returns-7 c = ?
+unfolding decide
+returns-7 c =
+    let a = c .before .before .args in
+    let p : a .asked ≡ 1 = omega arith in
+    let q : a .held ≡ 1 = omega arith in
+    rw (p, q, c .if2 .left)
 
--- src/cells.rt:62:1
 returns-8 : tie.Need-returns-8
-returns-8 c = ?
+unfolding decide
+returns-8 c =
+    let a = c .before .before .args in
+    let p : a .asked ≡ 1 = omega arith in
+    let q : a .held ≡ 2 = omega arith in
+    rw (p, q, c .if3 .taken)
 
--- src/cells.rt:62:1
 returns-9 : tie.Need-returns-9
-returns-9 c = ?
+unfolding decide
+returns-9 c =
+    let a = c .before .before .args in
+    let p : a .asked ≡ 1 = omega arith in
+    let q : a .held ≡ 2 = omega arith in
+    rw (p, q, c .if3 .left)
 
 pub look-up-spec : {M : Type 1} → statement M
 look-up-spec =

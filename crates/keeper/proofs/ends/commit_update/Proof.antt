@@ -1,53 +1,72 @@
+-- The clock moves, the row goes, the working values become versions, the locks go. Assumes nothing.
+use Prim.Native.Nat.{ℕ, _+_, _≤_, _<_}
+use mathlib.Core.Path.{_≡_, refl, sym, ap, _∙_, subst}
+use mathlib.Core.List.{List}
+use native.Mathlib.Omega.{arith}
+use lib.ListN.{set, length-set}
+use Rattle.names.specs.Sizes.{base}
+use Rattle.rules.specs.Tables.{Tables, tables, clock, txn, setTxn, noTxn, starts}
+use Rattle.rules.specs.Good.{Good}
+use Rattle.rules.proofs.Ends.{gone-query}
+use Rattle.rules.proofs.Views.{txn-top}
+use Rattle.versions.specs.Ordered.{InOrder}
+use Rattle.versions.specs.Written.{Few}
+use Rattle.versions.proofs.Handed.{few-starts, good-rows, good-commits}
 use borrow.Author.Needs.{needs}
 use Rattle.keeper.proofs.ends.commit_update.Statement.{statement}
 use Rattle.keeper.proofs.ends.commit_update.Tie as tie
-use Rattle.keeper.proofs.ends.commit_update.Reads as reads
-use Rattle.keeper.proofs.ends.commit_update.Lts as lts
-use Rattle.rows.proofs.release.Reads as release-reads
-use Rattle.rows.proofs.leave.Reads as leave-reads
-use Rattle.rows.proofs.set_clock.Reads as set-clock-reads
-use Rattle.versions.proofs.starts_in_order.Reads as starts-in-order-reads
-use Rattle.versions.proofs.commit_all.Reads as commit-all-reads
 
--- src/ends.rt:29:5
 set-clock-requires : tie.Need-set-clock-requires
 set-clock-requires c κs = search needs
 
--- src/ends.rt:30:5
 leave-requires : tie.Need-leave-requires
 leave-requires c κs = search needs
 
--- src/ends.rt:31:18
 starts-in-order-requires : tie.Need-starts-in-order-requires
 starts-in-order-requires c κs = search needs
 
--- src/ends.rt:32:61
 slice-aggregate-commit-all : tie.Need-slice-aggregate-commit-all
 slice-aggregate-commit-all c = search needs
 
--- src/ends.rt:32:5
 commit-all-requires : tie.Need-commit-all-requires
-commit-all-requires c κs = ?
+commit-all-requires c κs =
+    let p = c .before .before .before .before .before .before .before .before .before .before .before .before .before .before .before .before .pre in
+    let t = c .before .before .before .before .before .before .before .before .before .before .before .before .before .before .before .before .args .txns .now in
+    let s = c .before .before .before .before .before .before .before .before .before .before .before .before .before .before .before .before .args .slot .0 in
+    let k = c .before .before .before .before .before .before .before .before .before .before .before .before .before .before .before .before .args .stamp .0 in
+    let G : Tables = tables t (c .before .before .before .before .before .before .before .before .before .before .before .before .before .before .before .before .args .locks .now) (c .before .before .before .before .before .before .before .before .before .before .before .before .before .before .before .before .args .versions .now) in
+    let q = c .before .before .before .starts-in-order .result in
+    let w : List ℕ = setTxn (set t 1 k) s noTxn in
+    let e = c .before .before .before .before .before .before .before .leave .ensures ∙ ap (λ (u : List ℕ). setTxn u s noTxn) (c .before .before .before .before .before .before .before .before .before .before .before .set-clock .ensures) in
+    let o = subst (λ (u : List ℕ). InOrder (starts base u) q) e (c .before .before .before .starts-in-order .ensures) in
+    let f : Few (starts base w) q = few-starts w q o s (p .1) (gone-query base t (set t 1 k) s (p .1) (length-set t 1 k ∙ p .0 .txnsExact) (λ r. txn-top t 1 k r (omega arith))) in
+    good-commits G (p .0) (starts base w) q f s (p .1) k (let z = p .2 in omega arith)
 
--- src/ends.rt:33:5
 release-requires : tie.Need-release-requires
 release-requires c κs = search needs
 
--- src/ends.rt:25:1
 same-length : tie.Need-same-length
 same-length c = search needs
 
--- src/ends.rt:25:1
 same-length-2 : tie.Need-same-length-2
 same-length-2 c = search needs
 
--- src/ends.rt:25:1
 same-length-3 : tie.Need-same-length-3
 same-length-3 c = search needs
 
--- src/ends.rt:25:1
 returns : tie.Need-returns
-returns c = ?
+returns c =
+    let p = c .before .before .before .before .before .before .before .before .before .before .before .before .before .before .before .before .before .before .before .before .before .before .before .pre in
+    let t = c .before .before .before .before .before .before .before .before .before .before .before .before .before .before .before .before .before .before .before .before .before .before .before .args .txns .now in
+    let s = c .before .before .before .before .before .before .before .before .before .before .before .before .before .before .before .before .before .before .before .before .before .before .before .args .slot .0 in
+    let k = c .before .before .before .before .before .before .before .before .before .before .before .before .before .before .before .before .before .before .before .before .before .before .before .args .stamp .0 in
+    let G : Tables = tables t (c .before .before .before .before .before .before .before .before .before .before .before .before .before .before .before .before .before .before .before .before .before .before .before .args .locks .now) (c .before .before .before .before .before .before .before .before .before .before .before .before .before .before .before .before .before .before .before .before .before .before .before .args .versions .now) in
+    let q = c .before .before .before .before .before .before .before .before .before .before .starts-in-order .result in
+    let w : List ℕ = setTxn (set t 1 k) s noTxn in
+    let e = c .before .before .before .before .before .before .before .before .before .before .before .before .before .before .leave .ensures ∙ ap (λ (u : List ℕ). setTxn u s noTxn) (c .before .before .before .before .before .before .before .before .before .before .before .before .before .before .before .before .before .before .set-clock .ensures) in
+    let o = subst (λ (u : List ℕ). InOrder (starts base u) q) e (c .before .before .before .before .before .before .before .before .before .before .starts-in-order .ensures) in
+    let f : Few (starts base w) q = few-starts w q o s (p .1) (gone-query base t (set t 1 k) s (p .1) (length-set t 1 k ∙ p .0 .txnsExact) (λ r. txn-top t 1 k r (omega arith))) in
+    record { txns = e; locks = c .before .before .release .ensures; versions = c .before .before .before .before .before .before .commit-all .ensures (starts base w) f }
 
 pub commit-update-spec : {M : Type 1} → statement M
 commit-update-spec =

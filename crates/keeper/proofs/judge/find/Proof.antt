@@ -26,7 +26,7 @@ enum-told c = search needs
 
 returns : tie.Need-returns
 unfolding foundAt
-returns c = 
+returns c =
     let e = impossible (c .before .before .before .before .args .txns .now) (c .before .before .before .before .pre) (c .before .before .before .before .args .number) (sym (c .before .before .of .ensures) ∙ c .enum-told .given .1) in
     rw (eq-eqb _ _ e)
 
@@ -34,7 +34,7 @@ slot-of-requires : tie.Need-slot-of-requires
 slot-of-requires c κs = search needs
 
 returns-2 : tie.Need-returns-2
-returns-2 c = 
+returns-2 c =
     let e = possible (c .before .before .before .before .before .before .args .number) _ (sym (c .before .before .before .before .of .ensures) ∙ c .before .before .of2 .given .1) in
     c .slot-of .ensures ∙ ap (λ (n : ℕ). foundAt (slotOf base (c .before .before .before .before .before .before .args .txns .now) n)) e
 

@@ -33,7 +33,7 @@ last-number-requires c κs = search needs
 
 returns-2 : tie.Need-returns-2
 unfolding beginOf
-returns-2 c = 
+returns-2 c =
     let f = found-slot _ _ (sym (c .before .before .before .before .before .free-slot .ensures) ∙ c .before .before .before .found .given .1) in
     rw (f .some, eq-eqb _ _ (sym (c .before .last-number .ensures) ∙ c .if1 .taken))
 
@@ -42,7 +42,7 @@ add-t6 c = search needs
 
 returns-3 : tie.Need-returns-3
 unfolding beginOf
-returns-3 c = 
+returns-3 c =
     let t = c .before .before .before .before .before .before .before .args .txns .now in
     let f = found-slot (freeSlot base t) _ (sym (c .before .before .before .before .before .free-slot .ensures) ∙ c .before .before .before .found .given .1) in
     let e = c .before .last-number .ensures in

@@ -29,7 +29,7 @@ unfolding quitterOf
 returns c = rw (found-nobody _ (sym (c .before .before .find .ensures) ∙ c .enum-told .given .1))
 
 kind-requires : tie.Need-kind-requires
-kind-requires c κs = 
+kind-requires c κs =
     let t = c .before .before .before .before .before .args .txns .now in
     let n = c .before .before .before .before .before .args .number in
     let f = found-slot (slotOf base t n) _ (sym (c .before .before .before .find .ensures) ∙ c .before .found .given .1) in
@@ -38,7 +38,7 @@ kind-requires c κs =
 
 returns-2 : tie.Need-returns-2
 unfolding quitterOf
-returns-2 c = 
+returns-2 c =
     let t = c .before .before .before .before .before .before .before .args .txns .now in
     let n = c .before .before .before .before .before .before .before .args .number in
     let f = found-slot (slotOf base t n) _ (sym (c .before .before .before .before .before .find .ensures) ∙ c .before .before .before .found .given .1) in
@@ -48,7 +48,7 @@ returns-2 c =
 
 returns-3 : tie.Need-returns-3
 unfolding quitterOf
-returns-3 c = 
+returns-3 c =
     let t = c .before .before .before .before .before .before .before .args .txns .now in
     let n = c .before .before .before .before .before .before .before .args .number in
     let f = found-slot (slotOf base t n) _ (sym (c .before .before .before .before .before .find .ensures) ∙ c .before .before .before .found .given .1) in

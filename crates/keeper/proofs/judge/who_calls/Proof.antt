@@ -39,7 +39,7 @@ enum-told-2 c = search needs
 
 returns-2 : tie.Need-returns-2
 unfolding callerOf
-returns-2 c = 
+returns-2 c =
     let t = c .before .before .before .before .before .before .before .before .args .txns .now in
     let n = c .before .before .before .before .before .before .before .before .args .number in
     let f = found-slot (slotOf base t n) _ (sym (c .before .before .before .before .before .before .find .ensures) ∙ c .before .before .before .before .found .given .1) in
@@ -47,7 +47,7 @@ returns-2 c =
     rw (f .some, unknown (c .before .before .before .before .before .before .before .before .args .item) (sym (c .before .before .of .ensures) ∙ c .enum-told2 .given .1))
 
 kind-requires : tie.Need-kind-requires
-kind-requires c κs = 
+kind-requires c κs =
     let t = c .before .before .before .before .before .before .before .before .before .args .txns .now in
     let n = c .before .before .before .before .before .before .before .before .before .args .number in
     let f = found-slot (slotOf base t n) _ (sym (c .before .before .before .before .before .before .before .find .ensures) ∙ c .before .before .before .before .before .found .given .1) in
@@ -56,7 +56,7 @@ kind-requires c κs =
 
 returns-3 : tie.Need-returns-3
 unfolding callerOf
-returns-3 c = 
+returns-3 c =
     let t = c .before .before .before .before .before .before .before .before .before .before .before .args .txns .now in
     let n = c .before .before .before .before .before .before .before .before .before .before .before .args .number in
     let f = found-slot (slotOf base t n) _ (sym (c .before .before .before .before .before .before .before .before .before .find .ensures) ∙ c .before .before .before .before .before .before .before .found .given .1) in
@@ -67,7 +67,7 @@ returns-3 c =
     rw (f .some, i .1, eq-eqb ((txn t (slotOf base t n)) .kind) aQuery (k ∙ sym (c .before .kind .ensures) ∙ c .if1 .taken), ← (f .is), ← (i .0))
 
 awaits-other-requires : tie.Need-awaits-other-requires
-awaits-other-requires c κs = 
+awaits-other-requires c κs =
     let t = c .before .before .before .before .before .before .before .before .before .before .before .args .txns .now in
     let n = c .before .before .before .before .before .before .before .before .before .before .before .args .number in
     let f = found-slot (slotOf base t n) _ (sym (c .before .before .before .before .before .before .before .before .before .find .ensures) ∙ c .before .before .before .before .before .before .before .found .given .1) in
@@ -76,7 +76,7 @@ awaits-other-requires c κs =
 
 returns-4 : tie.Need-returns-4
 unfolding callerOf
-returns-4 c = 
+returns-4 c =
     let t = c .before .before .before .before .before .before .before .before .before .before .before .before .before .args .txns .now in
     let n = c .before .before .before .before .before .before .before .before .before .before .before .before .before .args .number in
     let f = found-slot (slotOf base t n) _ (sym (c .before .before .before .before .before .before .before .before .before .before .before .find .ensures) ∙ c .before .before .before .before .before .before .before .before .before .found .given .1) in
@@ -85,12 +85,16 @@ returns-4 c =
     let i = known y _ (sym (c .before .before .before .before .before .before .before .of .ensures) ∙ c .before .before .before .before .before .of2 .given .1) in
     let k = ap (λ (m : ℕ). (txn t m) .kind) (sym (f .is)) in
     let w = ap (λ (m : ℕ). awaitsOther t m (c .before .before .before .before .before .before .before .before .before .before .before .before .before .args .lock) y) (sym (f .is)) in
-    rw (f .some, i .1, ne-eqb ((txn t (slotOf base t n)) .kind) aQuery (λ q. c .before .before .if1 .left (c .before .before .before .kind .ensures ∙ sym k ∙ q)),
-      w ∙ sym (c .before .awaits-other .ensures) ∙ c .if2 .taken)
+    rw (
+      f .some,
+      i .1,
+      ne-eqb ((txn t (slotOf base t n)) .kind) aQuery (λ q. c .before .before .if1 .left (c .before .before .before .kind .ensures ∙ sym k ∙ q)),
+      w ∙ sym (c .before .awaits-other .ensures) ∙ c .if2 .taken,
+    )
 
 returns-5 : tie.Need-returns-5
 unfolding callerOf
-returns-5 c = 
+returns-5 c =
     let t = c .before .before .before .before .before .before .before .before .before .before .before .before .before .args .txns .now in
     let n = c .before .before .before .before .before .before .before .before .before .before .before .before .before .args .number in
     let f = found-slot (slotOf base t n) _ (sym (c .before .before .before .before .before .before .before .before .before .before .before .find .ensures) ∙ c .before .before .before .before .before .before .before .before .before .found .given .1) in
@@ -99,8 +103,14 @@ returns-5 c =
     let i = known y _ (sym (c .before .before .before .before .before .before .before .of .ensures) ∙ c .before .before .before .before .before .of2 .given .1) in
     let k = ap (λ (m : ℕ). (txn t m) .kind) (sym (f .is)) in
     let w = ap (λ (m : ℕ). awaitsOther t m (c .before .before .before .before .before .before .before .before .before .before .before .before .before .args .lock) y) (sym (f .is)) in
-    rw (f .some, i .1, ne-eqb ((txn t (slotOf base t n)) .kind) aQuery (λ q. c .before .before .if1 .left (c .before .before .before .kind .ensures ∙ sym k ∙ q)),
-      w ∙ sym (c .before .awaits-other .ensures) ∙ c .if2 .left, ← (f .is), ← (i .0))
+    rw (
+      f .some,
+      i .1,
+      ne-eqb ((txn t (slotOf base t n)) .kind) aQuery (λ q. c .before .before .if1 .left (c .before .before .before .kind .ensures ∙ sym k ∙ q)),
+      w ∙ sym (c .before .awaits-other .ensures) ∙ c .if2 .left,
+      ← (f .is),
+      ← (i .0),
+    )
 
 pub who-calls-spec : {M : Type 1} → statement M
 who-calls-spec =

@@ -29,7 +29,7 @@ unfolding leaverOf
 returns c = rw (found-nobody _ (sym (c .before .before .find .ensures) ∙ c .enum-told .given .1))
 
 awaited-lock-requires : tie.Need-awaited-lock-requires
-awaited-lock-requires c κs = 
+awaited-lock-requires c κs =
     let t = c .before .before .before .before .before .args .txns .now in
     let n = c .before .before .before .before .before .args .number in
     let f = found-slot (slotOf base t n) _ (sym (c .before .before .before .find .ensures) ∙ c .before .found .given .1) in
@@ -38,7 +38,7 @@ awaited-lock-requires c κs =
 
 returns-2 : tie.Need-returns-2
 unfolding leaverOf
-returns-2 c = 
+returns-2 c =
     let t = c .before .before .before .before .before .before .before .args .txns .now in
     let n = c .before .before .before .before .before .before .before .args .number in
     let f = found-slot (slotOf base t n) _ (sym (c .before .before .before .before .before .find .ensures) ∙ c .before .before .before .found .given .1) in
@@ -47,7 +47,7 @@ returns-2 c =
     rw (f .some, ne-eqb ((txn t (slotOf base t n)) .awaitedLock) noLock (λ q. c .if1 .taken (c .before .awaited-lock .ensures ∙ sym a ∙ q)))
 
 kind-requires : tie.Need-kind-requires
-kind-requires c κs = 
+kind-requires c κs =
     let t = c .before .before .before .before .before .before .before .args .txns .now in
     let n = c .before .before .before .before .before .before .before .args .number in
     let f = found-slot (slotOf base t n) _ (sym (c .before .before .before .before .before .find .ensures) ∙ c .before .before .before .found .given .1) in
@@ -56,27 +56,35 @@ kind-requires c κs =
 
 returns-3 : tie.Need-returns-3
 unfolding leaverOf
-returns-3 c = 
+returns-3 c =
     let t = c .before .before .before .before .before .before .before .before .before .args .txns .now in
     let n = c .before .before .before .before .before .before .before .before .before .args .number in
     let f = found-slot (slotOf base t n) _ (sym (c .before .before .before .before .before .before .before .find .ensures) ∙ c .before .before .before .before .before .found .given .1) in
     let s = f .inside (slot-most t n) in
     let a = ap (λ (m : ℕ). (txn t m) .awaitedLock) (sym (f .is)) in
     let k = ap (λ (m : ℕ). (txn t m) .kind) (sym (f .is)) in
-    rw (f .some, eq-eqb ((txn t (slotOf base t n)) .awaitedLock) noLock (a ∙ sym (c .before .before .before .awaited-lock .ensures) ∙ c .before .before .if1 .left),
-      eq-eqb ((txn t (slotOf base t n)) .kind) aQuery (k ∙ sym (c .before .kind .ensures) ∙ c .if2 .taken), ← (f .is))
+    rw (
+      f .some,
+      eq-eqb ((txn t (slotOf base t n)) .awaitedLock) noLock (a ∙ sym (c .before .before .before .awaited-lock .ensures) ∙ c .before .before .if1 .left),
+      eq-eqb ((txn t (slotOf base t n)) .kind) aQuery (k ∙ sym (c .before .kind .ensures) ∙ c .if2 .taken),
+      ← (f .is),
+    )
 
 returns-4 : tie.Need-returns-4
 unfolding leaverOf
-returns-4 c = 
+returns-4 c =
     let t = c .before .before .before .before .before .before .before .before .before .args .txns .now in
     let n = c .before .before .before .before .before .before .before .before .before .args .number in
     let f = found-slot (slotOf base t n) _ (sym (c .before .before .before .before .before .before .before .find .ensures) ∙ c .before .before .before .before .before .found .given .1) in
     let s = f .inside (slot-most t n) in
     let a = ap (λ (m : ℕ). (txn t m) .awaitedLock) (sym (f .is)) in
     let k = ap (λ (m : ℕ). (txn t m) .kind) (sym (f .is)) in
-    rw (f .some, eq-eqb ((txn t (slotOf base t n)) .awaitedLock) noLock (a ∙ sym (c .before .before .before .awaited-lock .ensures) ∙ c .before .before .if1 .left),
-      ne-eqb ((txn t (slotOf base t n)) .kind) aQuery (λ q. c .if2 .left (c .before .kind .ensures ∙ sym k ∙ q)), ← (f .is))
+    rw (
+      f .some,
+      eq-eqb ((txn t (slotOf base t n)) .awaitedLock) noLock (a ∙ sym (c .before .before .before .awaited-lock .ensures) ∙ c .before .before .if1 .left),
+      ne-eqb ((txn t (slotOf base t n)) .kind) aQuery (λ q. c .if2 .left (c .before .kind .ensures ∙ sym k ∙ q)),
+      ← (f .is),
+    )
 
 pub who-commits-spec : {M : Type 1} → statement M
 who-commits-spec =

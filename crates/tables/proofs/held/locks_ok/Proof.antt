@@ -1,7 +1,7 @@
 -- Each lock, item by item. Assumes nothing.
-use Prim.Native.Nat.{ℕ, _≤_, _<_, _-_, _+_, _*_}
-use mathlib.Core.Path.{_≡_, refl, sym, ap, ap₂, _∙_, subst}
-use mathlib.Core.Bool.{Bool, true, false, _&&_, not}
+use Prim.Native.Nat.{ℕ, _≤_, _-_}
+use mathlib.Core.Path.{_≡_, refl, sym, ap, ap₂, _∙_}
+use mathlib.Core.Bool.{_&&_}
 use native.Mathlib.Omega.{arith}
 use Rattle.names.specs.Sizes.{base}
 use Rattle.rules.specs.Words.{everyBelow}
@@ -59,13 +59,13 @@ loop-less c = omega arith
 
 loop-again : tie.Need-loop-again Inv-loop μ-loop
 unfolding lock
-loop-again c = 
+loop-again c =
     let a = c .before .before .before .before .before .before .before .args in
     (omega arith, ap₂ _&&_ (c .lock-ok .ensures) (c .before .before .before .before .before .loop .inv .1) ∙ sym (every-more (λ (x : ℕ). lockOk (a .updates) (lock (a .locks .now) x)) (c .before .before .before .before .before .loop .item)))
 
 returns : tie.Need-returns Inv-loop μ-loop
 unfolding locksOk
-returns c = 
+returns c =
     let a = c .before .before .before .args in
     let e : c .before .loop .item ≡ base .items = omega arith in
     c .before .loop .inv .1 ∙ ap (λ (n : ℕ). everyBelow n (λ (x : ℕ). lockOk (a .updates) (lock (a .locks .now) x))) e

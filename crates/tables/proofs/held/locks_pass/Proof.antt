@@ -1,7 +1,6 @@
 -- The rules' test of the locks, by way of the live updates. Assumes nothing.
-use mathlib.Core.Path.{_≡_, refl, sym, ap, ap₂, _∙_, subst}
+use mathlib.Core.Path.{sym, ap, _∙_}
 use borrow.Author.Needs.{needs}
-use Rattle.names.specs.Sizes.{base}
 use Rattle.tables.specs.Holding.{locksOk}
 use Rattle.tables.proofs.Holders.{locks-same, none-held-same}
 use Rattle.tables.proofs.held.locks_pass.Statement.{statement}
@@ -11,7 +10,7 @@ none-held-requires : tie.Need-none-held-requires
 none-held-requires c κs = search needs
 
 returns : tie.Need-returns
-returns c = 
+returns c =
     let l = c .before .before .before .args .locks .now in
     λ t e. c .none-held .ensures ∙ none-held-same l ∙ ap (λ u. locksOk u l) (sym (c .before .if1 .taken) ∙ e) ∙ locks-same t l
 
@@ -19,7 +18,7 @@ locks-ok-requires : tie.Need-locks-ok-requires
 locks-ok-requires c κs = search needs
 
 returns-2 : tie.Need-returns-2
-returns-2 c = 
+returns-2 c =
     let l = c .before .before .before .args .locks .now in
     λ t e. c .locks-ok .ensures ∙ ap (λ u. locksOk u l) e ∙ locks-same t l
 

@@ -1,7 +1,7 @@
 -- The or of words is 0 where each of them is. Assumes nothing.
-use Prim.Native.Nat.{ℕ, _≤_, _<_, _-_, _+_, _*_}
-use mathlib.Core.Path.{_≡_, refl, sym, ap, ap₂, _∙_, subst}
-use mathlib.Core.Bool.{Bool, true, false, _&&_, not}
+use Prim.Native.Nat.{ℕ, _≤_, _-_}
+use mathlib.Core.Path.{_≡_, refl, sym, ap, _∙_}
+use mathlib.Core.Bool.{Bool, _&&_}
 use native.Mathlib.Omega.{arith}
 use lib.ListN.{getD}
 use lib.Dec.{eqb}
@@ -36,7 +36,7 @@ loop-less : tie.Need-loop-less Inv-loop μ-loop
 loop-less c = omega arith
 
 loop-again : tie.Need-loop-again Inv-loop μ-loop
-loop-again c = 
+loop-again c =
     let l = c .before .before .before .args .locks .now in
     let k = c .before .before .loop .word in (
       omega arith,
@@ -45,7 +45,7 @@ loop-again c =
 
 returns : tie.Need-returns Inv-loop μ-loop
 unfolding nothingHeld
-returns c = 
+returns c =
     let l = c .before .before .args .locks .now in
     let e : c .before .loop .word ≡ lockWords base = omega arith in
     c .before .loop .inv .1 ∙ ap (λ (n : ℕ). everyBelow n (λ (k : ℕ). eqb (getD l k 0) 0)) e

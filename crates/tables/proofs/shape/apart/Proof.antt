@@ -1,9 +1,8 @@
 -- No slot below has the number. Assumes nothing.
-use Prim.Native.Nat.{ℕ, _≤_, _<_, _-_, _+_, _*_}
-use mathlib.Core.Path.{_≡_, refl, sym, ap, ap₂, _∙_, subst}
-use mathlib.Core.Bool.{Bool, true, false, _&&_, not}
+use Prim.Native.Nat.{ℕ, _≤_, _-_}
+use mathlib.Core.Path.{_≡_, refl, sym, ap, _∙_}
+use mathlib.Core.Bool.{Bool, _&&_, not}
 use native.Mathlib.Omega.{arith}
-use lib.ListN.{getD}
 use lib.Dec.{eqb}
 use Rattle.rules.specs.Words.{everyBelow}
 use Rattle.rules.specs.Tables.{txn}
@@ -42,14 +41,14 @@ loop-less c = omega arith
 
 loop-again : tie.Need-loop-again Inv-loop μ-loop
 unfolding txn
-loop-again c = 
+loop-again c =
     let a = c .before .before .before .args in
     let p : ℕ → Bool = λ r. not (eqb ((txn (a .txns .now) r) .number) (a .number)) in
     (omega arith, ap (λ (b : Bool). p (c .before .before .loop .below) && b) (c .before .before .loop .inv .1) ∙ sym (every-more p (c .before .before .loop .below)))
 
 returns : tie.Need-returns Inv-loop μ-loop
 unfolding apartFrom
-returns c = 
+returns c =
     let a = c .before .before .args in
     let e : c .before .loop .below ≡ a .slot = omega arith in
     c .before .loop .inv .1 ∙ ap (λ (n : ℕ). everyBelow n (λ (r : ℕ). not (eqb ((txn (a .txns .now) r) .number) (a .number)))) e

@@ -1,7 +1,7 @@
 -- The rules' test of the numbers, slot by slot. Assumes nothing.
-use Prim.Native.Nat.{ℕ, _≤_, _<_, _-_, _+_, _*_}
-use mathlib.Core.Path.{_≡_, refl, sym, ap, ap₂, _∙_, subst}
-use mathlib.Core.Bool.{Bool, true, false, _&&_, not}
+use Prim.Native.Nat.{ℕ, _≤_, _-_}
+use mathlib.Core.Path.{_≡_, refl, sym, ap, ap₂, _∙_}
+use mathlib.Core.Bool.{_&&_}
 use native.Mathlib.Omega.{arith}
 use Rattle.names.specs.Sizes.{base}
 use Rattle.rules.specs.Words.{everyBelow}
@@ -35,7 +35,7 @@ loop-again c = (omega arith, ap₂ _&&_ (c .distinct-at .ensures) (c .before .be
 
 returns : tie.Need-returns Inv-loop μ-loop
 unfolding distinct distinctAt
-returns c = 
+returns c =
     let e : c .before .loop .slot ≡ base .slots = omega arith in
     c .before .loop .inv .1 ∙ ap (λ (n : ℕ). everyBelow n (distinctAt (c .before .before .before .args .txns .now))) e
 

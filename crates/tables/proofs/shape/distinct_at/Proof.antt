@@ -1,9 +1,7 @@
 -- If the slot is live, no slot below has its number. Assumes nothing.
-use Prim.Native.Nat.{ℕ, _≤_, _<_, _-_, _+_, _*_}
-use mathlib.Core.Path.{_≡_, refl, sym, ap, ap₂, _∙_, subst}
+use mathlib.Core.Path.{_∙_}
 use borrow.Author.Needs.{needs}
 use Rattle.rules.specs.Tables.{txn}
-use Rattle.tables.specs.Shape.{distinctAt}
 use Rattle.tables.proofs.Seeing.{free-apart, live-apart}
 use Rattle.tables.proofs.shape.distinct_at.Statement.{statement}
 use Rattle.tables.proofs.shape.distinct_at.Tie as tie

@@ -1,6 +1,6 @@
 -- The pass over the rows sees what the rules ask of them, who is a live update and who waits. Assumes nothing.
-use Prim.Native.Nat.{ℕ, _≤_, _<_, _-_, _+_, _*_}
-use mathlib.Core.Path.{_≡_, refl, sym, ap, ap₂, _∙_, subst}
+use Prim.Native.Nat.{ℕ, _-_}
+use mathlib.Core.Path.{_≡_, ap, _∙_}
 use mathlib.Core.Logic.{⊎-elim}
 use native.Mathlib.Omega.{arith}
 use borrow.Author.Needs.{needs}
@@ -8,7 +8,7 @@ use Rattle.names.specs.Sizes.{base}
 use Rattle.rules.specs.Words.{everyBelow}
 use Rattle.rules.specs.Tables.{txn, liveUpdate}
 use Rattle.rules.specs.Tested.{topsMost}
-use mathlib.Core.Bool.{Bool, true, false, _&&_, not}
+use mathlib.Core.Bool.{_&&_}
 use Rattle.tables.specs.Shape.{rowGood, rowsGood, slotsThat, updatesIn, waitingIn, waits}
 use Rattle.tables.proofs.Seeing.{free-same, update-same, query-same, free-idle, update-live, query-idle}
 use Rattle.tables.proofs.Seeing.{Passed, passed-begin, passed-other, passed-still, passed-waits}
@@ -102,7 +102,7 @@ loop-less c = omega arith
 
 loop-again : tie.Need-loop-again Inv-loop μ-loop
 unfolding txn
-loop-again c = 
+loop-again c =
     let t = c .before .before .before .before .before .before .before .before .before .before .before .args .txns .now in
     let r = txn t (c .before .before .before .before .before .before .before .loop .slot) in
     let h = c .before .before .before .before .before .before .before .loop .inv in
@@ -118,7 +118,7 @@ loop-again c =
 
 returns : tie.Need-returns Inv-loop μ-loop
 unfolding rowsGood updatesIn waitingIn
-returns c = 
+returns c =
     let t = c .before .before .before .before .before .args .txns .now in
     let h = c .before .loop .inv in
     let e : c .before .loop .slot ≡ base .slots = (let k = h .within in omega arith) in

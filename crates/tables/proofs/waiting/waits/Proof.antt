@@ -1,6 +1,6 @@
 -- The pass over the rows that await a lock. Assumes nothing.
-use Prim.Native.Nat.{ℕ, _≤_, _<_, _-_, _+_, _*_}
-use mathlib.Core.Path.{_≡_, refl, sym, ap, ap₂, _∙_, subst}
+use Prim.Native.Nat.{ℕ, _<_, _-_, _+_, _*_}
+use mathlib.Core.Path.{_≡_, _∙_, subst}
 use mathlib.Core.Logic.{⊎-elim}
 use native.Mathlib.Omega.{arith}
 use lib.ListN.{getD}
@@ -75,7 +75,7 @@ awaiter-ok-requires c κs = c .before .before .before .before .before .loop-test
 
 blockers-requires : tie.Need-blockers-requires Inv-loop μ-loop
 unfolding lock
-blockers-requires c κs = 
+blockers-requires c κs =
     let t = c .before .before .before .before .before .before .before .before .before .before .args .txns .now in
     let l = c .before .before .before .before .before .before .before .before .before .before .args .locks .now in
     let x = getD t (2 + 5 * c .before .before .before .before .before .before .before .loop .slot + 4) 0 in
@@ -95,7 +95,7 @@ loop-less c = omega arith
 
 loop-again : tie.Need-loop-again Inv-loop μ-loop
 unfolding txn lock
-loop-again c = 
+loop-again c =
     let t = c .before .before .before .before .before .before .args .txns .now in
     let l = c .before .before .before .before .before .before .args .locks .now in
     let g = c .before .before .before .loop in
@@ -107,7 +107,7 @@ loop-again c =
     (c .if1 .came)
 
 returns : tie.Need-returns Inv-loop μ-loop
-returns c = 
+returns c =
     let t = c .before .before .before .before .args .txns .now in
     let l = c .before .before .before .before .args .locks .now in
     let g = c .before .loop in

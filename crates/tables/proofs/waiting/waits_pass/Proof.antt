@@ -1,5 +1,5 @@
 -- Who awaits may, and nobody waits in a circle. Assumes nothing.
-use mathlib.Core.Path.{_≡_, sym, ap, ap₂, _∙_, subst}
+use mathlib.Core.Path.{ap₂}
 use mathlib.Core.Bool.{_&&_}
 use borrow.Author.Needs.{needs}
 use Rattle.tables.proofs.Rounds.{links-slots, links-waiting, circle-same}
@@ -13,7 +13,7 @@ slice-aggregate-no-circle : tie.Need-slice-aggregate-no-circle
 slice-aggregate-no-circle c = search needs
 
 no-circle-requires : tie.Need-no-circle-requires
-no-circle-requires c κs = 
+no-circle-requires c κs =
     let a = c .before .before .before .before .before .args in
     let w = c .before .before .waits .ensures .1 in
     (links-slots _ _ _ w, links-waiting _ _ _ w (c .before .before .before .before .before .pre .0) (a .waiting) (c .before .before .before .before .before .pre .1))

@@ -1,5 +1,4 @@
 -- The value at the place that the walk found. Assumes nothing.
-use borrow.Author.Needs.{needs}
 use mathlib.Core.Path.{_≡_, sym, ap, _∙_, subst}
 use Prim.Native.Nat.{ℕ, suc, _<_}
 use mathlib.Core.List.{List}
@@ -17,22 +16,22 @@ use Rattle.versions.proofs.choose.chosen.Statement.{statement}
 use Rattle.versions.proofs.choose.chosen.Tie as tie
 
 mul-a : tie.Need-mul-a
-mul-a c = search needs
+mul-a c = omega arith
 
 add-e : tie.Need-add-e
-add-e c = search needs
+add-e c = omega arith
 
 mul-place-in : tie.Need-mul-place-in
-mul-place-in c = search needs
+mul-place-in c = omega arith
 
 sub-place-in : tie.Need-sub-place-in
-sub-place-in c = search needs
+sub-place-in c = omega arith
 
 part-place-in-start : tie.Need-part-place-in-start
-part-place-in-start c = search needs
+part-place-in-start c = omega arith
 
 part-place-in-end : tie.Need-part-place-in-end
-part-place-in-end c = search needs
+part-place-in-end c = omega arith
 
 place-in-requires : tie.Need-place-in-requires
 place-in-requires c κs =

@@ -1,5 +1,4 @@
 -- The value of the first pair of the row. Assumes nothing.
-use borrow.Author.Needs.{needs}
 use native.Mathlib.Omega.{arith}
 use Rattle.rules.specs.Versions.{newest}
 use Rattle.versions.proofs.Walked.{value-word}
@@ -7,16 +6,16 @@ use Rattle.versions.proofs.choose.newest.Statement.{statement}
 use Rattle.versions.proofs.choose.newest.Tie as tie
 
 mul-a : tie.Need-mul-a
-mul-a c = search needs
+mul-a c = omega arith
 
 add-result : tie.Need-add-result
-add-result c = search needs
+add-result c = omega arith
 
 mul-result : tie.Need-mul-result
-mul-result c = search needs
+mul-result c = omega arith
 
 shared-slice-read-result : tie.Need-shared-slice-read-result
-shared-slice-read-result c = search needs
+shared-slice-read-result c = omega arith
 
 returns : tie.Need-returns
 unfolding newest

@@ -1,5 +1,5 @@
 -- The walk stops at the version that the start reads, and not before it. Assumes nothing.
-use Prim.Native.Nat.{ℕ, _≤_, _<_, _-_}
+use Prim.Native.Nat.{_≤_, _<_, _-_}
 use native.Mathlib.Omega.{arith}
 use Rattle.names.specs.Sizes.{base}
 use Rattle.rules.specs.Versions.{versionsIn, place}

@@ -1,4 +1,5 @@
 -- A row with another count than 1: each way out rewrites with the tests passed. Assumes nothing.
+use native.Mathlib.Omega.{arith}
 use borrow.Author.Needs.{needs}
 use mathlib.Core.Path.{_≡_, sym, _∙_}
 use mathlib.Core.Bool.{true, false}
@@ -11,7 +12,7 @@ use Rattle.versions.proofs.test.many_ok.Statement.{statement}
 use Rattle.versions.proofs.test.many_ok.Tie as tie
 
 shared-slice-read-n : tie.Need-shared-slice-read-n
-shared-slice-read-n c = search needs
+shared-slice-read-n c = omega arith
 
 returns : tie.Need-returns
 unfolding manyOk
@@ -40,7 +41,7 @@ returns-3 c =
     rw (e, d, f)
 
 unused-ok-requires : tie.Need-unused-ok-requires
-unused-ok-requires c κs = search needs
+unused-ok-requires c κs = omega arith
 
 returns-4 : tie.Need-returns-4
 unfolding manyOk

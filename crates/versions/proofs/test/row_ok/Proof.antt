@@ -1,4 +1,5 @@
 -- One row, with one version or with more. Assumes nothing.
+use native.Mathlib.Omega.{arith}
 use borrow.Author.Needs.{needs}
 use mathlib.Core.Path.{_≡_, ap}
 use mathlib.Core.Bool.{Bool, true, false, _&&_}
@@ -10,22 +11,22 @@ use Rattle.versions.proofs.test.row_ok.Statement.{statement}
 use Rattle.versions.proofs.test.row_ok.Tie as tie
 
 shared-slice-read-if1 : tie.Need-shared-slice-read-if1
-shared-slice-read-if1 c = search needs
+shared-slice-read-if1 c = omega arith
 
 sub-zeros : tie.Need-sub-zeros
-sub-zeros c = search needs
+sub-zeros c = omega arith
 
 zeros-requires : tie.Need-zeros-requires
-zeros-requires c κs = search needs
+zeros-requires c κs = omega arith
 
 shared-slice-read-result : tie.Need-shared-slice-read-result
-shared-slice-read-result c = search needs
+shared-slice-read-result c = omega arith
 
 shared-slice-read-result-2 : tie.Need-shared-slice-read-result-2
-shared-slice-read-result-2 c = search needs
+shared-slice-read-result-2 c = omega arith
 
 shared-slice-read-result-3 : tie.Need-shared-slice-read-result-3
-shared-slice-read-result-3 c = search needs
+shared-slice-read-result-3 c = omega arith
 
 returns : tie.Need-returns
 unfolding rowOk oneOk unusedOk
@@ -36,7 +37,7 @@ returns c =
     (ap (λ (b : Bool). b && leb (getD (a .row .now) 1 0) (a .clock) && leb (getD (a .row .now) 1 0) (getD (a .starts .now) 0 0)) (c .before .before .before .zeros .ensures))
 
 shared-slice-read-result-4 : tie.Need-shared-slice-read-result-4
-shared-slice-read-result-4 c = search needs
+shared-slice-read-result-4 c = omega arith
 
 many-ok-requires : tie.Need-many-ok-requires
 many-ok-requires c κs = search needs

@@ -1,5 +1,4 @@
 -- The zero words behind m pairs, in two parts. Assumes nothing.
-use borrow.Author.Needs.{needs}
 use mathlib.Core.Path.{_≡_, sym, ap, ap₂, _∙_}
 use Prim.Native.Nat.{ℕ, _-_, _+_, _*_}
 use mathlib.Core.Bool.{_&&_}
@@ -10,31 +9,31 @@ use Rattle.versions.proofs.test.unused_ok.Statement.{statement}
 use Rattle.versions.proofs.test.unused_ok.Tie as tie
 
 mul-if1 : tie.Need-mul-if1
-mul-if1 c = search needs
+mul-if1 c = omega arith
 
 mul-zeros : tie.Need-mul-zeros
-mul-zeros c = search needs
+mul-zeros c = omega arith
 
 add-zeros : tie.Need-add-zeros
-add-zeros c = search needs
+add-zeros c = omega arith
 
 mul-zeros-2 : tie.Need-mul-zeros-2
-mul-zeros-2 c = search needs
+mul-zeros-2 c = omega arith
 
 sub-zeros : tie.Need-sub-zeros
-sub-zeros c = search needs
+sub-zeros c = omega arith
 
 zeros-requires : tie.Need-zeros-requires
-zeros-requires c κs = search needs
+zeros-requires c κs = omega arith
 
 add-zeros-2 : tie.Need-add-zeros-2
-add-zeros-2 c = search needs
+add-zeros-2 c = omega arith
 
 sub-zeros-2 : tie.Need-sub-zeros-2
-sub-zeros-2 c = search needs
+sub-zeros-2 c = omega arith
 
 zeros-requires-2 : tie.Need-zeros-requires-2
-zeros-requires-2 c κs = search needs
+zeros-requires-2 c κs = omega arith
 
 returns : tie.Need-returns
 unfolding unusedOk
@@ -48,31 +47,31 @@ returns c =
     ∙ ap (zeroWords r (1 + m * 2)) a
 
 mul-if2 : tie.Need-mul-if2
-mul-if2 c = search needs
+mul-if2 c = omega arith
 
 mul-zeros-3 : tie.Need-mul-zeros-3
-mul-zeros-3 c = search needs
+mul-zeros-3 c = omega arith
 
 add-zeros-3 : tie.Need-add-zeros-3
-add-zeros-3 c = search needs
+add-zeros-3 c = omega arith
 
 mul-zeros-4 : tie.Need-mul-zeros-4
-mul-zeros-4 c = search needs
+mul-zeros-4 c = omega arith
 
 sub-zeros-3 : tie.Need-sub-zeros-3
-sub-zeros-3 c = search needs
+sub-zeros-3 c = omega arith
 
 zeros-requires-3 : tie.Need-zeros-requires-3
-zeros-requires-3 c κs = search needs
+zeros-requires-3 c κs = omega arith
 
 add-zeros-4 : tie.Need-add-zeros-4
-add-zeros-4 c = search needs
+add-zeros-4 c = omega arith
 
 sub-zeros-4 : tie.Need-sub-zeros-4
-sub-zeros-4 c = search needs
+sub-zeros-4 c = omega arith
 
 zeros-requires-4 : tie.Need-zeros-requires-4
-zeros-requires-4 c κs = search needs
+zeros-requires-4 c κs = omega arith
 
 returns-2 : tie.Need-returns-2
 unfolding unusedOk
@@ -86,19 +85,19 @@ returns-2 c =
     ∙ ap (zeroWords r (1 + m * 2)) a
 
 mul-zeros-5 : tie.Need-mul-zeros-5
-mul-zeros-5 c = search needs
+mul-zeros-5 c = omega arith
 
 add-zeros-5 : tie.Need-add-zeros-5
-add-zeros-5 c = search needs
+add-zeros-5 c = omega arith
 
 mul-zeros-6 : tie.Need-mul-zeros-6
-mul-zeros-6 c = search needs
+mul-zeros-6 c = omega arith
 
 sub-zeros-5 : tie.Need-sub-zeros-5
-sub-zeros-5 c = search needs
+sub-zeros-5 c = omega arith
 
 zeros-requires-5 : tie.Need-zeros-requires-5
-zeros-requires-5 c κs = search needs
+zeros-requires-5 c κs = omega arith
 
 returns-3 : tie.Need-returns-3
 unfolding unusedOk

@@ -1,5 +1,4 @@
 -- The words passed are copied. Assumes nothing.
-use borrow.Author.Needs.{needs}
 use mathlib.Core.Path.{_≡_, refl, sym, ap, _∙_, subst}
 use Prim.Native.Nat.{ℕ, _≤_, _<_, _-_, _+_}
 use mathlib.Core.List.{List, [], _∷_, _++_}
@@ -22,22 +21,22 @@ loop-holds : tie.Need-loop-holds Inv-loop μ-loop
 loop-holds c = (omega arith, c .pre .0, refl)
 
 mul-row : tie.Need-mul-row Inv-loop μ-loop
-mul-row c = search needs
+mul-row c = omega arith
 
 shared-slice-read-row : tie.Need-shared-slice-read-row Inv-loop μ-loop
-shared-slice-read-row c = search needs
+shared-slice-read-row c = omega arith
 
 mul-row-2 : tie.Need-mul-row-2 Inv-loop μ-loop
-mul-row-2 c = search needs
+mul-row-2 c = omega arith
 
 slice-write-row : tie.Need-slice-write-row Inv-loop μ-loop
-slice-write-row c = search needs
+slice-write-row c = omega arith
 
 add-i : tie.Need-add-i Inv-loop μ-loop
-add-i c = search needs
+add-i c = omega arith
 
 loop-less : tie.Need-loop-less Inv-loop μ-loop
-loop-less c = search needs
+loop-less c = omega arith
 
 copy-more :
     (row from : List ℕ) (i : ℕ) → i < length row → i < length from → take i row ≡ take i from
@@ -56,7 +55,7 @@ loop-again c =
     (omega arith, simp length-set (c .before .before .loop .inv .1), copy-more _ f i h k (c .before .before .loop .inv .2))
 
 same-length : tie.Need-same-length Inv-loop μ-loop
-same-length c = search needs
+same-length c = omega arith
 
 returns : tie.Need-returns Inv-loop μ-loop
 returns c =

@@ -1,6 +1,5 @@
 -- The pair in front, then each version that some start reads, as Packed says. Assumes nothing.
-use borrow.Author.Needs.{needs}
-use mathlib.Core.Path.{_≡_, refl, sym, _∙_}
+use mathlib.Core.Path.{sym, _∙_}
 use Prim.Native.Nat.{ℕ, _<_, _-_}
 use mathlib.Core.Logic.{⊎-elim}
 use native.Mathlib.Omega.{arith}
@@ -21,13 +20,13 @@ abbrev μ-loop : tie.MeasureT-loop
 μ-loop row starts stamp value from out₀ count w₀ hi₀ j₀ out w hi j = getD row 0 0 - j
 
 array-write-out : tie.Need-array-write-out Inv-loop μ-loop
-array-write-out c = search needs
+array-write-out c = omega arith
 
 array-write-out-2 : tie.Need-array-write-out-2 Inv-loop μ-loop
-array-write-out-2 c = search needs
+array-write-out-2 c = omega arith
 
 shared-slice-read-count : tie.Need-shared-slice-read-count Inv-loop μ-loop
-shared-slice-read-count c = search needs
+shared-slice-read-count c = omega arith
 
 loop-holds : tie.Need-loop-holds Inv-loop μ-loop
 loop-holds c =
@@ -35,25 +34,25 @@ loop-holds c =
     begin (a .starts .now) (a .row .now) (pair (a .stamp) (a .value)) (a .from)
 
 mul-lo : tie.Need-mul-lo Inv-loop μ-loop
-mul-lo c = search needs
+mul-lo c = omega arith
 
 add-lo : tie.Need-add-lo Inv-loop μ-loop
-add-lo c = search needs
+add-lo c = omega arith
 
 mul-lo-2 : tie.Need-mul-lo-2 Inv-loop μ-loop
-mul-lo-2 c = search needs
+mul-lo-2 c = omega arith
 
 shared-slice-read-lo : tie.Need-shared-slice-read-lo Inv-loop μ-loop
-shared-slice-read-lo c = search needs
+shared-slice-read-lo c = omega arith
 
 read-between-requires : tie.Need-read-between-requires Inv-loop μ-loop
-read-between-requires c κs = search needs
+read-between-requires c κs = omega arith
 
 space : (c : tie.Then1 Inv-loop μ-loop) → c .before .before .before .before .loop .w < base .places
 space c =
     let a = c .before .before .before .before .before .before .before .before .args in
     let l = c .before .before .before .before .loop in
-    room (a .starts .now) (a .row .now) (pair (a .stamp) (a .value)) (a .from) (l .out) (l .w) (l .hi) (l .j) (l .inv) (c .before .before .before .before .before .before .before .before .pre .3)
+    room (a .starts .now) (a .row .now) (pair (a .stamp) (a .value)) (a .from) (l .out) (l .w) (l .hi) (l .j) (l .inv) (c .before .before .before .before .before .before .before .before .pre .room)
     (c .before .before .before .loop-test .taken)
     (sym (c .before .read-between .ensures) ∙ c .if1 .taken)
 
@@ -70,16 +69,16 @@ array-write-out-3 : tie.Need-array-write-out-3 Inv-loop μ-loop
 array-write-out-3 c = omega (arith, space c)
 
 mul-out-2 : tie.Need-mul-out-2 Inv-loop μ-loop
-mul-out-2 c = search needs
+mul-out-2 c = omega arith
 
 add-out : tie.Need-add-out Inv-loop μ-loop
-add-out c = search needs
+add-out c = omega arith
 
 mul-out-3 : tie.Need-mul-out-3 Inv-loop μ-loop
-mul-out-3 c = search needs
+mul-out-3 c = omega arith
 
 shared-slice-read-out : tie.Need-shared-slice-read-out Inv-loop μ-loop
-shared-slice-read-out c = search needs
+shared-slice-read-out c = omega arith
 
 add-out-2 : tie.Need-add-out-2 Inv-loop μ-loop
 add-out-2 c = omega (arith, space (c .before))
@@ -94,10 +93,10 @@ add-w : tie.Need-add-w Inv-loop μ-loop
 add-w c = omega (arith, space (c .before))
 
 add-j : tie.Need-add-j Inv-loop μ-loop
-add-j c = search needs
+add-j c = omega arith
 
 loop-less : tie.Need-loop-less Inv-loop μ-loop
-loop-less c = search needs
+loop-less c = omega arith
 
 loop-again : tie.Need-loop-again Inv-loop μ-loop
 loop-again c =
@@ -106,21 +105,21 @@ loop-again c =
     let first = pair (a .stamp) (a .value) in
     ⊎-elim
     (λ w.
-    step-yes (a .starts .now) (a .row .now) first (a .from) (l .out) (l .w) (l .hi) (l .j) (l .inv) (c .before .before .before .before .before .before .before .before .pre .3)
+    step-yes (a .starts .now) (a .row .now) first (a .from) (l .out) (l .w) (l .hi) (l .j) (l .inv) (c .before .before .before .before .before .before .before .before .pre .room)
     (c .before .before .before .loop-test .taken) (sym (c .before .read-between .ensures) ∙ w .0 .taken) (w .2) (w .3))
     (λ w.
-    step-no (a .starts .now) (a .row .now) first (a .from) (l .out) (l .w) (l .hi) (l .j) (l .inv) (c .before .before .before .before .before .before .before .before .pre .3)
+    step-no (a .starts .now) (a .row .now) first (a .from) (l .out) (l .w) (l .hi) (l .j) (l .inv) (c .before .before .before .before .before .before .before .before .pre .room)
     (c .before .before .before .loop-test .taken) (sym (c .before .read-between .ensures) ∙ w .0 .left) (w .1) (w .2))
     (c .if1 .came)
 
 array-write-out-5 : tie.Need-array-write-out-5 Inv-loop μ-loop
-array-write-out-5 c = search needs
+array-write-out-5 c = omega arith
 
 returns : tie.Need-returns Inv-loop μ-loop
 returns c =
     let a = c .before .before .before .before .before .args in
     let l = c .before .loop in
-    ends (a .starts .now) (a .row .now) (pair (a .stamp) (a .value)) (a .from) (l .out) (l .w) (l .hi) (l .j) (l .inv) (c .before .before .before .before .before .pre .3)
+    ends (a .starts .now) (a .row .now) (pair (a .stamp) (a .value)) (a .from) (l .out) (l .w) (l .hi) (l .j) (l .inv) (c .before .before .before .before .before .pre .room)
     (c .loop-test .left)
 
 pub packed-spec : {M : Type 1} → statement M

@@ -1,13 +1,9 @@
 -- With the new pair in front, or with the row's own first one. Assumes nothing.
-use borrow.Author.Needs.{needs}
-use mathlib.Core.Path.{_≡_, sym, ap, _∙_}
-use mathlib.Core.Bool.{Bool, true, false}
-use Prim.Native.Nat.{ℕ, _<_, _≤_}
+use mathlib.Core.Path.{sym, ap, _∙_}
+use mathlib.Core.Bool.{Bool}
 use native.Mathlib.Omega.{arith}
-use lib.ListN.{getD}
 use Rattle.names.specs.Sizes.{base}
-use Rattle.rules.specs.Versions.{versionsIn, stampAt, rowOf, kept}
-use Rattle.versions.specs.Ordered.{guard}
+use Rattle.rules.specs.Versions.{versionsIn, rowOf, kept}
 use Rattle.versions.specs.Written.{fronted}
 use Rattle.versions.proofs.Renew.{new-kept, new-room, old-kept, old-room}
 use Rattle.versions.proofs.write.renewed.Statement.{statement}
@@ -17,12 +13,13 @@ packed-requires : tie.Need-packed-requires
 packed-requires c κs =
     let a = c .before .before .before .args in
     let p = c .before .before .before .pre in
-    let s = c .before .before .before .fits .stamp .fits in (
-      p .size,
-      p .sound .most,
-      p .few .order .order .size,
-      new-room (p .starts) (a .starts .now) (a .row .now) (p .few) (p .sound) (a .stamp) (a .value) (omega arith) (p .newer (c .if1 .taken)),
-    )
+    let s = c .before .before .before .fits .stamp .fits in
+    record {
+      size = p .size;
+      most = p .sound .most;
+      starts = p .few .order .order .size;
+      room = new-room (p .starts) (a .starts .now) (a .row .now) (p .few) (p .sound) (a .stamp) (a .value) (omega arith) (p .newer (c .if1 .taken));
+    }
 
 returns : tie.Need-returns
 returns c =
@@ -36,21 +33,22 @@ returns c =
     ∙ ap (λ (b : Bool). kept qs (fronted b (a .stamp) (a .value) (versionsIn (a .row .now)))) (sym (c .before .if1 .taken)))
 
 shared-slice-read-packed : tie.Need-shared-slice-read-packed
-shared-slice-read-packed c = search needs
+shared-slice-read-packed c = omega arith
 
 shared-slice-read-packed-2 : tie.Need-shared-slice-read-packed-2
-shared-slice-read-packed-2 c = search needs
+shared-slice-read-packed-2 c = omega arith
 
 packed-requires-2 : tie.Need-packed-requires-2
 packed-requires-2 c κs =
     let a = c .before .before .before .before .before .args in
     let p = c .before .before .before .before .before .pre in
-    let s = c .before .shared-slice-known3 .given 1 .fits in (
-      p .size,
-      p .sound .most,
-      p .few .order .order .size,
-      old-room (p .starts) (a .starts .now) (a .row .now) (p .few) (p .sound) (omega arith),
-    )
+    let s = c .before .shared-slice-known3 .given 1 .fits in
+    record {
+      size = p .size;
+      most = p .sound .most;
+      starts = p .few .order .order .size;
+      room = old-room (p .starts) (a .starts .now) (a .row .now) (p .few) (p .sound) (omega arith);
+    }
 
 returns-2 : tie.Need-returns-2
 returns-2 c =

@@ -1,4 +1,5 @@
 -- The row holds the words that were packed. Assumes nothing.
+use native.Mathlib.Omega.{arith}
 use borrow.Author.Needs.{needs}
 use mathlib.Core.Path.{_∙_}
 use Rattle.versions.proofs.write.write_row.Statement.{statement}
@@ -8,13 +9,13 @@ renewed-requires : tie.Need-renewed-requires
 renewed-requires c κs = search needs
 
 slice-aggregate-copy : tie.Need-slice-aggregate-copy
-slice-aggregate-copy c = search needs
+slice-aggregate-copy c = omega arith
 
 copy-requires : tie.Need-copy-requires
-copy-requires c κs = search needs
+copy-requires c κs = omega arith
 
 same-length : tie.Need-same-length
-same-length c = search needs
+same-length c = omega arith
 
 returns : tie.Need-returns
 returns c = λ qs h. c .before .before .copy .ensures ∙ c .before .before .before .before .before .renewed .ensures qs h

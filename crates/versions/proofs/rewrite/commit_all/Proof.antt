@@ -1,5 +1,4 @@
 -- The rows passed are rewritten, with the working value in front where the slot holds the item exclusively. Assumes nothing.
-use borrow.Author.Needs.{needs}
 use mathlib.Core.Path.{_≡_, sym, ap, _∙_, subst}
 use Prim.Native.Nat.{ℕ, _≤_, _<_, _+_, _-_}
 use mathlib.Core.List.{List}
@@ -11,8 +10,8 @@ use Rattle.versions.specs.Written.{claimed, Few, Sound}
 use Rattle.versions.proofs.Lent.{length-row}
 use Rattle.versions.proofs.Renew.{claimed-is}
 use Rattle.versions.proofs.Table.{soFar, none-yet, all-done, length-soFar, row-soFar, one-more}
-use Rattle.versions.proofs.write.commit_all.Statement.{statement}
-use Rattle.versions.proofs.write.commit_all.Tie as tie
+use Rattle.versions.proofs.rewrite.commit_all.Statement.{statement}
+use Rattle.versions.proofs.rewrite.commit_all.Tie as tie
 
 abbrev Inv-loop : tie.InvT-loop
 Inv-loop versions₀ locks starts owner stamp i₀ versions i = (i ≤ base .items) × ((qs : List ℕ) → Few qs starts → versions ≡ soFar qs (claimed locks owner stamp) versions₀ i)
@@ -21,34 +20,34 @@ abbrev μ-loop : tie.MeasureT-loop
 μ-loop versions₀ locks starts owner stamp i₀ versions i = base .items - i
 
 add-owner : tie.Need-add-owner Inv-loop μ-loop
-add-owner c = search needs
+add-owner c = omega arith
 
 loop-holds : tie.Need-loop-holds Inv-loop μ-loop
 loop-holds c = (omega arith, λ qs h. sym (none-yet qs _ (c .before .before .before .before .args .versions .now)))
 
 mul-new : tie.Need-mul-new Inv-loop μ-loop
-mul-new c = search needs
+mul-new c = omega arith
 
 add-new : tie.Need-add-new Inv-loop μ-loop
-add-new c = search needs
+add-new c = omega arith
 
 mul-new-2 : tie.Need-mul-new-2 Inv-loop μ-loop
-mul-new-2 c = search needs
+mul-new-2 c = omega arith
 
 shared-slice-read-new : tie.Need-shared-slice-read-new Inv-loop μ-loop
-shared-slice-read-new c = search needs
+shared-slice-read-new c = omega arith
 
 mul-write-item : tie.Need-mul-write-item Inv-loop μ-loop
-mul-write-item c = search needs
+mul-write-item c = omega arith
 
 add-write-item : tie.Need-add-write-item Inv-loop μ-loop
-add-write-item c = search needs
+add-write-item c = omega arith
 
 mul-write-item-2 : tie.Need-mul-write-item-2 Inv-loop μ-loop
-mul-write-item-2 c = search needs
+mul-write-item-2 c = omega arith
 
 shared-slice-read-write-item : tie.Need-shared-slice-read-write-item Inv-loop μ-loop
-shared-slice-read-write-item c = search needs
+shared-slice-read-write-item c = omega arith
 
 write-item-requires : tie.Need-write-item-requires Inv-loop μ-loop
 unfolding versionsOf
@@ -56,7 +55,7 @@ write-item-requires c κs =
     let a = c .before .before .before .before .before .before .before .before .before .args in
     let v = a .versions .now in
     let f = claimed (a .locks .now) (a .slot .0 + 1) (a .stamp .0) in
-    let p = c .before .before .before .before .before .before .before .before .before .pre .0 in
+    let p = c .before .before .before .before .before .before .before .before .before .pre .sound in
     let i = c .before .before .before .before .loop .i in
     let h = c .before .before .before .loop-test .taken in
     let cur = c .before .before .before .before .loop .versions in
@@ -68,14 +67,14 @@ write-item-requires c κs =
       record {
         size = length-row i cur l h;
         sound = subst Sound (sym r) (p .rows i h);
-        newer = λ z. subst (λ (r : List ℕ). stampAt (versionsIn r) 0 < a .stamp .0) (sym r) (c .before .before .before .before .before .before .before .before .before .pre .3 i h);
+        newer = λ z. subst (λ (r : List ℕ). stampAt (versionsIn r) 0 < a .stamp .0) (sym r) (c .before .before .before .before .before .before .before .before .before .pre .newer i h);
         starts = p .starts;
         few = p .few;
       },
     )
 
 add-i : tie.Need-add-i Inv-loop μ-loop
-add-i c = search needs
+add-i c = omega arith
 
 loop-less : tie.Need-loop-less Inv-loop μ-loop
 loop-less c = omega arith
@@ -84,7 +83,7 @@ loop-again : tie.Need-loop-again Inv-loop μ-loop
 loop-again c =
     let a = c .before .before .before .before .before .before .before .before .before .before .before .before .args in
     let f = claimed (a .locks .now) (a .slot .0 + 1) (a .stamp .0) in
-    let p = c .before .before .before .before .before .before .before .before .before .before .before .before .pre .0 in
+    let p = c .before .before .before .before .before .before .before .before .before .before .before .before .pre .sound in
     let l = c .before .before .before .before .before .before .before .loop in (
       omega arith,
       λ qs h. c .before .before .write-item .ensures qs h ∙ one-more qs f (a .versions .now) (h .few) (p .size) (l .i) (c .before .before .before .before .before .before .loop-test .taken) (l .versions) (l .inv .1 qs h),
@@ -94,7 +93,7 @@ same-length : tie.Need-same-length Inv-loop μ-loop
 same-length c =
     let a = c .before .before .before .before .before .before .args in
     let f = claimed (a .locks .now) (a .slot .0 + 1) (a .stamp .0) in
-    let p = c .before .before .before .before .before .before .pre .0 in
+    let p = c .before .before .before .before .before .before .pre .sound in
     let l = c .before .loop in
     ap length (l .inv .1 (p .starts) (p .few))
     ∙ length-soFar (p .starts) f (a .versions .now) (p .few .few) (p .size) (l .i) (l .inv .0)

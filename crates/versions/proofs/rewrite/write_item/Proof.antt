@@ -1,35 +1,34 @@
 -- The part that is lent is the item's row, and it comes back rewritten. Assumes nothing.
-use borrow.Author.Needs.{needs}
-use mathlib.Core.Path.{_≡_, sym, ap, ap₂, _∙_, subst}
+use native.Mathlib.Omega.{arith}
+use mathlib.Core.Path.{sym, ap, ap₂, _∙_, subst}
 use Prim.Native.Nat.{ℕ, _*_}
 use mathlib.Core.List.{List, _++_}
-use native.Mathlib.Omega.{arith}
 use lib.ListN.{take, drop}
 use Rattle.names.specs.Sizes.{base}
 use Rattle.rules.specs.Tables.{versionRow}
 use Rattle.rules.specs.Versions.{versionsIn, rowOf, kept}
 use Rattle.versions.specs.Written.{fronted, Writable}
 use Rattle.versions.proofs.Lent.{wide, lent}
-use Rattle.versions.proofs.write.write_item.Statement.{statement}
-use Rattle.versions.proofs.write.write_item.Tie as tie
+use Rattle.versions.proofs.rewrite.write_item.Statement.{statement}
+use Rattle.versions.proofs.rewrite.write_item.Tie as tie
 
 mul-a : tie.Need-mul-a
-mul-a c = search needs
+mul-a c = omega arith
 
 add-e : tie.Need-add-e
-add-e c = search needs
+add-e c = omega arith
 
 mul-write-row : tie.Need-mul-write-row
-mul-write-row c = search needs
+mul-write-row c = omega arith
 
 sub-write-row : tie.Need-sub-write-row
-sub-write-row c = search needs
+sub-write-row c = omega arith
 
 part-write-row-start : tie.Need-part-write-row-start
-part-write-row-start c = search needs
+part-write-row-start c = omega arith
 
 part-write-row-end : tie.Need-part-write-row-end
-part-write-row-end c = search needs
+part-write-row-end c = omega arith
 
 write-row-requires : tie.Need-write-row-requires
 write-row-requires c κs =
@@ -37,7 +36,7 @@ write-row-requires c κs =
     subst (λ (r : List ℕ). Writable r (a .starts .now) (a .new) (a .stamp)) (sym (lent (a .x) (a .versions .now))) (c .before .before .before .pre .2)
 
 same-length : tie.Need-same-length
-same-length c = search needs
+same-length c = omega arith
 
 returns : tie.Need-returns
 returns c =

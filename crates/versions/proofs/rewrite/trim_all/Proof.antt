@@ -1,5 +1,4 @@
 -- The rows passed are trimmed, the others as they were. Assumes nothing.
-use borrow.Author.Needs.{needs}
 use mathlib.Core.Path.{_≡_, sym, ap, _∙_, subst}
 use Prim.Native.Nat.{ℕ, _≤_, _-_}
 use Rattle.rules.proofs.Tests.{true-is}
@@ -11,8 +10,8 @@ use Rattle.rules.specs.Versions.{Version}
 use Rattle.versions.specs.Written.{Few, Sound}
 use Rattle.versions.proofs.Lent.{length-row}
 use Rattle.versions.proofs.Table.{soFar, none-yet, all-done, length-soFar, row-soFar, one-more}
-use Rattle.versions.proofs.write.trim_all.Statement.{statement}
-use Rattle.versions.proofs.write.trim_all.Tie as tie
+use Rattle.versions.proofs.rewrite.trim_all.Statement.{statement}
+use Rattle.versions.proofs.rewrite.trim_all.Tie as tie
 
 abbrev same : ℕ → List Version → List Version
 same x vs = vs
@@ -47,7 +46,7 @@ write-item-requires c κs =
     )
 
 add-i : tie.Need-add-i Inv-loop μ-loop
-add-i c = search needs
+add-i c = omega arith
 
 loop-less : tie.Need-loop-less Inv-loop μ-loop
 loop-less c = omega arith

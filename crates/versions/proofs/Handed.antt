@@ -1,0 +1,64 @@
+-- What the functions ask for, good tables have. Assumes nothing.
+use Prim.Native.Nat.{ℕ, _<_, _≤_}
+use mathlib.Core.Path.{_≡_}
+use mathlib.Core.Bool.{false}
+use mathlib.Core.List.{List}
+use native.Mathlib.Omega.{arith}
+use lib.ListN.{getD}
+use lib.Dec.{T}
+use Rattle.names.specs.Sizes.{base}
+use Rattle.rules.specs.Words.{row}
+use Rattle.rules.specs.Tables.{Tables, versionRow, clock, txn, liveQuery, starts}
+use Rattle.rules.specs.Versions.{versionsOf, stampAt}
+use Rattle.rules.specs.Good.{Good, GoodVersions}
+use Rattle.rules.proofs.Starts.{starts-lt}
+use Rattle.rules.proofs.Looked.{looked-chosen}
+use Rattle.versions.specs.Ordered.{InOrder}
+use Rattle.versions.specs.Found.{Found}
+use Rattle.versions.specs.Written.{Few, Sound, AllSound, Committable}
+
+-- the starts in order leave room for one version more where a slot has no live query
+pub few-starts :
+    (t q : List ℕ) → InOrder (starts base t) q → (s : ℕ) → s < base .slots → liveQuery (txn t s) ≡ false → Few (starts base t) q
+few-starts t q o s h e = record { order = o; few = starts-lt base t s h e }
+
+pub good-sound : (t r : List ℕ) → GoodVersions base t r → Sound r
+good-sound t r g = record { least = g .countLeast; most = g .countMost; fall = g .fall }
+
+module _ (G : Tables) (g : Good base G) where
+  -- for chosen: a live query finds a version of each item
+  pub good-found :
+      (x s : ℕ) → x < base .items → s < base .slots → T (liveQuery (txn (G .txns) s)) → Found (G .versions) x ((txn (G .txns) s) .start)
+  unfolding versionsOf
+  good-found x s h inside query =
+      let r = row (versionRow base) x (G .versions) in
+      record {
+        size = g .versionsExact;
+        known = h;
+        most = g .versionsGood x h .countMost;
+        found = looked-chosen base (G .txns) r (g .versionsGood x h) s inside query .0;
+      }
+
+  -- for newest: each item has a version
+  pub good-least : (x : ℕ) → x < base .items → 1 ≤ getD (row (versionRow base) x (G .versions)) 0 0
+  good-least x h = g .versionsGood x h .countLeast
+
+  -- for trim_all and commit_all: all rows are sound
+  pub good-rows : (qs q : List ℕ) → Few qs q → AllSound (G .versions) q
+  good-rows qs q f =
+      record {
+        size = g .versionsExact;
+        rows = λ x h. good-sound (G .txns) (row (versionRow base) x (G .versions)) (g .versionsGood x h);
+        starts = qs;
+        few = f;
+      }
+
+  -- for commit_all: a stamp above the clock is newer than every version
+  good-newer : (c : ℕ) → clock (G .txns) < c → (x : ℕ) → x < base .items → stampAt (versionsOf base (G .versions) x) 0 < c
+  unfolding versionsOf
+  good-newer c l x h = let a = g .versionsGood x h .first in omega arith
+
+  pub good-commits :
+      (qs q : List ℕ) → Few qs q → (s : ℕ) → s < base .slots → (c : ℕ) → clock (G .txns) < c
+      → Committable (G .versions) (G .locks) q s c
+  good-commits qs q f s h c l = record { sound = good-rows qs q f; locks = g .locksExact; inside = h; newer = good-newer c l }

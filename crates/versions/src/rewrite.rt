@@ -1,0 +1,56 @@
+// All rows rewritten: each item's row is lent, as the middle part of the table, to the one row
+// writer.
+ghost use mathlib.Core.Path.{_≡_};
+ghost use mathlib.Core.List.{List};
+ghost use Prim.Native.Nat.{ℕ, _<_};
+ghost use lib.ListN.{length};
+ghost use Rattle.names.specs.Sizes.{base};
+ghost use Rattle.rules.specs.Words.{row};
+ghost use Rattle.rules.specs.Tables.{versionRow, versionWords};
+ghost use Rattle.rules.specs.Versions.{rewritten};
+ghost use Rattle.rules.specs.Step.{withNew};
+ghost use Rattle.versions.specs.Written.{newWords, withRow, Few, Writable, AllSound, Committable};
+use super::LOCK;
+use super::ROW;
+use super::ROWS;
+use super::write::write_row;
+use names::Slot;
+use names::Stamp;
+
+// Lends the row of item x to write_row.
+fn write_item(versions: &mut [u64], x: usize, starts: &[u64], new: bool, stamp: u64, value: u64)
+    requires { ⌜ (length (now versions) ≡ versionWords base) × (x < base .items) × Writable (row (versionRow base) x (now versions)) (now starts) new stamp ⌝ }
+    ensures { λ _. ⌜ ((qs : List ℕ) → Few qs (now (starts .entry)) → now (versions .exit) ≡ withRow x (newWords qs new stamp value (row (versionRow base) x (now (versions .entry)))) (now (versions .entry))) ⌝ }
+{
+    let a = ROW * x;
+    let e = a + ROW;
+    write_row(&mut versions[a..e], starts, new, stamp, value);
+}
+
+// Trims every row: the versions that no start reads go, but for the newest.
+pub fn trim_all(versions: &mut [u64], starts: &[u64])
+    requires { ⌜ AllSound (now versions) (now starts) ⌝ }
+    ensures { λ _. ⌜ ((qs : List ℕ) → Few qs (now (starts .entry)) → now (versions .exit) ≡ rewritten base qs (λ x vs. vs) (now (versions .entry))) ⌝ }
+{
+    let mut i: usize = 0;
+    while i < ROWS {
+        write_item(versions, i, starts, false, 0, 0);
+        i += 1;
+    }
+}
+
+// Rewrites every row at a commit of the update in a slot: the working values of the items that it
+// holds exclusively go in front, under the new stamp, and every row is trimmed.
+pub fn commit_all(versions: &mut [u64], locks: &[u64], slot: Slot, stamp: Stamp, starts: &[u64])
+    requires { ⌜ Committable (now versions) (now locks) (now starts) (slot .0) (stamp .0) ⌝ }
+    ensures { λ _. ⌜ ((qs : List ℕ) → Few qs (now (starts .entry)) → now (versions .exit) ≡ rewritten base qs (withNew (now (locks .entry)) (slot .0) (stamp .0)) (now (versions .entry))) ⌝ }
+{
+    let owner = slot.0 + 1;
+    let stamp = stamp.0;
+    let mut i: usize = 0;
+    while i < ROWS {
+        let new = locks[LOCK * i + 1] == owner;
+        write_item(versions, i, starts, new, stamp, locks[LOCK * i + 2]);
+        i += 1;
+    }
+}
