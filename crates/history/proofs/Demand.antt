@@ -1,0 +1,40 @@
+-- Demand 3, whole, and what stands beside it: of all sizes with a place for every slot, and of the appliance's. Assumes nothing.
+use Prim.Native.Nat.{_≤_}
+use mathlib.Core.List.{List}
+use native.Mathlib.Omega.{arith}
+use Rattle.names.specs.declared.Sizes.{Sizes}
+use Rattle.names.specs.Sizes.{base}
+use Rattle.rules.specs.Answers.{Call}
+use Rattle.history.specs.Serial.{Serializes}
+use Rattle.history.specs.Undisturbed.{Undisturbed}
+use Rattle.history.specs.Ended.{EndedForEver}
+use Rattle.history.specs.Beside.{Beside}
+use Rattle.history.proofs.Theorem.{serializes}
+use Rattle.history.proofs.Query.{undisturbed}
+use Rattle.history.proofs.Ended.{run-good, run-never-bad, ended-for-ever}
+use Rattle.history.proofs.Numbers.{upward}
+use Rattle.history.proofs.ByBegins.{told-by-begins}
+
+-- ---- of all sizes
+module _ (S : Sizes) (enough : S .slots ≤ S .places) (room : 1 ≤ S .places) where
+  pub demand-3-sizes : ((cs : List Call) → Serializes S cs) × Undisturbed S
+  demand-3-sizes = (serializes S enough room, undisturbed S enough room)
+
+  pub beside-sizes : ((cs : List Call) → Beside S cs) × EndedForEver S
+  beside-sizes = (
+    λ cs.
+        record {
+          stayGood = run-good S enough room cs;
+          neverBad = run-never-bad S enough room cs;
+          rising = upward S enough room cs;
+          byBegins = told-by-begins S enough room cs;
+        },
+    ended-for-ever S enough room,
+  )
+
+-- ---- of the appliance's
+pub demand-3 : ((cs : List Call) → Serializes base cs) × Undisturbed base
+demand-3 = demand-3-sizes base (omega arith) (omega arith)
+
+pub demand-3-beside : ((cs : List Call) → Beside base cs) × EndedForEver base
+demand-3-beside = beside-sizes base (omega arith) (omega arith)

@@ -1,0 +1,7 @@
+-- Document 01, demand 3 (Runs, Serial, Undisturbed), and what stands beside it.
+pub mod Runs
+pub mod Serial
+pub mod Undisturbed
+pub mod Ended
+pub mod Numbers
+pub mod Beside

@@ -1,0 +1,2 @@
+-- Small runs on which the definitions of demand 3 are computed.
+pub mod Samples
