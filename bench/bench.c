@@ -1,0 +1,114 @@
+/* The time of one call, in nanoseconds: best of several runs. Nothing is asserted.
+ *
+ * An abort of transaction 0 pays the test of all tables alone; every other call pays it too. Each
+ * call is timed on fresh tables, and on full ones: 15 live queries, and an item row with 16
+ * versions for each item that was written between their begins (all 64). */
+#define _POSIX_C_SOURCE 199309L
+#include "keeper.h"
+
+#include <stdio.h>
+#include <stdlib.h>
+#include <time.h>
+
+#define RUNS 7
+#define CALLS 20000
+
+static uint64_t txns[KEEPER_TXN_WORDS];
+static uint64_t locks[KEEPER_LOCK_WORDS];
+static uint64_t versions[KEEPER_VERSION_WORDS];
+
+#define TABLES txns, KEEPER_TXN_WORDS, locks, KEEPER_LOCK_WORDS, versions, KEEPER_VERSION_WORDS
+
+static double now(void)
+{
+    struct timespec t;
+    clock_gettime(CLOCK_MONOTONIC, &t);
+    return (double)t.tv_sec * 1e9 + (double)t.tv_nsec;
+}
+
+static struct keeper_answer granted(struct keeper_answer a)
+{
+    if (a.code != KEEPER_GRANTED) {
+        fprintf(stderr, "bench: a call was answered %d\n", (int)a.code);
+        exit(1);
+    }
+    return a;
+}
+
+/* 15 queries, one at each stamp from 0 to 14, and an update of all items after each. */
+static void fill(void)
+{
+    for (int q = 0; q < KEEPER_SLOTS - 1; q++) {
+        granted(keeper_begin_query(TABLES));
+        uint64_t n = granted(keeper_begin_update(TABLES)).number;
+        for (uint64_t x = 0; x < KEEPER_ITEMS; x++)
+            granted(keeper_write(TABLES, n, x, 100 * (uint64_t)q + x));
+        granted(keeper_commit(TABLES, n));
+    }
+}
+
+enum { TEST, BEGIN, READ, WRITE, COMMIT, QUERY_READ, KINDS };
+
+static const char *const names[KINDS] = {
+    "abort of 0 (test of all tables)", "begin update", "read by an update",
+    "write",                           "commit of one write", "read by a query",
+};
+
+/* One round times each kind once on the same tables; the update of the round is committed. */
+static void measure(const char *on, uint64_t query)
+{
+    double best[KINDS];
+    for (int k = 0; k < KINDS; k++)
+        best[k] = 1e18;
+    for (int run = 0; run < RUNS; run++) {
+        double sum[KINDS] = {0};
+        for (int i = 0; i < CALLS; i++) {
+            uint64_t item = (uint64_t)i % KEEPER_ITEMS;
+            double t0 = now();
+            keeper_abort(TABLES, 0);
+            double t1 = now();
+            uint64_t n = keeper_begin_update(TABLES).number;
+            double t2 = now();
+            keeper_read(TABLES, n, item);
+            double t3 = now();
+            keeper_write(TABLES, n, item, (uint64_t)i);
+            double t4 = now();
+            granted(keeper_commit(TABLES, n));
+            double t5 = now();
+            if (query)
+                keeper_read(TABLES, query, item);
+            double t6 = now();
+            sum[TEST] += t1 - t0;
+            sum[BEGIN] += t2 - t1;
+            sum[READ] += t3 - t2;
+            sum[WRITE] += t4 - t3;
+            sum[COMMIT] += t5 - t4;
+            sum[QUERY_READ] += t6 - t5;
+        }
+        for (int k = 0; k < KINDS; k++)
+            if (sum[k] / CALLS < best[k])
+                best[k] = sum[k] / CALLS;
+    }
+    printf("%s\n", on);
+    for (int k = 0; k < KINDS; k++)
+        if (k != QUERY_READ || query)
+            printf("  %-34s %8.0f ns\n", names[k], best[k]);
+}
+
+int main(void)
+{
+    double clock_cost = 1e18;
+    for (int i = 0; i < 1000; i++) {
+        double t = now();
+        double d = now() - t;
+        if (d < clock_cost)
+            clock_cost = d;
+    }
+    printf("best of %d runs of %d calls; reading the clock takes %.0f ns of each\n", RUNS, CALLS, clock_cost);
+    keeper_fresh(TABLES);
+    measure("fresh tables", 0);
+    keeper_fresh(TABLES);
+    fill();
+    measure("full tables: 15 live queries, 16 versions of each item", 1);
+    return 0;
+}

@@ -1,0 +1,160 @@
+-- Words set to 0 one by one, the counts of version rows set to 1 row by row, and the tables that come of it. Assumes nothing.
+use Prim.Native.Nat.{ℕ, zero, suc, _+_, _-_, _*_, _/_, _%_, _≤_, _<_}
+use mathlib.Core.Path.{_≡_, refl, sym, ap, _∙_, subst}
+use mathlib.Core.Logic.{_≢_, _⊎_, inl, inr}
+use mathlib.Core.Bool.{Bool, true, false, not, cond}
+use mathlib.Core.List.{List, [], _∷_}
+use native.Mathlib.Omega.{arith}
+use lib.ListN.{length, getD, set, drop, replicate, length-set, length-replicate, length-drop}
+use lib.Seq.{ext-getD, getD-set-same, getD-set-other, getD-drop}
+use lib.Dec.{T, eqb, eqb→eq}
+use borrow.Author.Tests.{not-true, not-false}
+use Rattle.names.specs.Sizes.{base}
+use Rattle.rules.specs.Words.{row, mapRows}
+use Rattle.rules.specs.Tables.{Tables, tables, txnWords, lockWords, versionRow, versionWords, fresh}
+use Rattle.rules.specs.Tested.{sizesExact}
+use Rattle.rules.proofs.Tests.{same?, and-left, and-right, true-is}
+use Rattle.rules.proofs.Rows.{length-mapRows, row-mapRows, row-word}
+use Rattle.rules.proofs.Fresh.{zeros}
+use Rattle.fresh.specs.Made.{counted, freshened}
+
+-- ---- the words below k are 0
+pub record Zeroed (before after : List ℕ) (k : ℕ) : Type 0 where
+  pub within : k ≤ length before
+  pub size : length after ≡ length before
+  pub done : (j : ℕ) → j < k → getD after j 0 ≡ 0
+
+pub none-zeroed : (l : List ℕ) → Zeroed l l 0
+none-zeroed l = record { within = omega arith; size = refl; done = λ j b. absurd (omega arith) }
+
+pub one-zeroed : (before after : List ℕ) (k : ℕ) → k < length after → Zeroed before after k → Zeroed before (set after k 0) (k + 1)
+one-zeroed before after k i r =
+    record {
+      within = let s = r .size in omega arith;
+      size = length-set after k 0 ∙ r .size;
+      done = λ j b. go j b (same? j k);
+    }
+  where
+    go : (j : ℕ) → j < k + 1 → (j ≡ k) ⊎ (j ≢ k) → getD (set after k 0) j 0 ≡ 0
+    go j b (inl q) = subst (λ (z : ℕ). getD (set after k 0) z 0 ≡ 0) (sym q) (getD-set-same after k 0 0 i)
+    go j b (inr d) = getD-set-other after k j 0 0 d ∙ r .done j (omega arith)
+
+pub all-zeroed : (before after : List ℕ) (k : ℕ) → length after ≤ k → Zeroed before after k → after ≡ replicate (length before) 0
+all-zeroed before after k b r =
+    ext-getD 0 after (replicate (length before) 0) (r .size ∙ sym (length-replicate {A = ℕ} (length before) 0))
+    (λ j i. r .done j (omega arith) ∙ sym (zeros (length before) j))
+
+pub zeroed-length : (l z : List ℕ) → z ≡ replicate (length l) 0 → length z ≡ length l
+zeroed-length l z e = ap length e ∙ length-replicate {A = ℕ} (length l) 0
+
+-- ---- the rows below x have the count 1, and no other word is changed
+pub record Counted (before after : List ℕ) (x : ℕ) : Type 0 where
+  pub within : x ≤ base .items
+  pub size : length after ≡ versionWords base
+  pub done : (y : ℕ) → y < x → getD after (versionRow base * y) 0 ≡ 1
+  pub rest : (y k : ℕ) → k < 32 → getD after (versionRow base * y + suc k) 0 ≡ getD before (versionRow base * y + suc k) 0
+
+pub none-counted : (l : List ℕ) → length l ≡ versionWords base → Counted l l 0
+none-counted l e = record { within = omega arith; size = e; done = λ y b. absurd (omega arith); rest = λ y k b. refl }
+
+pub one-counted : (before after : List ℕ) (x : ℕ) → x < base .items → Counted before after x → Counted before (set after (33 * x) 1) (x + 1)
+one-counted before after x i r =
+    record {
+      within = omega arith;
+      size = length-set after (33 * x) 1 ∙ r .size;
+      done = λ y b. go y b (same? y x);
+      rest = λ y k b. getD-set-other after (33 * x) (33 * y + suc k) 1 0 (λ q. omega arith) ∙ r .rest y k b;
+    }
+  where
+    go : (y : ℕ) → y < x + 1 → (y ≡ x) ⊎ (y ≢ x) → getD (set after (33 * x) 1) (33 * y) 0 ≡ 1
+    go y b (inl q) =
+        subst (λ (z : ℕ). getD (set after (33 * x) 1) (33 * z) 0 ≡ 1) (sym q)
+        (getD-set-same after (33 * x) 1 0 (let s = r .size in omega arith))
+    go y b (inr d) = getD-set-other after (33 * x) (33 * y) 1 0 (λ q. d (omega arith)) ∙ r .done y (omega arith)
+
+long : (x : ℕ) (r : List ℕ) → length r ≡ versionRow base → length (1 ∷ drop 1 r) ≡ versionRow base
+long x r e = let a = length-drop 1 r in omega arith
+
+pub length-counted : (l : List ℕ) → length l ≡ versionWords base → length (counted base l) ≡ versionWords base
+unfolding counted
+length-counted l e = length-mapRows (versionRow base) (λ x r. 1 ∷ drop 1 r) long (base .items) 0 l (omega arith) ∙ e
+
+row-is : (l : List ℕ) → length l ≡ versionWords base → (y : ℕ) → y < base .items → row 33 y (counted base l) ≡ 1 ∷ drop 1 (row 33 y l)
+unfolding counted
+row-is l e y i = row-mapRows 33 (λ x r. 1 ∷ drop 1 r) long (base .items) 0 l (omega arith) y i
+
+pub all-counted :
+    (before after : List ℕ) (x : ℕ) → length before ≡ versionWords base → base .items ≤ x → Counted before after x → after ≡ counted base before
+all-counted before after x e b r =
+    ext-getD 0 after (counted base before) (r .size ∙ sym (length-counted before e))
+    (λ j i. word j (let s = r .size in omega arith) (j % 33) refl)
+  where
+    new : (j : ℕ) → j < versionWords base → (k : ℕ) → k < 33 → getD (counted base before) (33 * (j / 33) + k) 0 ≡ getD (1 ∷ drop 1 (row 33 (j / 33) before)) k 0
+    new j i k h =
+        sym (row-word 33 (j / 33) k (counted base before) h)
+        ∙ ap (λ (m : List ℕ). getD m k 0) (row-is before e (j / 33) (omega arith))
+
+    word : (j : ℕ) → j < versionWords base → (k : ℕ) → j % 33 ≡ k → getD after j 0 ≡ getD (counted base before) j 0
+    word j i zero q =
+        let p : 33 * (j / 33) ≡ j = omega arith in
+        let n : 33 * (j / 33) + 0 ≡ j = omega arith in
+        subst (λ (m : ℕ). getD after m 0 ≡ 1) p (r .done (j / 33) (omega arith))
+        ∙ sym (subst (λ (m : ℕ). getD (counted base before) m 0 ≡ 1) n (new j i 0 (omega arith)))
+    word j i (suc k) q =
+        let h : k < 32 = omega arith in
+        let p : 33 * (j / 33) + suc k ≡ j = omega arith in
+        let n : 1 + k ≡ suc k = omega arith in
+        subst (λ (m : ℕ). getD after m 0 ≡ getD (counted base before) m 0) p
+        (r .rest (j / 33) k h
+        ∙ sym (row-word 33 (j / 33) (suc k) before (omega arith))
+        ∙ sym (getD-drop 1 (row 33 (j / 33) before) k 0 ∙ ap (λ (m : ℕ). getD (row 33 (j / 33) before) m 0) n)
+        ∙ sym (new j i (suc k) (omega arith)))
+
+-- ---- the whole
+pub refused : (G : Tables) (r : Bool) → r ≡ sizesExact base G → not r ≡ true → (false ≡ sizesExact base G) × (G ≡ freshened base G)
+unfolding freshened
+refused G r e h = (sym n, sym (ap (λ (b : Bool). cond b (fresh base) G) n))
+  where
+    n : sizesExact base G ≡ false
+    n = sym e ∙ not-true r h
+
+pub record Exact (G : Tables) : Type 0 where
+  pub txnsExact : length (G .txns) ≡ txnWords base
+  pub locksExact : length (G .locks) ≡ lockWords base
+  pub versionsExact : length (G .versions) ≡ versionWords base
+
+pub exact : (G : Tables) (r : Bool) → r ≡ sizesExact base G → not r ≡ false → Exact G
+unfolding sizesExact
+exact G r e h =
+    let t : T (sizesExact base G) = true-is (sym e ∙ not-false r h) in
+    let u = and-right (eqb (length (G .txns)) (txnWords base)) _ t in
+    record {
+      txnsExact = eqb→eq (length (G .txns)) (txnWords base) (and-left (eqb (length (G .txns)) (txnWords base)) _ t);
+      locksExact = eqb→eq (length (G .locks)) (lockWords base) (and-left (eqb (length (G .locks)) (lockWords base)) _ u);
+      versionsExact = eqb→eq (length (G .versions)) (versionWords base) (and-right (eqb (length (G .locks)) (lockWords base)) _ u);
+    }
+
+pub filled :
+    (G : Tables) (r : Bool) → r ≡ sizesExact base G → not r ≡ false → (t l z v : List ℕ)
+    → t ≡ replicate (length (G .txns)) 0 → l ≡ replicate (length (G .locks)) 0 → z ≡ replicate (length (G .versions)) 0 → v ≡ counted base z
+    → (true ≡ sizesExact base G) × (tables t l v ≡ freshened base G)
+unfolding freshened fresh counted
+filled G r e h t l z v p q a c = (
+  sym y,
+  (λ i. tables (tx i) (lo i) (ve i)) ∙ sym (ap (λ (b : Bool). cond b (fresh base) G) y),
+)
+  where
+    y : sizesExact base G ≡ true
+    y = sym e ∙ not-false r h
+
+    x : Exact G
+    x = exact G r e h
+
+    tx : t ≡ replicate (txnWords base) 0
+    tx = p ∙ ap (λ (n : ℕ). replicate n 0) (x .txnsExact)
+
+    lo : l ≡ replicate (lockWords base) 0
+    lo = q ∙ ap (λ (n : ℕ). replicate n 0) (x .locksExact)
+
+    ve : v ≡ mapRows (base .items) (versionRow base) (λ x r. 1 ∷ drop 1 r) 0 (replicate (versionWords base) 0)
+    ve = c ∙ ap (λ (m : List ℕ). mapRows (base .items) (versionRow base) (λ x r. 1 ∷ drop 1 r) 0 m) (a ∙ ap (λ (n : ℕ). replicate n 0) (x .versionsExact))

@@ -1,0 +1,2 @@
+-- Laws for the loops over words and over rows.
+pub mod Filling

@@ -1,0 +1,2 @@
+-- What the contracts say of filled tables.
+pub mod Made

@@ -1,0 +1,106 @@
+/* The keeper for C: six calls over three lent tables, and a function that fills the tables.
+ *
+ * The functions are those of crates/keeper_c, which `rt staticlib keeper_c` builds into
+ * target/staticlib/libkeeper_c.a, for x86-64 Linux. Each is proved there against its contract.
+ *
+ * What a caller may rely on, for every call below:
+ *  - Any tables, any lengths and any words will do. A call ends, answers as document 01 says, and
+ *    reads and writes no word outside the three tables.
+ *  - Tables that are not good are answered KEEPER_BAD_TABLES, and no word is changed.
+ *  - The four numbers of the answer, and every word of the three tables afterwards, are what the
+ *    rules say (`step` in crates/rules/specs/Step.antt). Good tables stay good.
+ *  - The keeper holds nothing of its own: the tables are its whole state.
+ *
+ * What a caller must see to, since no proof can:
+ *  - The pointers and lengths are those of three distinct tables that do not overlap. No pointer
+ *    is null, and each is aligned for a uint64_t.
+ *  - The tables are lent for the call only: nobody else reads or writes them while it runs.
+ *    Calls are made one at a time.
+ */
+#ifndef KEEPER_H
+#define KEEPER_H
+
+#include <stdbool.h>
+#include <stddef.h>
+#include <stdint.h>
+
+#ifdef __cplusplus
+extern "C" {
+#endif
+
+/* Items 0 to 63, live transactions at most, and the lengths of the tables in words. */
+#define KEEPER_ITEMS 64
+#define KEEPER_SLOTS 16
+#define KEEPER_TXN_WORDS 82
+#define KEEPER_LOCK_WORDS 192
+#define KEEPER_VERSION_WORDS 2112
+
+/* The codes of an answer. */
+enum keeper_code {
+    KEEPER_GRANTED = 0,
+    KEEPER_WAIT = 1,                /* a conflict: make the same call again later, or abort */
+    KEEPER_DEADLOCK = 2,            /* waiting would close a circle: nothing changed; abort one */
+    KEEPER_UNKNOWN_TRANSACTION = 3, /* no live transaction has that number */
+    KEEPER_UNKNOWN_ITEM = 4,        /* an item above 63 */
+    KEEPER_QUERY_MAY_NOT_WRITE = 5,
+    KEEPER_STILL_WAITING = 6,       /* it awaits another call's grant */
+    KEEPER_NO_SLOT = 7,             /* 16 transactions are live */
+    KEEPER_NUMBERS_SPENT = 8,       /* the last transaction number is given */
+    KEEPER_CLOCK_SPENT = 9,         /* the last stamp is given */
+    KEEPER_BAD_TABLES = 10
+};
+
+/* The four numbers of an answer; what a call does not name is 0. */
+struct keeper_answer {
+    uint64_t code;   /* one of enum keeper_code */
+    uint64_t value;  /* what a granted read read */
+    uint64_t number; /* a begin's transaction number; an update commit's stamp */
+    uint64_t looked; /* the place of the version read, from 1; 0 for the own working value */
+};
+
+/* Fills the three tables fresh and answers true if their lengths are the three above; else
+ * changes no word and answers false. What the tables held before does not matter. */
+bool keeper_fresh(uint64_t *txns, size_t txns_len, uint64_t *locks, size_t locks_len,
+                  uint64_t *versions, size_t versions_len);
+
+/* Begins an update in the lowest free slot; the answer's number is its number. Codes 0, 7, 8, 10;
+ * all but 0 change no word. */
+struct keeper_answer keeper_begin_update(uint64_t *txns, size_t txns_len, uint64_t *locks,
+                                         size_t locks_len, uint64_t *versions,
+                                         size_t versions_len);
+
+/* Begins a query, which reads what is committed now until it ends. The answer's number is its
+ * number. Codes 0, 7, 8, 10; all but 0 change no word. */
+struct keeper_answer keeper_begin_query(uint64_t *txns, size_t txns_len, uint64_t *locks,
+                                        size_t locks_len, uint64_t *versions,
+                                        size_t versions_len);
+
+/* Reads an item; the answer's value is what it holds for this transaction. A query never waits.
+ * Codes 0, 1, 2, 3, 4, 6, 10; 1 changes the caller's awaited words alone, the others but 0 none. */
+struct keeper_answer keeper_read(uint64_t *txns, size_t txns_len, uint64_t *locks,
+                                 size_t locks_len, uint64_t *versions, size_t versions_len,
+                                 uint64_t number, uint64_t item);
+
+/* Writes an item; others read the value once the update has committed. Codes 0, 1, 2, 3, 4, 5, 6,
+ * 10; 1 changes the caller's awaited words alone, the others but 0 none. */
+struct keeper_answer keeper_write(uint64_t *txns, size_t txns_len, uint64_t *locks,
+                                  size_t locks_len, uint64_t *versions, size_t versions_len,
+                                  uint64_t number, uint64_t item, uint64_t value);
+
+/* Commits an update: all that it wrote, under one stamp, which is the answer's number. Ends a
+ * query. Codes 0, 3, 6, 9, 10; all but 0 change no word. */
+struct keeper_answer keeper_commit(uint64_t *txns, size_t txns_len, uint64_t *locks,
+                                   size_t locks_len, uint64_t *versions, size_t versions_len,
+                                   uint64_t number);
+
+/* Aborts an update, waiting or not: nothing that it wrote is ever read. Ends a query. Codes 0, 3,
+ * 10; all but 0 change no word. */
+struct keeper_answer keeper_abort(uint64_t *txns, size_t txns_len, uint64_t *locks,
+                                  size_t locks_len, uint64_t *versions, size_t versions_len,
+                                  uint64_t number);
+
+#ifdef __cplusplus
+}
+#endif
+
+#endif

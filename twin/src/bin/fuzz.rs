@@ -1,0 +1,102 @@
+//! Holds the twin against another runner on random scripts, and against another
+//! program on tables set beforehand. Exit status 0: no difference; 1: a
+//! difference; 2: it could not be tried.
+
+use std::io::{stdout, Write};
+use std::process::exit;
+use std::time::Instant;
+
+use twin::fuzz::process::Program;
+use twin::fuzz::stats::Stats;
+use twin::fuzz::{run, Ending, Options};
+
+const USAGE: &str = "\
+usage: fuzz [--runner PATH [--runner-arg WORD]...]
+            [--tables PATH [--tables-arg WORD]...]
+            [--seed N] [--first-round N] (--seconds N | --rounds N)
+at least one of --runner and --tables, and --seconds or --rounds, are needed";
+
+fn main() {
+    let options = match parse(std::env::args().skip(1)) {
+        Ok(options) => options,
+        Err(error) => {
+            eprintln!("fuzz: {}\n{}", error, USAGE);
+            exit(2);
+        }
+    };
+    let mut stats = Stats::new();
+    let begin = Instant::now();
+    let (text, status) = match run(&options, &mut stats) {
+        Ok(Ending::Same) => ("no difference".to_string(), 0),
+        Ok(Ending::Different(difference)) => (difference + "DIFFERENCE", 1),
+        Err(error) => {
+            eprintln!("fuzz: {}", error);
+            exit(2);
+        }
+    };
+    let summary = format!(
+        "seed {}, {} rounds, {} lines, {} calls, {} cases, {:.1} seconds",
+        options.seed,
+        stats.rounds,
+        stats.lines,
+        stats.calls,
+        stats.cases,
+        begin.elapsed().as_secs_f64()
+    );
+    // Nobody may be left to read it; the status stays the same.
+    drop(writeln!(stdout(), "{}{}\n{}", stats, summary, text));
+    exit(status);
+}
+
+fn parse(mut words: impl Iterator<Item = String>) -> Result<Options, String> {
+    let mut options = Options {
+        seed: 1,
+        ..Options::default()
+    };
+    while let Some(word) = words.next() {
+        let value = words
+            .next()
+            .ok_or_else(|| format!("{} needs a value", word))?;
+        match &word[..] {
+            "--runner" => options.runner = Some(program(value)),
+            "--tables" => options.tables = Some(program(value)),
+            "--runner-arg" => add_argument(&mut options.runner, &word, value)?,
+            "--tables-arg" => add_argument(&mut options.tables, &word, value)?,
+            "--seed" => options.seed = number(&word, &value)?,
+            "--first-round" => options.first_round = number(&word, &value)?,
+            "--seconds" => options.seconds = Some(number(&word, &value)?),
+            "--rounds" => options.rounds = Some(number(&word, &value)?),
+            _ => return Err(format!("what is {}?", word)),
+        }
+    }
+    if options.runner.is_none() && options.tables.is_none() {
+        return Err("no program to compare with".to_string());
+    }
+    if options.seconds.is_none() && options.rounds.is_none() {
+        return Err("how long?".to_string());
+    }
+    Ok(options)
+}
+
+fn program(path: String) -> Program {
+    Program {
+        path,
+        arguments: Vec::new(),
+    }
+}
+
+fn add_argument(program: &mut Option<Program>, word: &str, value: String) -> Result<(), String> {
+    match program {
+        Some(program) => {
+            program.arguments.push(value);
+            Ok(())
+        }
+        None => Err(format!("{} comes after its program", word)),
+    }
+}
+
+fn number(word: &str, value: &str) -> Result<u64, String> {
+    value
+        .parse()
+        .map_err(|_| format!("{} needs a number, not {}", word, value))
+}

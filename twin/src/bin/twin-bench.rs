@@ -1,0 +1,127 @@
+//! How long a call of the twin takes, the test of all tables included.
+//! `twin-bench [MILLISECONDS]` spends that long on each line, 300 by default.
+
+use std::time::{Duration, Instant};
+
+use twin::sizes::{ITEMS, SLOTS};
+use twin::{code, Answer, Call, Keeper};
+
+fn main() {
+    let spend = match std::env::args().nth(1).map(|word| word.parse()) {
+        None => Duration::from_millis(300),
+        Some(Ok(milliseconds)) => Duration::from_millis(milliseconds),
+        Some(Err(_)) => {
+            eprintln!("usage: twin-bench [MILLISECONDS]");
+            std::process::exit(2);
+        }
+    };
+    println!(
+        "{:<38} {:>9} {:>9} {:>12}",
+        "nanoseconds a call", "mean", "best", "calls/s"
+    );
+    println!("fresh tables");
+    measure(&fresh(), spend);
+    println!("full rows (64 of 16 versions), 15 queries");
+    measure(&full(), spend);
+}
+
+/// One query is live, and nothing was ever written.
+fn fresh() -> Keeper {
+    let mut keeper = Keeper::fresh();
+    granted(&mut keeper, Call::Query);
+    keeper
+}
+
+/// A query at each stamp 0 to 14, and a commit of every item after each.
+fn full() -> Keeper {
+    let mut keeper = Keeper::fresh();
+    for stamp in 1..SLOTS as u64 {
+        granted(&mut keeper, Call::Query);
+        let number = granted(&mut keeper, Call::Update).number;
+        for item in 0..ITEMS as u64 {
+            let value = stamp;
+            let call = Call::Write {
+                number,
+                item,
+                value,
+            };
+            granted(&mut keeper, call);
+        }
+        granted(&mut keeper, Call::Commit { number });
+    }
+    keeper
+}
+
+fn measure(start: &Keeper, spend: Duration) {
+    let item = |turn: u64| turn % ITEMS as u64;
+
+    let mut keeper = start.clone();
+    line("test of all tables alone", spend, 1, |_| {
+        keeper.txns[0] += 1; // so that each turn has to look again
+        assert!(keeper.is_good());
+    });
+
+    let mut keeper = start.clone();
+    line("query: read", spend, 1, |turn| {
+        let (number, item) = (1, item(turn));
+        granted(&mut keeper, Call::Read { number, item });
+    });
+
+    let mut keeper = start.clone();
+    line("update: begin, read, write, commit", spend, 4, |turn| {
+        let item = item(turn);
+        let number = granted(&mut keeper, Call::Update).number;
+        granted(&mut keeper, Call::Read { number, item });
+        let value = turn;
+        let call = Call::Write {
+            number,
+            item,
+            value,
+        };
+        granted(&mut keeper, call);
+        granted(&mut keeper, Call::Commit { number });
+    });
+
+    let mut keeper = start.clone();
+    line("query: begin, read, commit", spend, 3, |turn| {
+        let item = item(turn);
+        let number = granted(&mut keeper, Call::Query).number;
+        granted(&mut keeper, Call::Read { number, item });
+        granted(&mut keeper, Call::Commit { number });
+    });
+}
+
+/// The mean over all turns, and the best of the batches of 1,000 turns: on a
+/// busy machine only the best says what a call costs.
+fn line(name: &str, spend: Duration, calls: u64, mut turn: impl FnMut(u64)) {
+    const BATCH: u64 = 1000;
+    let begin = Instant::now();
+    let mut turns = 0;
+    let mut best = f64::INFINITY;
+    while begin.elapsed() < spend {
+        let batch = Instant::now();
+        for _ in 0..BATCH {
+            turn(turns);
+            turns += 1;
+        }
+        best = best.min(per_call(batch.elapsed(), BATCH * calls));
+    }
+    let mean = per_call(begin.elapsed(), turns * calls);
+    println!(
+        "  {:<36} {:>9.0} {:>9.0} {:>12.0}",
+        name,
+        mean,
+        best,
+        1e9 / best
+    );
+}
+
+fn per_call(time: Duration, calls: u64) -> f64 {
+    time.as_nanos() as f64 / calls as f64
+}
+
+fn granted(keeper: &mut Keeper, call: Call) -> Answer {
+    let answer = keeper.call(call);
+    assert_eq!(answer.code, code::GRANTED, "{:?}", call);
+    answer
+}

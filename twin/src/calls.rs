@@ -1,0 +1,249 @@
+//! The six calls. Each works on any three slices: tables that are not good are
+//! answered 10 and left alone.
+
+use crate::answer::{code, Answer};
+use crate::good;
+use crate::ids::{Item, Slot, SlotSet};
+use crate::row;
+use crate::sizes::*;
+use crate::view::{as_row_mut, Holders, Lock, View};
+
+/// Fills fresh tables: zeros, and in each version row the pair (0, 0).
+pub fn fresh(
+    txns: &mut [u64; TXN_WORDS],
+    locks: &mut [u64; LOCK_WORDS],
+    versions: &mut [u64; VERSION_WORDS],
+) {
+    txns.fill(0);
+    locks.fill(0);
+    versions.fill(0);
+    for row in versions.chunks_exact_mut(VERSION_ROW) {
+        row[COUNT] = 1;
+    }
+}
+
+/// Begins an update.
+pub fn begin_update(txns: &mut [u64], locks: &mut [u64], versions: &mut [u64]) -> Answer {
+    on_good(txns, locks, versions, |mut view| view.begin(UPDATE))
+}
+
+/// Begins a query; what it reads is fixed now.
+pub fn begin_query(txns: &mut [u64], locks: &mut [u64], versions: &mut [u64]) -> Answer {
+    on_good(txns, locks, versions, |mut view| view.begin(QUERY))
+}
+
+/// Reads an item.
+pub fn read(
+    txns: &mut [u64],
+    locks: &mut [u64],
+    versions: &mut [u64],
+    number: u64,
+    item: u64,
+) -> Answer {
+    on_good(txns, locks, versions, |mut view| {
+        view.access(number, item, Access::Read)
+    })
+}
+
+/// Writes an item.
+pub fn write(
+    txns: &mut [u64],
+    locks: &mut [u64],
+    versions: &mut [u64],
+    number: u64,
+    item: u64,
+    value: u64,
+) -> Answer {
+    on_good(txns, locks, versions, |mut view| {
+        view.access(number, item, Access::Write(value))
+    })
+}
+
+/// Commits an update, or ends a query.
+pub fn commit(txns: &mut [u64], locks: &mut [u64], versions: &mut [u64], number: u64) -> Answer {
+    on_good(txns, locks, versions, |mut view| view.commit(number))
+}
+
+/// Aborts an update, or ends a query.
+pub fn abort(txns: &mut [u64], locks: &mut [u64], versions: &mut [u64], number: u64) -> Answer {
+    on_good(txns, locks, versions, |mut view| view.abort(number))
+}
+
+fn on_good<F>(txns: &mut [u64], locks: &mut [u64], versions: &mut [u64], call: F) -> Answer
+where
+    F: FnOnce(View) -> Answer,
+{
+    match View::new(txns, locks, versions) {
+        Some(view) if good::holds(view.txns, view.locks, view.versions) => call(view),
+        _ => Answer::bare(code::BAD_TABLES),
+    }
+}
+
+/// What a read or a write is after.
+#[derive(Clone, Copy)]
+pub(crate) enum Access {
+    Read,
+    Write(u64),
+}
+
+impl Access {
+    fn wants(self) -> Lock {
+        match self {
+            Access::Read => Lock::Shared,
+            Access::Write(_) => Lock::Exclusive,
+        }
+    }
+}
+
+/// The calls on tables known to be good.
+impl View<'_> {
+    pub(crate) fn begin(&mut self, kind: u64) -> Answer {
+        let slot = match self.free_slot() {
+            Some(slot) => slot,
+            None => return Answer::bare(code::NO_SLOT),
+        };
+        if self.txns[LAST_NUMBER] >= LAST {
+            return Answer::bare(code::NUMBERS_SPENT);
+        }
+        self.txns[LAST_NUMBER] += 1;
+        let number = self.txns[LAST_NUMBER];
+        let start = if kind == QUERY {
+            self.clock().word()
+        } else {
+            0
+        };
+        let row = self.txn_mut(slot);
+        row[NUMBER] = number;
+        row[KIND] = kind;
+        row[START] = start;
+        Answer::numbered(number)
+    }
+
+    pub(crate) fn access(&mut self, number: u64, item: u64, access: Access) -> Answer {
+        let slot = match self.find(number) {
+            Some(slot) => slot,
+            None => return Answer::bare(code::UNKNOWN_TRANSACTION),
+        };
+        let item = match Item::new(item) {
+            Some(item) => item,
+            None => return Answer::bare(code::UNKNOWN_ITEM),
+        };
+        match (self.is_query(slot), access) {
+            (true, Access::Read) => self.read_by_query(slot, item),
+            (true, Access::Write(_)) => Answer::bare(code::QUERY_MAY_NOT_WRITE),
+            (false, _) => self.access_by_update(slot, item, access),
+        }
+    }
+
+    fn read_by_query(&self, slot: Slot, item: Item) -> Answer {
+        let (value, place) = row::read_at(self.row(item), self.start(slot));
+        Answer::found(value, place)
+    }
+
+    fn access_by_update(&mut self, slot: Slot, item: Item, access: Access) -> Answer {
+        let lock = access.wants();
+        match self.awaited(slot) {
+            Some(awaited) if awaited != (lock, item) => return Answer::bare(code::STILL_WAITING),
+            _ => {}
+        }
+        let holders = Holders::of(self.lock(item));
+        let against = holders.against(slot, lock);
+        if !against.is_empty() {
+            return self.conflict(slot, item, lock, against);
+        }
+        self.clear_awaited(slot);
+        match (access, holders.held_by(slot)) {
+            (Access::Read, Some(Lock::Exclusive)) => Answer::found(self.lock(item)[WORKING], 0),
+            (Access::Read, Some(Lock::Shared)) => Answer::found(row::newest(self.row(item)), 1),
+            (Access::Read, None) => {
+                self.lock_mut(item)[SHARED] = holders.shared.with(slot).bits();
+                Answer::found(row::newest(self.row(item)), 1)
+            }
+            (Access::Write(value), Some(Lock::Exclusive)) => {
+                self.lock_mut(item)[WORKING] = value;
+                Answer::granted()
+            }
+            (Access::Write(value), Some(Lock::Shared) | None) => {
+                let row = self.lock_mut(item);
+                row[SHARED] = 0;
+                row[EXCLUSIVE] = slot.as_holder();
+                row[WORKING] = value;
+                Answer::granted()
+            }
+        }
+    }
+
+    /// The caller would wait for the slots against it. If one of them waits,
+    /// over however many others, for the caller, a circle would close.
+    fn conflict(&mut self, slot: Slot, item: Item, lock: Lock, against: SlotSet) -> Answer {
+        if self.walk_reaches(against, slot) {
+            return Answer::bare(code::DEADLOCK);
+        }
+        self.set_awaited(slot, lock, item);
+        Answer::bare(code::WAIT)
+    }
+
+    pub(crate) fn commit(&mut self, number: u64) -> Answer {
+        let slot = match self.find(number) {
+            Some(slot) => slot,
+            None => return Answer::bare(code::UNKNOWN_TRANSACTION),
+        };
+        if self.awaited(slot).is_some() {
+            return Answer::bare(code::STILL_WAITING);
+        }
+        if self.is_query(slot) {
+            self.end_query(slot);
+            return Answer::granted();
+        }
+        let stamp = match self.clock().next() {
+            Some(stamp) => stamp,
+            None => return Answer::bare(code::CLOCK_SPENT),
+        };
+        self.txns[CLOCK] = stamp.word();
+        self.txn_mut(slot).fill(0);
+        let starts = self.starts();
+        let rows = self.versions.chunks_exact_mut(VERSION_ROW).map(as_row_mut);
+        for (lock, versions) in self.locks.chunks_exact_mut(LOCK_ROW).zip(rows) {
+            if lock[EXCLUSIVE] == slot.as_holder() {
+                row::push(versions, stamp, lock[WORKING], &starts);
+            }
+            release(lock, slot);
+        }
+        Answer::numbered(stamp.word())
+    }
+
+    pub(crate) fn abort(&mut self, number: u64) -> Answer {
+        let slot = match self.find(number) {
+            Some(slot) => slot,
+            None => return Answer::bare(code::UNKNOWN_TRANSACTION),
+        };
+        if self.is_query(slot) {
+            self.end_query(slot);
+        } else {
+            self.txn_mut(slot).fill(0);
+            for lock in self.locks.chunks_exact_mut(LOCK_ROW) {
+                release(lock, slot);
+            }
+        }
+        Answer::granted()
+    }
+
+    /// A query's row goes, and so does every version that it alone read.
+    fn end_query(&mut self, slot: Slot) {
+        let ended = self.start(slot);
+        self.txn_mut(slot).fill(0);
+        let starts = self.starts();
+        for row in self.rows_mut() {
+            row::forget(row, ended, &starts);
+        }
+    }
+}
+
+/// Takes a slot's locks off one lock row, and its working value.
+fn release(lock: &mut [u64], slot: Slot) {
+    if lock[EXCLUSIVE] == slot.as_holder() {
+        lock[EXCLUSIVE] = 0;
+        lock[WORKING] = 0;
+    }
+    lock[SHARED] = SlotSet::of_bits(lock[SHARED]).without(slot).bits();
+}

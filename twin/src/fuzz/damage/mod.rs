@@ -1,0 +1,168 @@
+//! Damage to good tables: one word by chance, or one clause on purpose.
+
+mod locks;
+mod txns;
+mod versions;
+
+use crate::protocol::Tables;
+use crate::rng::Rng;
+use crate::sizes::*;
+
+use locks::*;
+use txns::*;
+use versions::*;
+
+/// Does its damage, or says that these tables give no occasion for it.
+pub type Damage = fn(&mut Rng, &mut Tables) -> bool;
+
+/// The kinds of damage by name. The first two leave good tables good.
+pub const KINDS: [(&str, Damage); 38] = [
+    ("none", |_, _| true),
+    ("numbers or clock nearly spent", nearly_spent),
+    ("one word", one_word),
+    ("one size off by one", size_off_by_one),
+    ("empty tables", empty_tables),
+    ("last number above the limit", |rng, t| {
+        set(&mut t.txns[LAST_NUMBER], above_limit(rng))
+    }),
+    ("clock above the limit", |rng, t| {
+        set(&mut t.txns[CLOCK], above_limit(rng))
+    }),
+    ("free row not zero", free_row),
+    ("equal live numbers", equal_numbers),
+    ("number above the last given", number_above_last),
+    ("kind 2", |rng, t| {
+        on_txn(rng, t, live, KIND, |rng, _| rng.odd_word().max(2))
+    }),
+    ("awaited lock 3", |rng, t| {
+        on_txn(rng, t, update, AWAITED_LOCK, |rng, _| rng.odd_word().max(3))
+    }),
+    ("update's start not 0", |rng, t| {
+        on_txn(rng, t, update, START, |rng, _| rng.odd_word().max(1))
+    }),
+    ("query's start above the clock", |rng, t| {
+        on_txn(rng, t, query, START, above_clock)
+    }),
+    ("query awaits", |rng, t| {
+        on_txn(rng, t, query, AWAITED_LOCK, |rng, _| rng.within(1, 2))
+    }),
+    ("awaited item 64", |rng, t| {
+        on_txn(rng, t, waiting, AWAITED_ITEM, |rng, _| {
+            rng.odd_word().max(64)
+        })
+    }),
+    ("item without awaited lock", |rng, t| {
+        on_txn(rng, t, not_waiting, AWAITED_ITEM, |rng, _| {
+            rng.within(1, 64)
+        })
+    }),
+    ("awaits shared what it holds", |rng, t| {
+        awaits_held(rng, t, AWAITS_SHARED)
+    }),
+    ("awaits exclusive what it so holds", |rng, t| {
+        awaits_held(rng, t, AWAITS_EXCLUSIVE)
+    }),
+    ("shared holder not live", |rng, t| {
+        shared_holder(rng, t, free)
+    }),
+    ("shared holder a query", |rng, t| {
+        shared_holder(rng, t, query)
+    }),
+    ("shared bit 16 and above", shared_high_bit),
+    ("exclusive holder not live", |rng, t| {
+        exclusive_holder(rng, t, free)
+    }),
+    ("exclusive holder a query", |rng, t| {
+        exclusive_holder(rng, t, query)
+    }),
+    ("exclusive holder 17 and above", exclusive_17),
+    ("both kinds of holders", both_holders),
+    ("working value without holder", working_value),
+    ("count 0", |rng, t| count(rng, t, |_| 0)),
+    ("count 17 and above", |rng, t| {
+        count(rng, t, |rng| rng.odd_word().max(17))
+    }),
+    ("count 2^63", |rng, t| count(rng, t, |_| 1 << 63)),
+    ("unused pair not zero", unused_pair),
+    ("stamps equal", |rng, t| {
+        stamps(rng, t, |rng, row| row_stamp(rng, row, |newer, _| newer))
+    }),
+    ("stamps rising", |rng, t| {
+        stamps(rng, t, |rng, row| row_stamp(rng, row, |newer, _| newer + 1))
+    }),
+    ("first stamp above the clock", first_stamp),
+    ("last stamp above a query's start", last_stamp),
+    ("a version nobody reads", unread_version),
+    ("a circle of two", circle_of_two),
+    ("a circle along waits", circle_along_waits),
+];
+
+/// How many of the kinds leave the tables good.
+pub const HARMLESS: usize = 2;
+/// How many come before the kinds that break one clause on purpose.
+pub const UNAIMED: usize = 3;
+
+fn set(word: &mut u64, value: u64) -> bool {
+    *word = value;
+    true
+}
+
+fn above_limit(rng: &mut Rng) -> u64 {
+    match rng.below(3) {
+        0 => LAST + 1,
+        1 => u64::MAX,
+        _ => rng.odd_word().max(LAST + 1),
+    }
+}
+
+fn nearly_spent(rng: &mut Rng, t: &mut Tables) -> bool {
+    let spent = LAST - rng.below(2);
+    if rng.percent(70) {
+        t.txns[LAST_NUMBER] = t.txns[LAST_NUMBER].max(spent);
+    }
+    if rng.percent(70) {
+        t.txns[CLOCK] = t.txns[CLOCK].max(spent);
+    }
+    true
+}
+
+fn table<'a>(rng: &mut Rng, t: &'a mut Tables) -> &'a mut Vec<u64> {
+    match rng.below(3) {
+        0 => &mut t.txns,
+        1 => &mut t.locks,
+        _ => &mut t.versions,
+    }
+}
+
+fn one_word(rng: &mut Rng, t: &mut Tables) -> bool {
+    let table = table(rng, t);
+    let at = rng.index(table.len());
+    let other = table[rng.index(table.len())];
+    table[at] = match rng.below(6) {
+        0 => table[at].wrapping_add(1),
+        1 => table[at].wrapping_sub(1),
+        2 => table[at] ^ 1 << rng.below(64),
+        3 => other,
+        _ => rng.odd_word(),
+    };
+    true
+}
+
+fn size_off_by_one(rng: &mut Rng, t: &mut Tables) -> bool {
+    let table = table(rng, t);
+    if rng.percent(50) {
+        table.pop();
+    } else {
+        table.push(rng.one_of(&[0, 0, 1]));
+    }
+    true
+}
+
+fn empty_tables(rng: &mut Rng, t: &mut Tables) -> bool {
+    table(rng, t).clear();
+    if rng.percent(50) {
+        table(rng, t).clear();
+        table(rng, t).clear();
+    }
+    true
+}

@@ -1,0 +1,174 @@
+//! Good tables that no run need ever come to: made by chance, any stamps, any
+//! numbers, any locks and waits.
+
+use super::scene::{Held, Scene};
+use crate::keeper::Keeper;
+use crate::rng::Rng;
+use crate::sizes::*;
+
+/// Random good tables.
+pub fn made(rng: &mut Rng) -> Keeper {
+    let mut keeper = Keeper::fresh();
+    transactions(rng, &mut keeper);
+    for item in 0..ITEMS {
+        versions(rng, &mut keeper, item);
+    }
+    let updates: Vec<usize> = slots(&keeper, UPDATE);
+    if !updates.is_empty() {
+        let busy = rng.below(100);
+        for item in 0..ITEMS {
+            if rng.percent(busy) {
+                lock(rng, &mut keeper, item, &updates);
+            }
+        }
+        let waiting = rng.below(100);
+        for &slot in &updates {
+            if rng.percent(waiting) {
+                wait(rng, &mut keeper, slot);
+            }
+        }
+    }
+    keeper
+}
+
+fn slots(keeper: &Keeper, kind: u64) -> Vec<usize> {
+    let row = |slot: usize| &keeper.txns[TXN_HEAD + slot * TXN_ROW..][..TXN_ROW];
+    let like = |slot: &usize| row(*slot)[NUMBER] != 0 && row(*slot)[KIND] == kind;
+    (0..SLOTS).filter(like).collect()
+}
+
+fn transactions(rng: &mut Rng, keeper: &mut Keeper) {
+    let last = match rng.below(6) {
+        0 => LAST,
+        1 => LAST - 1,
+        2 => SLOTS as u64,
+        3 => rng.within(SLOTS as u64, 100),
+        _ => rng.within(SLOTS as u64, LAST),
+    };
+    let clock = match rng.below(6) {
+        0 => LAST,
+        1 => LAST - 1,
+        2 => 0,
+        3 => rng.within(1, 40),
+        _ => rng.within(0, LAST),
+    };
+    keeper.txns[LAST_NUMBER] = last;
+    keeper.txns[CLOCK] = clock;
+    let live = rng.one_of(&[0, 20, 50, 80, 95, 100]);
+    let queries = rng.one_of(&[0, 10, 50, 90, 100]);
+    let near = rng.one_of(&[0, 3, 20, LAST]);
+    for slot in 0..SLOTS {
+        if !rng.percent(live) {
+            continue;
+        }
+        let mut number = rng.within(1, last);
+        while keeper.txns[TXN_HEAD..]
+            .chunks(TXN_ROW)
+            .any(|row| row[NUMBER] == number)
+        {
+            number = number % last + 1;
+        }
+        let row = &mut keeper.txns[TXN_HEAD + slot * TXN_ROW..][..TXN_ROW];
+        row[NUMBER] = number;
+        if rng.percent(queries) {
+            row[KIND] = QUERY;
+            row[START] = clock - rng.within(0, clock.min(near));
+        }
+    }
+}
+
+/// Stamps at, before and after the starts, and of these what is to be kept.
+fn versions(rng: &mut Rng, keeper: &mut Keeper, item: usize) {
+    let clock = keeper.txns[CLOCK];
+    let queries = slots(keeper, QUERY);
+    let starts: Vec<u64> = queries
+        .iter()
+        .map(|slot| keeper.txns[TXN_HEAD + slot * TXN_ROW + START])
+        .collect();
+    let earliest = starts.iter().copied().min().unwrap_or(clock);
+    let oldest = earliest - rng.one_of(&[0, 1, 5, earliest]).min(earliest);
+    let mut stamps = vec![oldest];
+    for _ in 0..rng.one_of(&[0, 1, 4, 20, 60]) {
+        let near = rng.pick(&starts).unwrap_or(clock);
+        let stamp = match rng.below(4) {
+            0 => near,
+            1 => near + 1,
+            2 => near.saturating_sub(rng.below(4)),
+            _ => rng.within(oldest, clock),
+        };
+        stamps.push(stamp.max(oldest).min(clock));
+    }
+    stamps.sort_unstable_by(|one, other| other.cmp(one));
+    stamps.dedup();
+    let newest = stamps[0];
+    let read_by = |start: u64| stamps.iter().copied().find(|&stamp| stamp <= start);
+    let read: Vec<u64> = starts.iter().filter_map(|&start| read_by(start)).collect();
+    let mut kept = stamps.clone();
+    kept.retain(|stamp| *stamp == newest || read.contains(stamp));
+    if kept.len() > PLACES {
+        kept.remove(0); // 16 queries read 16 versions, so the newest is in excess
+    }
+    let row = &mut keeper.versions[item * VERSION_ROW..][..VERSION_ROW];
+    row.fill(0);
+    row[COUNT] = kept.len() as u64;
+    for (pair, stamp) in row[1..].chunks_mut(2).zip(kept) {
+        pair[0] = stamp;
+        pair[1] = rng.odd_word();
+    }
+}
+
+fn lock(rng: &mut Rng, keeper: &mut Keeper, item: usize, updates: &[usize]) {
+    let row = &mut keeper.locks[item * LOCK_ROW..][..LOCK_ROW];
+    if rng.percent(40) {
+        row[EXCLUSIVE] = rng.one_of(updates) as u64 + 1;
+        row[WORKING] = rng.odd_word();
+    } else {
+        for _ in 0..rng.within(1, 4) {
+            row[SHARED] |= 1 << rng.one_of(updates);
+        }
+    }
+}
+
+/// Lets an update wait, unless it holds what it would await or a circle would
+/// close.
+fn wait(rng: &mut Rng, keeper: &mut Keeper, slot: usize) {
+    let item = rng.below(ITEMS as u64);
+    let is_write = rng.percent(50);
+    let scene = Scene::of(keeper);
+    let number = keeper.txns[TXN_HEAD + slot * TXN_ROW + NUMBER];
+    let txn = match scene.find(number) {
+        Some(txn) => txn,
+        None => return,
+    };
+    let fits = match scene.held(&txn, item) {
+        Held::Nothing => true,
+        Held::Shared => is_write,
+        Held::Exclusive => false,
+    };
+    let against = scene.against(&txn, is_write, item);
+    if fits && scene.circle(&txn, against).is_none() {
+        let row = &mut keeper.txns[TXN_HEAD + slot * TXN_ROW..][..TXN_ROW];
+        row[AWAITED_LOCK] = if is_write {
+            AWAITS_EXCLUSIVE
+        } else {
+            AWAITS_SHARED
+        };
+        row[AWAITED_ITEM] = item;
+    }
+}
+
+#[cfg(test)]
+mod tests {
+    use super::*;
+    use crate::clauses::broken;
+
+    #[test]
+    fn made_tables_are_good() {
+        for seed in 0..5000 {
+            let keeper = made(&mut Rng::new(seed));
+            let list = broken(&keeper.txns, &keeper.locks, &keeper.versions);
+            assert!(list.is_empty(), "seed {}: {:?}", seed, list);
+            assert!(keeper.is_good(), "seed {}", seed);
+        }
+    }
+}

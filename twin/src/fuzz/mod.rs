@@ -1,0 +1,93 @@
+//! The fuzzer: the twin against another runner, and against another program for
+//! tables set beforehand.
+
+pub mod cases;
+pub mod damage;
+pub mod director;
+pub mod made;
+pub mod moods;
+pub mod process;
+pub mod scene;
+pub mod scripts;
+pub mod shrink;
+pub mod spoil;
+pub mod stats;
+
+use std::time::{Duration, Instant};
+
+use self::process::Program;
+use self::stats::Stats;
+use crate::rng::Rng;
+
+/// What to do.
+#[derive(Clone, Debug, Default)]
+pub struct Options {
+    pub runner: Option<Program>,
+    pub tables: Option<Program>,
+    pub seed: u64,
+    pub first_round: u64,
+    pub rounds: Option<u64>,
+    pub seconds: Option<u64>,
+}
+
+/// How it ended.
+pub enum Ending {
+    Same,
+    Different(String),
+}
+
+/// Tables kept of each script for the second part.
+const SAMPLES: usize = 60;
+
+/// Runs rounds until the time or their number is up, or something differs. An
+/// error if a program cannot be started.
+pub fn run(options: &Options, stats: &mut Stats) -> Result<Ending, String> {
+    let begin = Instant::now();
+    let mut told = begin;
+    let time = options.seconds.map(Duration::from_secs);
+    let mut round = options.first_round;
+    loop {
+        let is_over = time.map_or(false, |time| begin.elapsed() >= time)
+            || options
+                .rounds
+                .map_or(false, |rounds| stats.rounds >= rounds);
+        if is_over {
+            return Ok(Ending::Same);
+        }
+        if let Some(difference) = one_round(options, round, stats)? {
+            let place = format!("difference at seed {} round {}\n", options.seed, round);
+            return Ok(Ending::Different(place + &difference));
+        }
+        stats.rounds += 1;
+        round += 1;
+        if told.elapsed() >= Duration::from_secs(5) {
+            told = Instant::now();
+            eprintln!(
+                "fuzz: {} s, {} rounds, {} lines, {} cases, no difference",
+                begin.elapsed().as_secs(),
+                stats.rounds,
+                stats.lines,
+                stats.cases
+            );
+        }
+    }
+}
+
+fn one_round(options: &Options, round: u64, stats: &mut Stats) -> Result<Option<String>, String> {
+    let mut rng = Rng::for_round(options.seed, round);
+    let samples = if options.tables.is_some() { SAMPLES } else { 0 };
+    let script = scripts::make(&mut rng, stats, samples);
+    if let Some(mistake) = script.own_mistake {
+        return Ok(Some(format!("the twin's own mistake: {}\n", mistake)));
+    }
+    if let Some(runner) = &options.runner {
+        let run = runner.run(&script.input, true)?;
+        if scripts::differs(&script.expected, &run) {
+            return Ok(Some(scripts::report(runner, &script.input, &run)));
+        }
+    }
+    match &options.tables {
+        Some(tables) => cases::round(&mut rng, &script.samples, tables, stats),
+        None => Ok(None),
+    }
+}

@@ -1,0 +1,145 @@
+//! The moods of the director: what it does how often.
+
+/// Something to do next.
+#[derive(Clone, Copy, Debug)]
+pub enum Action {
+    Update,
+    Query,
+    /// An update that waits for nothing reads or writes.
+    Read,
+    Write,
+    /// It writes what it holds shared.
+    Upgrade,
+    /// A waiting update makes its awaited call again.
+    Retry,
+    /// It makes another call.
+    Stray,
+    CommitUpdate,
+    AbortUpdate,
+    QueryRead,
+    QueryWrite,
+    EndQuery,
+    HighItem,
+    UnknownNumber,
+    /// An update without locks takes an item that nobody holds.
+    OwnItem,
+    /// An update begins to wait, so that chains of waits grow.
+    Chain,
+    /// The end of a chain asks for what a waiting update holds.
+    Close,
+    /// The next step towards a full row with many queries.
+    Rows,
+}
+
+use Action::*;
+
+/// A mood: how many items are hot at most, and how often each action comes.
+pub type Mood = (u64, &'static [(Action, u64)]);
+
+pub const MIXED: Mood = (
+    12,
+    &[
+        (Update, 8),
+        (Query, 5),
+        (Read, 12),
+        (Write, 12),
+        (Upgrade, 4),
+        (Retry, 8),
+        (Stray, 2),
+        (CommitUpdate, 8),
+        (AbortUpdate, 3),
+        (QueryRead, 8),
+        (QueryWrite, 1),
+        (EndQuery, 4),
+        (HighItem, 1),
+        (UnknownNumber, 2),
+        (Chain, 3),
+        (Close, 4),
+    ],
+);
+const HOT: Mood = (
+    3,
+    &[
+        (Update, 8),
+        (Query, 2),
+        (Read, 10),
+        (Write, 8),
+        (Upgrade, 8),
+        (Retry, 12),
+        (Stray, 2),
+        (CommitUpdate, 7),
+        (AbortUpdate, 2),
+        (QueryRead, 3),
+        (EndQuery, 1),
+        (Close, 4),
+    ],
+);
+const CIRCLES: Mood = (
+    64,
+    &[
+        (Update, 12),
+        (OwnItem, 16),
+        (Chain, 12),
+        (Close, 3),
+        (Retry, 3),
+        (Stray, 1),
+        (CommitUpdate, 1),
+        (AbortUpdate, 1),
+        (EndQuery, 4),
+    ],
+);
+const ROWS: Mood = (
+    3,
+    &[
+        (Rows, 60),
+        (QueryRead, 12),
+        (EndQuery, 1),
+        (CommitUpdate, 1),
+        (AbortUpdate, 1),
+    ],
+);
+const CROWD: Mood = (
+    6,
+    &[
+        (Update, 12),
+        (Query, 12),
+        (Read, 4),
+        (Write, 4),
+        (Retry, 3),
+        (QueryRead, 3),
+        (CommitUpdate, 3),
+        (AbortUpdate, 2),
+        (EndQuery, 4),
+    ],
+);
+const REFUSED: Mood = (
+    4,
+    &[
+        (Update, 4),
+        (Query, 4),
+        (Write, 6),
+        (Read, 4),
+        (Retry, 2),
+        (Stray, 12),
+        (QueryWrite, 12),
+        (HighItem, 12),
+        (UnknownNumber, 16),
+        (CommitUpdate, 2),
+        (EndQuery, 2),
+    ],
+);
+const DRAIN: Mood = (
+    8,
+    &[
+        (Retry, 8),
+        (CommitUpdate, 12),
+        (AbortUpdate, 6),
+        (EndQuery, 10),
+        (QueryRead, 4),
+    ],
+);
+
+/// Some moods are more fruitful than others.
+pub const MOODS: [Mood; 10] = [
+    MIXED, MIXED, HOT, HOT, CIRCLES, CIRCLES, ROWS, CROWD, REFUSED, DRAIN,
+];

@@ -1,0 +1,173 @@
+//! What goes on in a keeper's good tables, for steering and counting.
+
+use crate::keeper::Keeper;
+use crate::rng::Rng;
+use crate::sizes::*;
+
+/// A live transaction.
+#[derive(Clone, Copy, Debug)]
+pub struct Txn {
+    pub slot: usize,
+    pub number: u64,
+    pub is_query: bool,
+    pub start: u64,
+    /// Whether an exclusive lock is awaited, and on which item.
+    pub awaits: Option<(bool, u64)>,
+}
+
+impl Txn {
+    /// An update that may make any call.
+    pub fn is_idle(&self) -> bool {
+        !self.is_query && self.awaits.is_none()
+    }
+
+    pub fn bit(&self) -> u64 {
+        1 << self.slot
+    }
+}
+
+#[derive(Clone, Copy, Debug, PartialEq, Eq)]
+pub enum Held {
+    Nothing,
+    Shared,
+    Exclusive,
+}
+
+/// The live transactions of a keeper beside its tables.
+pub struct Scene<'a> {
+    pub keeper: &'a Keeper,
+    live: [Txn; SLOTS],
+    len: usize,
+}
+
+impl<'a> Scene<'a> {
+    pub fn of(keeper: &'a Keeper) -> Scene<'a> {
+        let nobody = Txn {
+            slot: 0,
+            number: 0,
+            is_query: false,
+            start: 0,
+            awaits: None,
+        };
+        let mut scene = Scene {
+            keeper,
+            live: [nobody; SLOTS],
+            len: 0,
+        };
+        let rows = keeper.txns[TXN_HEAD..].chunks_exact(TXN_ROW);
+        for (slot, row) in rows.enumerate().filter(|(_, row)| row[NUMBER] != 0) {
+            scene.live[scene.len] = Txn {
+                slot,
+                number: row[NUMBER],
+                is_query: row[KIND] == QUERY,
+                start: row[START],
+                awaits: match row[AWAITED_LOCK] {
+                    AWAITS_NONE => None,
+                    lock => Some((lock == AWAITS_EXCLUSIVE, row[AWAITED_ITEM])),
+                },
+            };
+            scene.len += 1;
+        }
+        scene
+    }
+
+    pub fn live(&self) -> &[Txn] {
+        &self.live[..self.len]
+    }
+
+    pub fn find(&self, number: u64) -> Option<Txn> {
+        self.live().iter().copied().find(|txn| txn.number == number)
+    }
+
+    pub fn count(&self, like: impl Fn(&Txn) -> bool) -> usize {
+        self.live().iter().filter(|txn| like(txn)).count()
+    }
+
+    /// One of the live transactions that are like this.
+    pub fn pick(&self, rng: &mut Rng, like: impl Fn(&Txn) -> bool) -> Option<Txn> {
+        let count = self.count(&like);
+        if count == 0 {
+            return None;
+        }
+        let chosen = rng.index(count);
+        let mut alike = self.live().iter().filter(|txn| like(txn));
+        alike.nth(chosen).copied()
+    }
+
+    pub fn last(&self) -> u64 {
+        self.keeper.txns[LAST_NUMBER]
+    }
+
+    pub fn clock(&self) -> u64 {
+        self.keeper.txns[CLOCK]
+    }
+
+    /// All holders of an item, and among them the exclusive one.
+    pub fn holders(&self, item: u64) -> (u64, u64) {
+        let row = &self.keeper.locks[item as usize * LOCK_ROW..][..LOCK_ROW];
+        let exclusive = (1 << row[EXCLUSIVE]) >> 1;
+        (row[SHARED] | exclusive, exclusive)
+    }
+
+    pub fn held(&self, txn: &Txn, item: u64) -> Held {
+        let (all, exclusive) = self.holders(item);
+        if exclusive & txn.bit() != 0 {
+            Held::Exclusive
+        } else if all & txn.bit() != 0 {
+            Held::Shared
+        } else {
+            Held::Nothing
+        }
+    }
+
+    /// One of the items that a transaction holds in this way.
+    pub fn pick_held(&self, rng: &mut Rng, txn: &Txn, how: impl Fn(Held) -> bool) -> Option<u64> {
+        let first = rng.below(ITEMS as u64);
+        let mut items = (0..ITEMS as u64).map(|step| (first + step) % ITEMS as u64);
+        items.find(|&item| {
+            let held = self.held(txn, item);
+            held != Held::Nothing && how(held)
+        })
+    }
+
+    pub fn holds_any(&self, txn: &Txn) -> bool {
+        (0..ITEMS as u64).any(|item| self.held(txn, item) != Held::Nothing)
+    }
+
+    /// The others that stand against a transaction's wish.
+    pub fn against(&self, txn: &Txn, is_write: bool, item: u64) -> u64 {
+        let (all, exclusive) = self.holders(item);
+        let conflicting = if is_write { all } else { exclusive };
+        conflicting & !txn.bit()
+    }
+
+    pub fn waits_for(&self, txn: &Txn) -> u64 {
+        match txn.awaits {
+            Some((is_write, item)) => self.against(txn, is_write, item),
+            None => 0,
+        }
+    }
+
+    /// The number of transactions on the shortest circle that would close if
+    /// this one waited for those slots; none if none would.
+    pub fn circle(&self, txn: &Txn, against: u64) -> Option<usize> {
+        let mut reached = against;
+        let mut length = 2;
+        loop {
+            let members = self.live().iter().filter(|txn| reached & txn.bit() != 0);
+            let further = members.fold(reached, |slots, txn| slots | self.waits_for(txn));
+            if further & txn.bit() != 0 {
+                return Some(length);
+            }
+            if further == reached {
+                return None;
+            }
+            reached = further;
+            length += 1;
+        }
+    }
+
+    pub fn version_count(&self, item: usize) -> u64 {
+        self.keeper.versions[item * VERSION_ROW + COUNT]
+    }
+}

@@ -1,0 +1,345 @@
+//! What occurred, counted.
+
+use std::fmt;
+
+use super::scene::{Held, Scene, Txn};
+use super::{damage, spoil};
+use crate::answer::{code, Answer};
+use crate::clauses::Clause;
+use crate::keeper::{Call, Keeper};
+use crate::sizes::*;
+
+/// Events of scripts worth counting.
+#[derive(Clone, Copy)]
+enum Event {
+    WaitBegun,
+    WaitRepeated,
+    GrantAfterWait,
+    GrantWithOtherValue,
+    Upgrade,
+    WaitToUpgrade,
+    DeadlockUpgrading,
+    ReadBesideReaders,
+    ReadPastWriter,
+    OwnValueRead,
+    StillWaitingRead,
+    StillWaitingWrite,
+    StillWaitingCommit,
+    AbortWaiting,
+    AbortWritten,
+    CommitNone,
+    CommitOne,
+    CommitMore,
+    EndFrees,
+    EndFreesNone,
+}
+
+/// What the events are printed as, in their order.
+const EVENTS: [&str; 20] = [
+    "waits begun",
+    "waits repeated",
+    "grants after a wait",
+    "grants after a wait, other value",
+    "upgrades",
+    "waits to upgrade",
+    "deadlocks when upgrading",
+    "reads beside other readers",
+    "reads past a waiting writer",
+    "own working values read",
+    "still waiting: read",
+    "still waiting: write",
+    "still waiting: commit",
+    "aborts of waiting updates",
+    "aborts that drop a written value",
+    "commits without a write",
+    "commits of one item",
+    "commits of more items",
+    "query ends that free a version",
+    "query ends that free none",
+];
+
+/// The state before a call, as far as the events need it.
+pub struct Before {
+    caller: Option<Txn>,
+    held: Held,
+    readers: u64,
+    writer_waits: bool,
+    written: usize,
+    versions: u64,
+    value: Option<u64>,
+}
+
+impl Before {
+    pub fn of(keeper: &Keeper, call: Call, waited_value: &[u64; SLOTS]) -> Before {
+        let scene = Scene::of(keeper);
+        let caller = call.number().and_then(|number| scene.find(number));
+        let mut before = Before {
+            caller,
+            held: Held::Nothing,
+            readers: 0,
+            writer_waits: false,
+            written: 0,
+            versions: 0,
+            value: caller.map(|txn| waited_value[txn.slot]),
+        };
+        let item = match call {
+            Call::Read { item, .. } | Call::Write { item, .. } => item,
+            _ => u64::MAX,
+        };
+        if let (Some(txn), true) = (caller, item < ITEMS as u64) {
+            before.held = scene.held(&txn, item);
+            before.readers = scene.holders(item).0 & !txn.bit();
+            let awaits = |other: &Txn| other.awaits == Some((true, item));
+            before.writer_waits = scene.count(awaits) > 0;
+        }
+        if let (Some(txn), Call::Commit { .. } | Call::Abort { .. }) = (caller, call) {
+            let items = 0..ITEMS as u64;
+            let is_written = |item: &u64| scene.held(&txn, *item) == Held::Exclusive;
+            before.written = items.filter(is_written).count();
+            before.versions = (0..ITEMS).map(|item| scene.version_count(item)).sum();
+        }
+        before
+    }
+}
+
+/// All the counts.
+pub struct Stats {
+    pub rounds: u64,
+    pub lines: u64,
+    pub calls: u64,
+    pub codes: [u64; 11],
+    events: [u64; EVENTS.len()],
+    looked: [u64; PLACES + 1],
+    circles: [u64; SLOTS + 1],
+    full_rows: u64,
+    /// For each kind of odd line: how many, and how many of them bad.
+    odd_lines: [(u64, u64); spoil::KINDS.len()],
+    pub unended_scripts: u64,
+    pub empty_scripts: u64,
+    pub cases: u64,
+    pub case_codes: [u64; 11],
+    /// For each kind of damage: how many, and how many of them answered 10.
+    pub damages: [(u64, u64); damage::KINDS.len()],
+    /// For each clause: in how many cases broken, and broken alone.
+    pub clauses: [(u64, u64); Clause::ALL.len()],
+    waited_value: [u64; SLOTS],
+}
+
+impl Stats {
+    pub fn new() -> Stats {
+        Stats {
+            rounds: 0,
+            lines: 0,
+            calls: 0,
+            codes: [0; 11],
+            events: [0; EVENTS.len()],
+            looked: [0; PLACES + 1],
+            circles: [0; SLOTS + 1],
+            full_rows: 0,
+            odd_lines: [(0, 0); spoil::KINDS.len()],
+            unended_scripts: 0,
+            empty_scripts: 0,
+            cases: 0,
+            case_codes: [0; 11],
+            damages: [(0, 0); damage::KINDS.len()],
+            clauses: [(0, 0); Clause::ALL.len()],
+            waited_value: [0; SLOTS],
+        }
+    }
+
+    pub fn before(&self, keeper: &Keeper, call: Call) -> Before {
+        Before::of(keeper, call, &self.waited_value)
+    }
+
+    pub fn see_odd_line(&mut self, kind: usize, is_bad: bool) {
+        self.odd_lines[kind].0 += 1;
+        self.odd_lines[kind].1 += u64::from(is_bad);
+    }
+
+    fn event(&mut self, event: Event) {
+        self.events[event as usize] += 1;
+    }
+
+    /// Counts what a call did, given the state before and the keeper after.
+    pub fn see(&mut self, call: Call, before: &Before, answer: Answer, after: &Keeper) {
+        self.calls += 1;
+        self.codes[answer.code as usize] += 1;
+        let txn = match before.caller {
+            Some(txn) => txn,
+            None => return,
+        };
+        match (call, answer.code) {
+            (Call::Read { .. }, code::GRANTED) => self.see_read(&txn, before, answer),
+            (Call::Write { value, .. }, code::GRANTED) => self.see_write(&txn, before, value),
+            (Call::Read { item, .. }, code::WAIT | code::DEADLOCK) => {
+                self.see_conflict(&txn, before, answer, Scene::of(after), (false, item));
+            }
+            (Call::Write { item, value, .. }, code::WAIT | code::DEADLOCK) => {
+                if answer.code == code::WAIT {
+                    self.waited_value[txn.slot] = value;
+                }
+                self.see_conflict(&txn, before, answer, Scene::of(after), (true, item));
+            }
+            (Call::Read { .. }, code::STILL_WAITING) => self.event(Event::StillWaitingRead),
+            (Call::Write { .. }, code::STILL_WAITING) => self.event(Event::StillWaitingWrite),
+            (Call::Commit { .. }, code::STILL_WAITING) => self.event(Event::StillWaitingCommit),
+            (Call::Commit { .. } | Call::Abort { .. }, code::GRANTED) if txn.is_query => {
+                let versions = after.versions.chunks_exact(VERSION_ROW);
+                let left: u64 = versions.map(|row| row[COUNT]).sum();
+                let freed = left < before.versions;
+                self.event(if freed {
+                    Event::EndFrees
+                } else {
+                    Event::EndFreesNone
+                });
+            }
+            (Call::Commit { .. }, code::GRANTED) => {
+                self.event(match before.written {
+                    0 => Event::CommitNone,
+                    1 => Event::CommitOne,
+                    _ => Event::CommitMore,
+                });
+                let mut versions = after.versions.chunks_exact(VERSION_ROW);
+                self.full_rows += u64::from(versions.any(|row| row[COUNT] == PLACES as u64));
+            }
+            (Call::Abort { .. }, code::GRANTED) => {
+                if txn.awaits.is_some() {
+                    self.event(Event::AbortWaiting);
+                }
+                if before.written > 0 {
+                    self.event(Event::AbortWritten);
+                }
+            }
+            _ => {}
+        }
+    }
+
+    fn see_read(&mut self, txn: &Txn, before: &Before, answer: Answer) {
+        self.looked[answer.looked as usize] += 1;
+        if txn.is_query {
+            return;
+        }
+        if txn.awaits.is_some() {
+            self.event(Event::GrantAfterWait);
+        }
+        match before.held {
+            Held::Exclusive => self.event(Event::OwnValueRead),
+            Held::Nothing if before.writer_waits => self.event(Event::ReadPastWriter),
+            Held::Nothing if before.readers != 0 => self.event(Event::ReadBesideReaders),
+            _ => {}
+        }
+    }
+
+    fn see_write(&mut self, txn: &Txn, before: &Before, value: u64) {
+        if txn.awaits.is_some() {
+            self.event(Event::GrantAfterWait);
+            if before.value != Some(value) {
+                self.event(Event::GrantWithOtherValue);
+            }
+        }
+        if before.held == Held::Shared {
+            self.event(Event::Upgrade);
+        }
+    }
+
+    fn see_conflict(
+        &mut self,
+        txn: &Txn,
+        before: &Before,
+        answer: Answer,
+        scene: Scene,
+        (is_write, item): (bool, u64),
+    ) {
+        let upgrading = before.held == Held::Shared;
+        if answer.code == code::DEADLOCK {
+            let against = scene.against(txn, is_write, item);
+            self.circles[scene.circle(txn, against).unwrap_or(0)] += 1;
+            if upgrading {
+                self.event(Event::DeadlockUpgrading);
+            }
+        } else if txn.awaits.is_some() {
+            self.event(Event::WaitRepeated);
+        } else {
+            self.event(Event::WaitBegun);
+            if upgrading {
+                self.event(Event::WaitToUpgrade);
+            }
+        }
+    }
+}
+
+impl Default for Stats {
+    fn default() -> Stats {
+        Stats::new()
+    }
+}
+
+impl fmt::Display for Stats {
+    fn fmt(&self, out: &mut fmt::Formatter) -> fmt::Result {
+        if self.lines > 0 || self.cases == 0 {
+            self.show_scripts(out)?;
+        }
+        if self.cases > 0 {
+            self.show_cases(out)?;
+        }
+        Ok(())
+    }
+}
+
+impl Stats {
+    fn show_scripts(&self, out: &mut fmt::Formatter) -> fmt::Result {
+        writeln!(out, "scripts")?;
+        show(out, "lines", self.lines)?;
+        show(out, "calls", self.calls)?;
+        show(out, "empty scripts", self.empty_scripts)?;
+        show(out, "scripts without a last line end", self.unended_scripts)?;
+        show_codes(out, &self.codes)?;
+        writeln!(out, "  events")?;
+        for (name, &count) in EVENTS.iter().zip(&self.events) {
+            show(out, &format!("  {}", name), count)?;
+        }
+        show(out, "  commits with a row of 16 versions", self.full_rows)?;
+        writeln!(out, "  deadlocks by length of the circle")?;
+        for (length, &count) in self.circles.iter().enumerate() {
+            if length >= 2 || count > 0 {
+                show(out, &format!("  {}", length), count)?;
+            }
+        }
+        writeln!(out, "  looked")?;
+        for (looked, &count) in self.looked.iter().enumerate() {
+            show(out, &format!("  {}", looked), count)?;
+        }
+        writeln!(out, "  odd lines, and those of them answered bad")?;
+        for ((name, _), &(count, bad)) in spoil::KINDS.iter().zip(&self.odd_lines) {
+            writeln!(out, "    {:<40} {:>10} {:>10}", name, count, bad)?;
+        }
+        Ok(())
+    }
+
+    fn show_cases(&self, out: &mut fmt::Formatter) -> fmt::Result {
+        writeln!(out, "tables set beforehand")?;
+        show(out, "cases", self.cases)?;
+        show_codes(out, &self.case_codes)?;
+        writeln!(out, "  damages, and those of them answered 10")?;
+        for ((name, _), &(count, bad)) in damage::KINDS.iter().zip(&self.damages) {
+            writeln!(out, "    {:<40} {:>10} {:>10}", name, count, bad)?;
+        }
+        writeln!(out, "  clauses broken, and broken alone")?;
+        for (clause, &(count, alone)) in Clause::ALL.iter().zip(&self.clauses) {
+            writeln!(out, "    {:<40} {:>10} {:>10}", clause.name(), count, alone)?;
+        }
+        Ok(())
+    }
+}
+
+fn show(out: &mut fmt::Formatter, name: &str, count: u64) -> fmt::Result {
+    writeln!(out, "  {:<42} {:>10}", name, count)
+}
+
+fn show_codes(out: &mut fmt::Formatter, codes: &[u64; 11]) -> fmt::Result {
+    writeln!(out, "  codes")?;
+    for (code, (name, &count)) in code::NAMES.iter().zip(codes).enumerate() {
+        show(out, &format!("  {:>2} {}", code, name), count)?;
+    }
+    Ok(())
+}

@@ -1,0 +1,136 @@
+//! The exact condition of code 10: one pass over the words of each table.
+
+use crate::ids::{Item, Number, Slot, SlotSet, Stamp};
+use crate::row::{self, Starts};
+use crate::sizes::*;
+use crate::view::{as_row, Holders, Lock};
+
+/// Whether the tables are good in the sense of document 01.
+pub fn good(txns: &[u64], locks: &[u64], versions: &[u64]) -> bool {
+    match (txns.try_into(), locks.try_into(), versions.try_into()) {
+        (Ok(txns), Ok(locks), Ok(versions)) => holds(txns, locks, versions),
+        _ => false,
+    }
+}
+
+/// The same for tables whose sizes are known to be exact.
+pub(crate) fn holds(
+    txns: &[u64; TXN_WORDS],
+    locks: &[u64; LOCK_WORDS],
+    versions: &[u64; VERSION_WORDS],
+) -> bool {
+    match Crowd::of(txns) {
+        Some(crowd) => {
+            locks_are_good(locks, crowd.updates)
+                && crowd.waits_are_good(locks)
+                && versions_are_good(versions, txns[CLOCK], &crowd.starts)
+        }
+        None => false,
+    }
+}
+
+/// What the other tables are held against: who is live, and who waits.
+struct Crowd {
+    updates: SlotSet,
+    starts: Starts,
+    waiting: SlotSet,
+    /// What each waiting slot awaits.
+    awaited: [(Lock, usize); SLOTS],
+}
+
+impl Crowd {
+    /// Reads the transaction table; none if its own words are not good.
+    fn of(txns: &[u64; TXN_WORDS]) -> Option<Crowd> {
+        let (last, clock) = (txns[LAST_NUMBER], txns[CLOCK]);
+        if last > LAST || clock > LAST {
+            return None;
+        }
+        let mut crowd = Crowd {
+            updates: SlotSet::EMPTY,
+            starts: Starts::none(),
+            waiting: SlotSet::EMPTY,
+            awaited: [(Lock::Shared, 0); SLOTS],
+        };
+        let mut numbers = [0; SLOTS];
+        let mut live = 0;
+        for (slot, row) in Slot::all().zip(txns[TXN_HEAD..].chunks_exact(TXN_ROW)) {
+            let (kind, start) = (row[KIND], row[START]);
+            let (lock, item) = (row[AWAITED_LOCK], row[AWAITED_ITEM]);
+            if row[NUMBER] == 0 {
+                if kind | start | lock | item != 0 {
+                    return None;
+                }
+                continue;
+            }
+            let number = Number::new(row[NUMBER])?.word();
+            if number > last || numbers[..live].contains(&number) {
+                return None;
+            }
+            numbers[live] = number;
+            live += 1;
+            match kind {
+                UPDATE if start == 0 => crowd.updates = crowd.updates.with(slot),
+                QUERY if start <= clock && lock == AWAITS_NONE => {
+                    crowd.starts.insert(Stamp::of(start));
+                }
+                _ => return None,
+            }
+            match Lock::of_awaited(lock) {
+                Some(lock) => {
+                    crowd.waiting = crowd.waiting.with(slot);
+                    crowd.awaited[slot.index()] = (lock, Item::new(item)?.index());
+                }
+                None if lock == AWAITS_NONE && item == 0 => {}
+                None => return None,
+            }
+        }
+        Some(crowd)
+    }
+
+    /// Nobody awaits what it holds, and no circle of waits exists.
+    fn waits_are_good(&self, locks: &[u64; LOCK_WORDS]) -> bool {
+        let mut waits_for = [SlotSet::EMPTY; SLOTS];
+        for slot in self.waiting {
+            let (lock, item) = self.awaited[slot.index()];
+            let holders = Holders::of(&locks[item * LOCK_ROW..]);
+            match (lock, holders.held_by(slot)) {
+                (_, None) | (Lock::Exclusive, Some(Lock::Shared)) => {}
+                _ => return false,
+            }
+            waits_for[slot.index()] = holders.against(slot, lock);
+        }
+        // Who waits for nobody that still waits is on no circle. Letting go of
+        // those again and again leaves nobody exactly if there is no circle.
+        let mut left = self.waiting;
+        loop {
+            let before = left;
+            for slot in before {
+                if waits_for[slot.index()].common(left).is_empty() {
+                    left = left.without(slot);
+                }
+            }
+            if left == before {
+                return left.is_empty();
+            }
+        }
+    }
+}
+
+/// Holders are live updates, of one kind a row; no holder, no working value.
+fn locks_are_good(locks: &[u64; LOCK_WORDS], updates: SlotSet) -> bool {
+    locks.chunks_exact(LOCK_ROW).all(|row| {
+        if row[SHARED] | row[EXCLUSIVE] | row[WORKING] == 0 {
+            return true; // most rows: nobody holds it
+        }
+        let Holders { shared, exclusive } = Holders::of(row);
+        let one_kind = shared.is_empty() || exclusive.is_empty();
+        let backed = row[WORKING] == 0 || !exclusive.is_empty();
+        shared.and(exclusive).is_within(updates) && one_kind && backed
+    })
+}
+
+fn versions_are_good(versions: &[u64; VERSION_WORDS], clock: u64, starts: &Starts) -> bool {
+    versions
+        .chunks_exact(VERSION_ROW)
+        .all(|words| row::is_good(as_row(words), clock, starts))
+}

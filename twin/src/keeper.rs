@@ -1,0 +1,89 @@
+//! A call as a value, and a keeper that owns its tables.
+
+use crate::answer::Answer;
+use crate::calls;
+use crate::sizes::*;
+
+/// One of the six calls with its numbers.
+#[derive(Clone, Copy, Debug, PartialEq, Eq)]
+pub enum Call {
+    Update,
+    Query,
+    Read { number: u64, item: u64 },
+    Write { number: u64, item: u64, value: u64 },
+    Commit { number: u64 },
+    Abort { number: u64 },
+}
+
+impl Call {
+    /// Makes the call on any three slices.
+    pub fn on(self, txns: &mut [u64], locks: &mut [u64], versions: &mut [u64]) -> Answer {
+        match self {
+            Call::Update => calls::begin_update(txns, locks, versions),
+            Call::Query => calls::begin_query(txns, locks, versions),
+            Call::Read { number, item } => calls::read(txns, locks, versions, number, item),
+            Call::Write {
+                number,
+                item,
+                value,
+            } => calls::write(txns, locks, versions, number, item, value),
+            Call::Commit { number } => calls::commit(txns, locks, versions, number),
+            Call::Abort { number } => calls::abort(txns, locks, versions, number),
+        }
+    }
+
+    /// The number of the transaction that calls; none for a begin.
+    pub fn number(self) -> Option<u64> {
+        match self {
+            Call::Update | Call::Query => None,
+            Call::Read { number, .. }
+            | Call::Write { number, .. }
+            | Call::Commit { number }
+            | Call::Abort { number } => Some(number),
+        }
+    }
+
+    /// The same call by another transaction; a begin stays as it is.
+    pub fn with_number(self, number: u64) -> Call {
+        match self {
+            Call::Update | Call::Query => self,
+            Call::Read { item, .. } => Call::Read { number, item },
+            Call::Write { item, value, .. } => Call::Write {
+                number,
+                item,
+                value,
+            },
+            Call::Commit { .. } => Call::Commit { number },
+            Call::Abort { .. } => Call::Abort { number },
+        }
+    }
+}
+
+/// Three tables and nothing else.
+#[derive(Clone, Debug, PartialEq, Eq)]
+pub struct Keeper {
+    pub txns: [u64; TXN_WORDS],
+    pub locks: [u64; LOCK_WORDS],
+    pub versions: [u64; VERSION_WORDS],
+}
+
+impl Keeper {
+    /// A keeper of fresh tables.
+    pub fn fresh() -> Keeper {
+        let mut keeper = Keeper {
+            txns: [0; TXN_WORDS],
+            locks: [0; LOCK_WORDS],
+            versions: [0; VERSION_WORDS],
+        };
+        calls::fresh(&mut keeper.txns, &mut keeper.locks, &mut keeper.versions);
+        keeper
+    }
+
+    pub fn call(&mut self, call: Call) -> Answer {
+        call.on(&mut self.txns, &mut self.locks, &mut self.versions)
+    }
+
+    pub fn is_good(&self) -> bool {
+        crate::good(&self.txns, &self.locks, &self.versions)
+    }
+}

@@ -1,0 +1,29 @@
+//! The twin: a second lock and version keeper, written in ordinary Rust from
+//! document 01 alone, to be held against the proved keeper.
+//!
+//! The six calls work on three lent tables of 64-bit words, of any length and
+//! content. They need no heap.
+
+#![forbid(unsafe_code)]
+
+mod answer;
+mod calls;
+mod good;
+mod ids;
+mod keeper;
+mod row;
+mod view;
+
+pub mod clauses;
+pub mod decimal;
+pub mod fuzz;
+pub mod protocol;
+pub mod rng;
+pub mod script;
+pub mod sizes;
+pub mod wrong;
+
+pub use answer::{code, Answer};
+pub use calls::{abort, begin_query, begin_update, commit, fresh, read, write};
+pub use good::good;
+pub use keeper::{Call, Keeper};

@@ -1,0 +1,58 @@
+//! The sizes of document 01 and where each word stands in its table.
+
+/// Items are 0 to 63.
+pub const ITEMS: usize = 64;
+/// Slots for live transactions.
+pub const SLOTS: usize = 16;
+/// Versions an item may have.
+pub const PLACES: usize = 16;
+
+/// The last stamp, and the last transaction number.
+pub const LAST: u64 = 4_294_967_295;
+
+/// Words of the transaction table before its rows: last number given, clock.
+pub const TXN_HEAD: usize = 2;
+/// Words of one transaction row: number, kind, start, awaited lock, awaited item.
+pub const TXN_ROW: usize = 5;
+/// Words of one lock row: shared holders, exclusive holder, working value.
+pub const LOCK_ROW: usize = 3;
+/// Words of one version row: a count, then pairs of stamp and value.
+pub const VERSION_ROW: usize = 1 + 2 * PLACES;
+
+/// Words of the transaction table: 82.
+pub const TXN_WORDS: usize = TXN_HEAD + SLOTS * TXN_ROW;
+/// Words of the lock table: 192.
+pub const LOCK_WORDS: usize = ITEMS * LOCK_ROW;
+/// Words of the version table: 2,112.
+pub const VERSION_WORDS: usize = ITEMS * VERSION_ROW;
+
+/// Place of the last number given in the transaction table.
+pub const LAST_NUMBER: usize = 0;
+/// Place of the clock in the transaction table.
+pub const CLOCK: usize = 1;
+
+/// Places in a transaction row.
+pub const NUMBER: usize = 0;
+pub const KIND: usize = 1;
+pub const START: usize = 2;
+pub const AWAITED_LOCK: usize = 3;
+pub const AWAITED_ITEM: usize = 4;
+
+/// Kinds of transaction.
+pub const UPDATE: u64 = 0;
+pub const QUERY: u64 = 1;
+
+/// Awaited locks.
+pub const AWAITS_NONE: u64 = 0;
+pub const AWAITS_SHARED: u64 = 1;
+pub const AWAITS_EXCLUSIVE: u64 = 2;
+
+/// Places in a lock row.
+pub const SHARED: usize = 0;
+pub const EXCLUSIVE: usize = 1;
+pub const WORKING: usize = 2;
+
+/// Place of the count in a version row; the pairs follow.
+pub const COUNT: usize = 0;
+
+const _: () = assert!(TXN_WORDS == 82 && LOCK_WORDS == 192 && VERSION_WORDS == 2112);

@@ -1,0 +1,112 @@
+//! The fuzzer catches every keeper that is wrong on purpose, within seconds,
+//! and leaves the right one alone.
+
+use std::process::{Command, Output};
+use std::time::Instant;
+
+use twin::wrong::{WrongRunner, WrongTables};
+
+const FUZZ: &str = env!("CARGO_BIN_EXE_fuzz");
+const RUNNER: &str = env!("CARGO_BIN_EXE_twin-run");
+const TABLES: &str = env!("CARGO_BIN_EXE_twin-tables");
+
+fn fuzz(arguments: &[&str]) -> Output {
+    let mut command = Command::new(FUZZ);
+    command.args(arguments);
+    command.output().expect("fuzz can be started")
+}
+
+fn text(output: &Output) -> String {
+    String::from_utf8_lossy(&output.stdout).into_owned()
+}
+
+/// The number of lines of the smallest script that a report tells of.
+fn smallest(report: &str) -> usize {
+    let mark = "smallest script found, ";
+    let at = report.find(mark).expect("a small script is shown") + mark.len();
+    let word = report[at..].split(' ').next().unwrap_or_default();
+    word.parse().expect("the number of its lines")
+}
+
+#[test]
+fn wrong_runners_are_caught() {
+    for kind in WrongRunner::names() {
+        let begin = Instant::now();
+        let output = fuzz(&[
+            "--runner",
+            RUNNER,
+            "--runner-arg",
+            "--wrong",
+            "--runner-arg",
+            kind,
+            "--seed",
+            "1",
+            "--seconds",
+            "60",
+        ]);
+        let report = text(&output);
+        assert_eq!(output.status.code(), Some(1), "{} is not caught", kind);
+        assert!(report.contains("difference at seed 1 round "), "{}", kind);
+        assert!(report.contains("first differing line: "), "{}", kind);
+        let lines = smallest(&report);
+        println!("{}: {} lines, {:?}", kind, lines, begin.elapsed());
+        assert!(lines <= 40, "{}: {} lines are many", kind, lines);
+    }
+}
+
+#[test]
+fn wrong_tables_are_caught() {
+    for kind in WrongTables::names() {
+        let begin = Instant::now();
+        let output = fuzz(&[
+            "--tables",
+            TABLES,
+            "--tables-arg",
+            "--wrong",
+            "--tables-arg",
+            kind,
+            "--seed",
+            "1",
+            "--seconds",
+            "60",
+        ]);
+        let report = text(&output);
+        assert_eq!(output.status.code(), Some(1), "{} is not caught", kind);
+        assert!(report.contains("smallest case found"), "{}", kind);
+        println!("{}: {:?}", kind, begin.elapsed());
+    }
+}
+
+#[test]
+fn the_right_ones_are_not() {
+    let output = fuzz(&[
+        "--runner", RUNNER, "--tables", TABLES, "--seed", "2", "--rounds", "12",
+    ]);
+    let report = text(&output);
+    assert_eq!(output.status.code(), Some(0), "{}", report);
+    assert!(report.ends_with("no difference\n"));
+    assert!(report.contains("seed 2, 12 rounds, "));
+}
+
+#[test]
+fn a_runner_that_fails_is_caught() {
+    // No script gives this runner anything to say, and it ends with status 1.
+    let output = fuzz(&["--runner", "false", "--seed", "1", "--rounds", "3"]);
+    assert_eq!(output.status.code(), Some(1));
+    assert!(text(&output).contains("the runner failed: "));
+}
+
+#[test]
+fn what_cannot_be_tried_is_said() {
+    let wrong: [&[&str]; 6] = [
+        &[],
+        &["--runner", RUNNER],
+        &["--seconds", "1"],
+        &["--runner-arg", "x", "--runner", RUNNER, "--rounds", "1"],
+        &["--runner", RUNNER, "--rounds", "many"],
+        &["--runner", "/no/such/program", "--rounds", "1"],
+    ];
+    for arguments in wrong {
+        assert_eq!(fuzz(arguments).status.code(), Some(2), "{:?}", arguments);
+    }
+}

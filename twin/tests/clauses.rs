@@ -1,0 +1,321 @@
+//! Each clause of good tables broken alone, and what barely keeps it.
+
+use twin::clauses::{broken, Clause};
+use twin::sizes::*;
+use twin::{Answer, Call, Keeper};
+
+const LIVE_UPDATE: usize = 0;
+const HOLDER: usize = 1;
+const WAITER: usize = 2;
+const OLD_QUERY: usize = 3;
+const NEW_QUERY: usize = 4;
+const FREE: usize = 5;
+
+/// The row of item 9: the new query reads the newest, the old one the older.
+const OLD_ITEM: usize = 9;
+
+/// Good tables with something for every clause: an update that holds nothing,
+/// one that holds item 1 exclusively and items 2 and 3 shared, one that awaits
+/// item 1 shared and holds item 2 shared and item 4 exclusively, and queries at
+/// stamps 3 and 10, the latter the clock.
+fn sample() -> Keeper {
+    let mut keeper = Keeper::fresh();
+    keeper.txns[LAST_NUMBER] = 50;
+    keeper.txns[CLOCK] = 10;
+    set_txn(&mut keeper, LIVE_UPDATE, [11, UPDATE, 0, 0, 0]);
+    set_txn(&mut keeper, HOLDER, [12, UPDATE, 0, 0, 0]);
+    set_txn(&mut keeper, WAITER, [50, UPDATE, 0, AWAITS_SHARED, 1]);
+    set_txn(&mut keeper, OLD_QUERY, [14, QUERY, 3, 0, 0]);
+    set_txn(&mut keeper, NEW_QUERY, [15, QUERY, 10, 0, 0]);
+    set_lock(&mut keeper, 1, [0, HOLDER as u64 + 1, 77]);
+    set_lock(&mut keeper, 2, [1 << HOLDER | 1 << WAITER, 0, 0]);
+    set_lock(&mut keeper, 3, [1 << HOLDER, 0, 0]);
+    set_lock(&mut keeper, 4, [0, WAITER as u64 + 1, 0]);
+    set_versions(&mut keeper, OLD_ITEM, &[(9, 900), (2, 200)]);
+    keeper
+}
+
+fn set_txn(keeper: &mut Keeper, slot: usize, words: [u64; TXN_ROW]) {
+    keeper.txns[TXN_HEAD + slot * TXN_ROW..][..TXN_ROW].copy_from_slice(&words);
+}
+
+fn txn(keeper: &mut Keeper, slot: usize, place: usize) -> &mut u64 {
+    &mut keeper.txns[TXN_HEAD + slot * TXN_ROW + place]
+}
+
+fn set_lock(keeper: &mut Keeper, item: usize, words: [u64; LOCK_ROW]) {
+    keeper.locks[item * LOCK_ROW..][..LOCK_ROW].copy_from_slice(&words);
+}
+
+fn set_versions(keeper: &mut Keeper, item: usize, pairs: &[(u64, u64)]) {
+    let row = &mut keeper.versions[item * VERSION_ROW..][..VERSION_ROW];
+    row.fill(0);
+    row[COUNT] = pairs.len() as u64;
+    for (words, pair) in row[1..].chunks_mut(2).zip(pairs) {
+        words[0] = pair.0;
+        words[1] = pair.1;
+    }
+}
+
+/// Only this clause is broken: every call answers 10 and changes nothing.
+fn breaks(clause: Clause, damage: impl Fn(&mut Keeper)) {
+    let mut keeper = sample();
+    damage(&mut keeper);
+    let list = broken(&keeper.txns, &keeper.locks, &keeper.versions);
+    assert_eq!(list, [clause]);
+    assert!(!keeper.is_good(), "{:?}", clause);
+    let (number, item, value) = (11, 0, 1);
+    let calls = [
+        Call::Update,
+        Call::Query,
+        Call::Read { number, item },
+        Call::Write {
+            number,
+            item,
+            value,
+        },
+        Call::Commit { number },
+        Call::Abort { number },
+        Call::Abort { number: 99 },
+        Call::Read { number, item: 64 },
+    ];
+    for call in calls {
+        let before = keeper.clone();
+        let bad = Answer {
+            code: 10,
+            ..Answer::default()
+        };
+        assert_eq!(keeper.call(call), bad);
+        assert_eq!(keeper, before);
+    }
+}
+
+fn keeps(change: impl Fn(&mut Keeper)) {
+    let mut keeper = sample();
+    change(&mut keeper);
+    let list = broken(&keeper.txns, &keeper.locks, &keeper.versions);
+    assert_eq!(list, []);
+    assert!(keeper.is_good());
+}
+
+#[test]
+fn the_sample_and_fresh_tables_are_good() {
+    keeps(|_| {});
+    keeps(|keeper| *keeper = Keeper::fresh());
+}
+
+#[test]
+fn sizes() {
+    let keeper = sample();
+    let (txns, locks, versions) = (&keeper.txns[..], &keeper.locks[..], &keeper.versions[..]);
+    let longer = |table: &[u64]| [table, &[0]].concat();
+    assert!(twin::good(txns, locks, versions));
+    assert!(!twin::good(&txns[..81], locks, versions));
+    assert!(!twin::good(&longer(txns), locks, versions));
+    assert!(!twin::good(txns, &locks[..191], versions));
+    assert!(!twin::good(txns, &longer(locks), versions));
+    assert!(!twin::good(txns, locks, &versions[..2111]));
+    assert!(!twin::good(txns, locks, &longer(versions)));
+    assert!(!twin::good(&[], &[], &[]));
+    assert!(!twin::good(locks, txns, versions));
+    assert_eq!(broken(&txns[..81], locks, versions), [Clause::Sizes]);
+}
+
+#[test]
+fn last_number_and_clock() {
+    keeps(|k| k.txns[LAST_NUMBER] = LAST);
+    breaks(Clause::LastNumber, |k| k.txns[LAST_NUMBER] = LAST + 1);
+    breaks(Clause::LastNumber, |k| k.txns[LAST_NUMBER] = u64::MAX);
+    keeps(|k| k.txns[CLOCK] = LAST);
+    breaks(Clause::Clock, |k| k.txns[CLOCK] = LAST + 1);
+    breaks(Clause::Clock, |k| k.txns[CLOCK] = u64::MAX);
+}
+
+#[test]
+fn free_rows() {
+    for place in 1..TXN_ROW {
+        breaks(Clause::FreeRow, |k| *txn(k, FREE, place) = 1);
+        breaks(Clause::FreeRow, |k| *txn(k, 15, place) = 1 << 63);
+    }
+}
+
+#[test]
+fn numbers() {
+    breaks(Clause::DistinctNumbers, |k| {
+        *txn(k, LIVE_UPDATE, NUMBER) = 15
+    });
+    breaks(Clause::DistinctNumbers, |k| *txn(k, OLD_QUERY, NUMBER) = 15);
+    breaks(Clause::NumberGiven, |k| *txn(k, WAITER, NUMBER) = 51);
+    breaks(Clause::NumberGiven, |k| k.txns[LAST_NUMBER] = 49);
+    breaks(Clause::NumberGiven, |k| {
+        *txn(k, WAITER, NUMBER) = (1 << 32) + 1
+    });
+    keeps(|k| *txn(k, WAITER, NUMBER) = 1);
+}
+
+#[test]
+fn kinds_and_starts() {
+    breaks(Clause::Kind, |k| *txn(k, LIVE_UPDATE, KIND) = 2);
+    breaks(Clause::Kind, |k| *txn(k, LIVE_UPDATE, KIND) = u64::MAX);
+    breaks(Clause::UpdateStart, |k| *txn(k, LIVE_UPDATE, START) = 1);
+    breaks(Clause::QueryStart, |k| *txn(k, NEW_QUERY, START) = 11);
+    breaks(Clause::QueryStart, |k| *txn(k, NEW_QUERY, START) = u64::MAX);
+    keeps(|k| *txn(k, NEW_QUERY, START) = 9);
+}
+
+#[test]
+fn awaited() {
+    breaks(Clause::AwaitedLock, |k| *txn(k, WAITER, AWAITED_LOCK) = 3);
+    breaks(Clause::AwaitedLock, |k| {
+        *txn(k, LIVE_UPDATE, AWAITED_LOCK) = u64::MAX
+    });
+    breaks(Clause::QueryAwaits, |k| {
+        *txn(k, NEW_QUERY, AWAITED_LOCK) = 1
+    });
+    breaks(Clause::QueryAwaits, |k| {
+        *txn(k, NEW_QUERY, AWAITED_LOCK) = 2
+    });
+    breaks(Clause::AwaitedItem, |k| *txn(k, WAITER, AWAITED_ITEM) = 64);
+    breaks(Clause::AwaitedItem, |k| {
+        *txn(k, WAITER, AWAITED_ITEM) = u64::MAX
+    });
+    keeps(|k| *txn(k, WAITER, AWAITED_ITEM) = 63);
+    breaks(Clause::NothingAwaited, |k| {
+        *txn(k, LIVE_UPDATE, AWAITED_ITEM) = 1
+    });
+    breaks(Clause::NothingAwaited, |k| {
+        *txn(k, NEW_QUERY, AWAITED_ITEM) = 63
+    });
+    breaks(Clause::NothingAwaited, |k| {
+        *txn(k, WAITER, AWAITED_LOCK) = 0
+    });
+}
+
+#[test]
+fn awaits_what_it_holds() {
+    breaks(Clause::AwaitsSharedHeld, |k| {
+        *txn(k, WAITER, AWAITED_ITEM) = 2
+    });
+    breaks(Clause::AwaitsSharedHeld, |k| {
+        *txn(k, WAITER, AWAITED_ITEM) = 4
+    });
+    breaks(Clause::AwaitsExclusiveHeld, |k| {
+        *txn(k, WAITER, AWAITED_LOCK) = AWAITS_EXCLUSIVE;
+        *txn(k, WAITER, AWAITED_ITEM) = 4;
+    });
+    keeps(|k| {
+        *txn(k, WAITER, AWAITED_LOCK) = AWAITS_EXCLUSIVE;
+        *txn(k, WAITER, AWAITED_ITEM) = 2;
+    });
+    // A wait whose cause is gone is still a wait.
+    keeps(|k| set_lock(k, 1, [0, 0, 0]));
+}
+
+#[test]
+fn holders() {
+    breaks(Clause::SharedHolders, |k| k.locks[SHARED] = 1 << FREE);
+    breaks(Clause::SharedHolders, |k| k.locks[SHARED] = 1 << OLD_QUERY);
+    breaks(Clause::SharedHolders, |k| k.locks[SHARED] = 1 << 16);
+    breaks(Clause::SharedHolders, |k| {
+        k.locks[SHARED] = 1 << 63 | 1 << HOLDER
+    });
+    keeps(|k| k.locks[SHARED] = 0b111);
+    breaks(Clause::ExclusiveHolder, |k| {
+        k.locks[EXCLUSIVE] = FREE as u64 + 1
+    });
+    breaks(Clause::ExclusiveHolder, |k| {
+        k.locks[EXCLUSIVE] = NEW_QUERY as u64 + 1
+    });
+    breaks(Clause::ExclusiveHolder, |k| k.locks[EXCLUSIVE] = 17);
+    breaks(Clause::ExclusiveHolder, |k| k.locks[EXCLUSIVE] = 64);
+    breaks(Clause::ExclusiveHolder, |k| k.locks[EXCLUSIVE] = 65);
+    breaks(Clause::ExclusiveHolder, |k| {
+        k.locks[EXCLUSIVE] = (1 << 32) + 1
+    });
+    breaks(Clause::ExclusiveHolder, |k| k.locks[EXCLUSIVE] = u64::MAX);
+    keeps(|k| set_lock(k, 63, [0, LIVE_UPDATE as u64 + 1, u64::MAX]));
+    breaks(Clause::BothHolders, |k| {
+        set_lock(k, 63, [1 << HOLDER, 1, 5])
+    });
+    breaks(Clause::BothHolders, |k| set_lock(k, 63, [1, 1, 5]));
+    breaks(Clause::WorkingValue, |k| k.locks[WORKING] = 1);
+    breaks(Clause::WorkingValue, |k| {
+        set_lock(k, 3, [1 << HOLDER, 0, 1])
+    });
+}
+
+#[test]
+fn counts_and_unused_pairs() {
+    for count in [0, 17, 1 << 63, u64::MAX, (1 << 32) + 1] {
+        breaks(Clause::Count, |k| k.versions[COUNT] = count);
+    }
+    for place in 3..VERSION_ROW {
+        breaks(Clause::UnusedPairs, |k| k.versions[place] = 1);
+        breaks(Clause::UnusedPairs, |k| {
+            k.versions[63 * VERSION_ROW + place] = 1 << 63
+        });
+    }
+    for place in 5..VERSION_ROW {
+        breaks(Clause::UnusedPairs, |k| {
+            k.versions[OLD_ITEM * VERSION_ROW + place] = 1
+        });
+    }
+    // A pair of zeros beyond the newest is used, and nobody reads it.
+    breaks(Clause::UnreadVersion, |k| {
+        set_versions(k, 0, &[(3, 1), (0, 0)])
+    });
+}
+
+#[test]
+fn stamps() {
+    let old = |pairs: &'static [(u64, u64)]| move |k: &mut Keeper| set_versions(k, OLD_ITEM, pairs);
+    breaks(Clause::StampsFall, old(&[(3, 1), (3, 2)]));
+    breaks(Clause::StampsFall, old(&[(2, 1), (3, 2)]));
+    breaks(Clause::StampsFall, old(&[(2, 1), (10, 2), (3, 3)]));
+    breaks(Clause::FirstStamp, old(&[(11, 1), (4, 2), (2, 3)]));
+    breaks(Clause::FirstStamp, old(&[(u64::MAX, 1), (4, 2), (2, 3)]));
+    breaks(Clause::LastStamp, old(&[(4, 1)]));
+    breaks(Clause::LastStamp, old(&[(10, 1)]));
+    breaks(Clause::UnreadVersion, old(&[(9, 1), (8, 2), (2, 3)]));
+    breaks(Clause::UnreadVersion, old(&[(3, 1), (2, 3)]));
+    breaks(Clause::UnreadVersion, old(&[(9, 1), (3, 2), (2, 3)]));
+    keeps(old(&[(10, 1), (3, 2)]));
+    keeps(old(&[(4, 1), (3, 2)]));
+    keeps(old(&[(4, 1), (0, 2)]));
+    keeps(old(&[(3, 1)]));
+    // One more query reads what lies between.
+    keeps(|k| {
+        set_txn(k, FREE, [16, QUERY, 8, 0, 0]);
+        set_versions(k, OLD_ITEM, &[(9, 1), (8, 2), (2, 3)]);
+    });
+}
+
+#[test]
+fn circles() {
+    breaks(Clause::Circle, |k| {
+        set_txn(k, HOLDER, [12, UPDATE, 0, AWAITS_SHARED, 4])
+    });
+    breaks(Clause::Circle, |k| {
+        set_txn(k, HOLDER, [12, UPDATE, 0, AWAITS_EXCLUSIVE, 2])
+    });
+    // A circle of three: the waiter, the holder, the update.
+    breaks(Clause::Circle, |k| {
+        set_txn(k, HOLDER, [12, UPDATE, 0, AWAITS_SHARED, 5]);
+        set_lock(k, 5, [0, LIVE_UPDATE as u64 + 1, 0]);
+        set_txn(k, LIVE_UPDATE, [11, UPDATE, 0, AWAITS_EXCLUSIVE, 4]);
+    });
+    // A circle nobody outside it waits for, and one that others wait for.
+    keeps(|k| set_txn(k, LIVE_UPDATE, [11, UPDATE, 0, AWAITS_EXCLUSIVE, 2]));
+    keeps(|k| {
+        set_txn(k, HOLDER, [12, UPDATE, 0, AWAITS_SHARED, 5]);
+        set_lock(k, 5, [0, LIVE_UPDATE as u64 + 1, 0]);
+    });
+}
+
+#[test]
+fn every_clause_has_a_name_of_its_own() {
+    for clause in Clause::ALL {
+        assert_eq!(Clause::named(clause.name()), Some(clause));
+    }
+    assert_eq!(Clause::named("none"), None);
+}

@@ -1,0 +1,259 @@
+//! The twin against a model that forgets nothing: every version ever written,
+//! locks as sets, the tables built anew from them after each call.
+
+use std::collections::{BTreeMap, BTreeSet};
+
+use twin::rng::Rng;
+use twin::sizes::*;
+use twin::{Call, Keeper};
+
+#[derive(Default)]
+struct Txn {
+    slot: usize,
+    start: Option<u64>,
+    shared: BTreeSet<u64>,
+    written: BTreeMap<u64, u64>,
+    awaits: Option<(bool, u64)>,
+}
+
+#[derive(Default)]
+struct Model {
+    last: u64,
+    clock: u64,
+    live: BTreeMap<u64, Txn>,
+    history: BTreeMap<u64, Vec<(u64, u64)>>,
+}
+
+impl Model {
+    fn call(&mut self, call: Call) -> [u64; 4] {
+        match call {
+            Call::Update => self.begin(None),
+            Call::Query => self.begin(Some(self.clock)),
+            Call::Read { number, item } => self.access(number, item, None),
+            Call::Write {
+                number,
+                item,
+                value,
+            } => self.access(number, item, Some(value)),
+            Call::Commit { number } => match self.live.get(&number) {
+                None => [3, 0, 0, 0],
+                Some(txn) if txn.awaits.is_some() => [6, 0, 0, 0],
+                Some(txn) if txn.start.is_some() => self.end(number),
+                Some(_) if self.clock == LAST => [9, 0, 0, 0],
+                Some(txn) => {
+                    self.clock += 1;
+                    for (&item, &value) in &txn.written {
+                        let history = self.history.entry(item).or_default();
+                        history.push((self.clock, value));
+                    }
+                    let _ = self.end(number);
+                    [0, 0, self.clock, 0]
+                }
+            },
+            Call::Abort { number } => match self.live.contains_key(&number) {
+                false => [3, 0, 0, 0],
+                true => self.end(number),
+            },
+        }
+    }
+
+    fn begin(&mut self, start: Option<u64>) -> [u64; 4] {
+        let taken: Vec<usize> = self.live.values().map(|txn| txn.slot).collect();
+        let slot = match (0..SLOTS).find(|slot| !taken.contains(slot)) {
+            None => return [7, 0, 0, 0],
+            Some(_) if self.last == LAST => return [8, 0, 0, 0],
+            Some(slot) => slot,
+        };
+        self.last += 1;
+        let txn = Txn {
+            slot,
+            start,
+            ..Txn::default()
+        };
+        self.live.insert(self.last, txn);
+        [0, 0, self.last, 0]
+    }
+
+    fn end(&mut self, number: u64) -> [u64; 4] {
+        self.live.remove(&number);
+        [0, 0, 0, 0]
+    }
+
+    fn access(&mut self, number: u64, item: u64, value: Option<u64>) -> [u64; 4] {
+        let is_write = value.is_some();
+        let txn = match self.live.get(&number) {
+            None => return [3, 0, 0, 0],
+            Some(_) if item > 63 => return [4, 0, 0, 0],
+            Some(txn) => txn,
+        };
+        match (txn.start, txn.awaits) {
+            (Some(_), _) if is_write => return [5, 0, 0, 0],
+            (Some(start), _) => {
+                let (stamp, value) = self.at(item, start);
+                let kept = self.kept(item);
+                let place = kept.iter().position(|pair| pair.0 == stamp).unwrap();
+                return [0, value, 0, place as u64 + 1];
+            }
+            (None, Some(awaited)) if awaited != (is_write, item) => return [6, 0, 0, 0],
+            _ => {}
+        }
+        if !self.against(number, is_write, item).is_empty() {
+            let txn = self.live.get_mut(&number).unwrap();
+            let before = txn.awaits.replace((is_write, item));
+            if self.comes_to(number, number, &mut BTreeSet::new()) {
+                self.live.get_mut(&number).unwrap().awaits = before;
+                return [2, 0, 0, 0];
+            }
+            return [1, 0, 0, 0];
+        }
+        let newest = self.at(item, u64::MAX).1;
+        let txn = self.live.get_mut(&number).unwrap();
+        txn.awaits = None;
+        match (value, txn.written.get(&item)) {
+            (Some(value), _) => {
+                txn.shared.remove(&item);
+                txn.written.insert(item, value);
+                [0, 0, 0, 0]
+            }
+            (None, Some(&own)) => [0, own, 0, 0],
+            (None, None) => {
+                txn.shared.insert(item);
+                [0, newest, 0, 1]
+            }
+        }
+    }
+
+    fn against(&self, number: u64, is_write: bool, item: u64) -> Vec<u64> {
+        let conflicts =
+            |txn: &Txn| txn.written.contains_key(&item) || is_write && txn.shared.contains(&item);
+        let others = self.live.iter().filter(|(other, _)| **other != number);
+        others
+            .filter(|(_, txn)| conflicts(txn))
+            .map(|(other, _)| *other)
+            .collect()
+    }
+
+    fn comes_to(&self, from: u64, goal: u64, seen: &mut BTreeSet<u64>) -> bool {
+        let nexts = match self.live[&from].awaits {
+            Some((is_write, item)) => self.against(from, is_write, item),
+            None => return false,
+        };
+        nexts
+            .into_iter()
+            .any(|next| next == goal || seen.insert(next) && self.comes_to(next, goal, seen))
+    }
+
+    /// The version of an item at a stamp.
+    fn at(&self, item: u64, stamp: u64) -> (u64, u64) {
+        let history = self.history.get(&item).map_or(&[][..], |list| list);
+        let at = history.iter().rev().find(|pair| pair.0 <= stamp);
+        at.copied().unwrap_or((0, 0))
+    }
+
+    /// The newest version and those that some live query reads, newest first.
+    fn kept(&self, item: u64) -> Vec<(u64, u64)> {
+        let starts = self.live.values().filter_map(|txn| txn.start);
+        let read = starts.map(|start| self.at(item, start));
+        let all: BTreeSet<(u64, u64)> = read.chain([self.at(item, u64::MAX)]).collect();
+        all.into_iter().rev().collect()
+    }
+
+    fn tables(&self) -> Keeper {
+        let mut keeper = Keeper {
+            txns: [0; TXN_WORDS],
+            locks: [0; LOCK_WORDS],
+            versions: [0; VERSION_WORDS],
+        };
+        keeper.txns[0] = self.last;
+        keeper.txns[1] = self.clock;
+        for (&number, txn) in &self.live {
+            let (lock, item) = match txn.awaits {
+                None => (0, 0),
+                Some((is_write, item)) => (1 + u64::from(is_write), item),
+            };
+            let kind = u64::from(txn.start.is_some());
+            let row = [number, kind, txn.start.unwrap_or(0), lock, item];
+            keeper.txns[2 + 5 * txn.slot..][..5].copy_from_slice(&row);
+            for &item in &txn.shared {
+                keeper.locks[3 * item as usize] |= 1 << txn.slot;
+            }
+            for (&item, &value) in &txn.written {
+                keeper.locks[3 * item as usize + 1] = txn.slot as u64 + 1;
+                keeper.locks[3 * item as usize + 2] = value;
+            }
+        }
+        for (item, row) in keeper.versions.chunks_mut(33).enumerate() {
+            let kept = self.kept(item as u64);
+            row[0] = kept.len() as u64;
+            for (words, (stamp, value)) in row[1..].chunks_mut(2).zip(kept) {
+                words.copy_from_slice(&[stamp, value]);
+            }
+        }
+        keeper
+    }
+}
+
+fn random_call(rng: &mut Rng, model: &Model, items: u64) -> Call {
+    let live: Vec<u64> = model.live.keys().copied().collect();
+    let number = match rng.below(30) {
+        0 => rng.below(model.last + 2),
+        _ => rng.pick(&live).unwrap_or(0),
+    };
+    let waiting = model.live.get(&number).and_then(|txn| txn.awaits);
+    let value = rng.next_word();
+    if let (Some((is_write, item)), true) = (waiting, rng.percent(60)) {
+        return match is_write {
+            true => Call::Write {
+                number,
+                item,
+                value,
+            },
+            false => Call::Read { number, item },
+        };
+    }
+    let item = match rng.below(40) {
+        0 => 64,
+        _ => rng.below(items),
+    };
+    match rng.below(20) {
+        0..=2 => Call::Update,
+        3..=4 => Call::Query,
+        5..=9 => Call::Read { number, item },
+        10..=15 => Call::Write {
+            number,
+            item,
+            value,
+        },
+        16..=18 => Call::Commit { number },
+        _ => Call::Abort { number },
+    }
+}
+
+#[test]
+fn every_answer_and_every_word() {
+    let mut codes = [0; 11];
+    for seed in 0..40 {
+        let mut rng = Rng::new(seed);
+        let items = rng.one_of(&[1, 2, 4, 12, 64]);
+        let mut model = Model::default();
+        let mut keeper = Keeper::fresh();
+        for _ in 0..2_000 {
+            let call = random_call(&mut rng, &model, items);
+            let expected = model.call(call);
+            let answer = keeper.call(call);
+            assert_eq!(answer.words(), expected, "seed {}, {:?}", seed, call);
+            assert!(keeper == model.tables(), "seed {}, {:?}", seed, call);
+            codes[answer.code as usize] += 1;
+
+            // Looked is at most 2 plus the live queries with a later start.
+            let txn = call.number().and_then(|number| model.live.get(&number));
+            if let (Call::Read { .. }, Some(Some(start))) = (call, txn.map(|txn| txn.start)) {
+                let starts = model.live.values().filter_map(|txn| txn.start);
+                let later = starts.filter(|other| *other > start).count() as u64;
+                assert!(answer.looked <= 2 + later);
+            }
+        }
+    }
+    assert!(codes[..8].iter().all(|&count| count > 50), "{:?}", codes);
+    assert_eq!(codes[8..], [0, 0, 0]);
+}

@@ -1,0 +1,80 @@
+//! A call needs no heap.
+
+use std::alloc::{GlobalAlloc, Layout, System};
+use std::cell::Cell;
+
+use twin::{Call, Keeper};
+
+struct Counting;
+
+thread_local! {
+    static ASKED: Cell<u64> = const { Cell::new(0) };
+}
+
+// SAFETY: every request goes to the system's allocator as it came.
+unsafe impl GlobalAlloc for Counting {
+    unsafe fn alloc(&self, layout: Layout) -> *mut u8 {
+        ASKED.with(|asked| asked.set(asked.get() + 1));
+        System.alloc(layout)
+    }
+
+    unsafe fn dealloc(&self, pointer: *mut u8, layout: Layout) {
+        System.dealloc(pointer, layout)
+    }
+}
+
+#[global_allocator]
+static COUNTING: Counting = Counting;
+
+#[test]
+fn no_call_asks_for_heap() {
+    let mut keeper = Keeper::fresh();
+    let before = ASKED.with(Cell::get);
+    for round in 0..100 {
+        let (first, item) = (keeper.txns[0] + 1, round % 64);
+        let (second, query) = (first + 1, first + 2);
+        let value = round;
+        let calls = [
+            Call::Update,
+            Call::Update,
+            Call::Query,
+            Call::Read {
+                number: first,
+                item,
+            },
+            Call::Read {
+                number: second,
+                item,
+            },
+            Call::Write {
+                number: first,
+                item,
+                value,
+            },
+            Call::Write {
+                number: second,
+                item,
+                value,
+            },
+            Call::Abort { number: second },
+            Call::Write {
+                number: first,
+                item,
+                value,
+            },
+            Call::Commit { number: first },
+            Call::Read {
+                number: query,
+                item,
+            },
+            Call::Commit { number: query },
+        ];
+        let codes = [0, 0, 0, 0, 0, 1, 2, 0, 0, 0, 0, 0];
+        for (call, code) in calls.into_iter().zip(codes) {
+            assert_eq!(keeper.call(call).code, code);
+        }
+    }
+    keeper.txns[1] = u64::MAX;
+    assert_eq!(keeper.call(Call::Query).code, 10);
+    assert_eq!(ASKED.with(Cell::get), before);
+}
