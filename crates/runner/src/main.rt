@@ -1,0 +1,143 @@
+// The script runner: reads calls from standard input, one a line, and answers each on a line of
+// standard output, from fresh tables on.
+//
+// It is thin: the lines, their calls and the printed answers are those of `script`, the answers
+// those of `keeper`. Input is read and output written in large pieces.
+use libc::STDIN_FILENO;
+use libc::STDOUT_FILENO;
+use names::Answer;
+use script::Command;
+use script::Lines;
+use script::Parsed;
+ghost use mathlib.Core.Path.{_≡_};
+ghost use Prim.Native.Nat.{_+_, _≤_};
+ghost use lib.ListN.{length};
+ghost use Rattle.names.specs.Sizes.{base};
+ghost use Rattle.rules.specs.Tables.{tables};
+ghost use Rattle.rules.specs.Answers.{outcome};
+ghost use Rattle.rules.specs.Step.{step};
+ghost use Rattle.script.specs.Parse.{callOf};
+
+// The longest answer: four numbers of 20 digits, each with a byte behind it.
+const ANSWER: usize = 84;
+
+// The call of a line, made.
+fn call(command: Command, txns: &mut [u64], locks: &mut [u64], versions: &mut [u64]) -> Answer
+    ensures { λ r. ⌜ outcome r (now (txns .exit)) (now (locks .exit)) (now (versions .exit)) ≡ step base (callOf command) (tables (now (txns .entry)) (now (locks .entry)) (now (versions .entry))) ⌝ }
+{
+    match command {
+        Command::Update => keeper::begin_update(txns, locks, versions),
+        Command::Query => keeper::begin_query(txns, locks, versions),
+        Command::Read(number, item) => keeper::read(txns, locks, versions, number, item),
+        Command::Write(number, item, value) => {
+            keeper::write(txns, locks, versions, number, item, value)
+        }
+        Command::Commit(number) => keeper::commit(txns, locks, versions, number),
+        Command::Abort(number) => keeper::abort(txns, locks, versions, number),
+    }
+}
+
+// A line's answer, written behind `used` bytes of the output; how many are used then.
+fn respond(
+    parsed: Parsed,
+    txns: &mut [u64],
+    locks: &mut [u64],
+    versions: &mut [u64],
+    out: &mut [u8],
+    used: usize,
+) -> usize
+    requires { ⌜ used + 84 ≤ length (now out) ⌝ }
+    ensures { λ r. ⌜ r ≤ used + 84 ⌝ }
+{
+    let Parsed::Call(command) = parsed else {
+        return script::print_bad(out, used);
+    };
+    let answer = call(command, txns, locks, versions);
+    script::print(answer, out, used)
+}
+
+// Room for one more answer: what is used is written out where there is none.
+fn room(out: &[u8], used: usize) -> usize
+    requires { ⌜ (used ≤ length (now out)) × (84 ≤ length (now out)) ⌝ }
+    ensures { λ r. ⌜ r + 84 ≤ length (now (out .entry)) ⌝ }
+{
+    if out.len() - used < ANSWER {
+        io::write_all(STDOUT_FILENO, &out[..used]);
+        return 0;
+    }
+    used
+}
+
+// A line, answered.
+fn answer_line(
+    lines: Lines,
+    txns: &mut [u64],
+    locks: &mut [u64],
+    versions: &mut [u64],
+    out: &mut [u8],
+    used: usize,
+) -> usize
+    requires { ⌜ (used ≤ length (now out)) × (84 ≤ length (now out)) ⌝ }
+    ensures { λ r. ⌜ r ≤ length (now (out .entry)) ⌝ }
+{
+    let free = room(&out[..], used);
+    respond(lines.parsed(), txns, locks, versions, out, free)
+}
+
+// The lines that end in a chunk, answered; what is left of the last one.
+fn answer_chunk(
+    lines: Lines,
+    chunk: &[u8],
+    txns: &mut [u64],
+    locks: &mut [u64],
+    versions: &mut [u64],
+    out: &mut [u8],
+) -> Lines
+    requires { ⌜ 84 ≤ length (now out) ⌝ }
+{
+    let mut held = lines;
+    let mut used: usize = 0;
+    let mut at: usize = 0;
+    while at < chunk.len() {
+        let next = held.next(chunk, at);
+        held = next.lines;
+        if !next.ended {
+            break;
+        }
+        at = next.at;
+        used = answer_line(held, txns, locks, versions, out, used);
+        held = Lines::new();
+    }
+    io::write_all(STDOUT_FILENO, &out[..used]);
+    held
+}
+
+// All of standard input. Nothing says that it ends, so the turns are counted down, from a number
+// that no run uses up.
+fn run(txns: &mut [u64], locks: &mut [u64], versions: &mut [u64]) {
+    let mut input = io::large_buffer();
+    let mut output = io::large_buffer();
+    let mut lines = Lines::new();
+    let mut turns = u64::MAX;
+    while turns > 0 {
+        let got = libc::read(STDIN_FILENO, &mut input);
+        let n = io::count(got, &input);
+        if n == 0 {
+            break;
+        }
+        lines = answer_chunk(lines, &input[..n], txns, locks, versions, &mut output);
+        turns -= 1;
+    }
+    if lines.begun() {
+        let used = answer_line(lines, txns, locks, versions, &mut output, 0);
+        io::write_all(STDOUT_FILENO, &output[..used]);
+    }
+}
+
+fn main() {
+    let mut txns = [0u64; 82];
+    let mut locks = [0u64; 192];
+    let mut versions = [0u64; 2112];
+    fresh::fresh(&mut txns, &mut locks, &mut versions);
+    run(&mut txns, &mut locks, &mut versions);
+}
