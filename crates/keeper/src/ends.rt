@@ -4,8 +4,9 @@ use names::Stamp;
 ghost use mathlib.Core.Path.{_≡_};
 ghost use Prim.Native.Nat.{_+_, _<_};
 ghost use lib.ListN.{set};
+ghost use lib.Dec.{T};
 ghost use Rattle.names.specs.Sizes.{base};
-ghost use Rattle.rules.specs.Tables.{tables, clock, setTxn, noTxn, starts, release};
+ghost use Rattle.rules.specs.Tables.{tables, clock, txn, setTxn, noTxn, liveUpdate, starts, release};
 ghost use Rattle.rules.specs.Versions.{rewritten};
 ghost use Rattle.rules.specs.Good.{Good};
 ghost use Rattle.rules.specs.Step.{withNew};
@@ -29,7 +30,7 @@ pub fn commit_update(
     slot: Slot,
     stamp: Stamp,
 )
-    requires { ⌜ Good base (tables (now txns) (now locks) (now versions)) × (slot .0 < base .slots) × (stamp .0 ≡ clock (now txns) + 1) ⌝ }
+    requires { ⌜ Good base (tables (now txns) (now locks) (now versions)) × (slot .0 < base .slots) × (stamp .0 ≡ clock (now txns) + 1) × T (liveUpdate (txn (now txns) (slot .0))) ⌝ }
     ensures { λ _. ⌜ Committed (slot .0) (stamp .0) (tables (now (txns .entry)) (now (locks .entry)) (now (versions .entry))) (tables (now (txns .exit)) (now (locks .exit)) (now (versions .exit))) ⌝ }
 {
     rows::set_clock(txns, stamp);

@@ -1,6 +1,6 @@
 -- What the functions ask for, good tables have. Assumes nothing.
 use Prim.Native.Nat.{ℕ, _<_, _≤_}
-use mathlib.Core.Path.{_≡_}
+use mathlib.Core.Path.{_≡_, sym, ap, _∙_, subst}
 use mathlib.Core.Bool.{false}
 use mathlib.Core.List.{List}
 use native.Mathlib.Omega.{arith}
@@ -9,13 +9,19 @@ use lib.Dec.{T}
 use Rattle.names.specs.Sizes.{base}
 use Rattle.rules.specs.Words.{row}
 use Rattle.rules.specs.Tables.{Tables, versionRow, clock, txn, liveQuery, starts}
-use Rattle.rules.specs.Versions.{versionsOf, stampAt}
+use Rattle.rules.specs.Versions.{versionsIn, versionsOf, stampAt, rowOf}
 use Rattle.rules.specs.Good.{Good, GoodVersions}
 use Rattle.rules.proofs.Starts.{starts-lt}
 use Rattle.rules.proofs.Looked.{looked-chosen}
-use Rattle.versions.specs.Ordered.{InOrder}
+use Rattle.rules.proofs.Trim.{kept-fixed}
+use Rattle.rules.proofs.EqualVersions.{Good→read}
+use Rattle.rules.proofs.ChangedVersions.{rowOf-versionsIn}
+use Rattle.versions.specs.Ordered.{guard, InOrder}
 use Rattle.versions.specs.Found.{Found}
-use Rattle.versions.specs.Written.{Few, Sound, AllSound, Committable}
+use Rattle.versions.specs.Written.{Few, Sound, Trimmed, AllSound, Committable}
+use Rattle.versions.proofs.Lent.{length-row}
+use Rattle.versions.proofs.Read.{stamp-in}
+use Rattle.versions.proofs.Renew.{old-kept}
 
 -- the starts in order leave room for one version more where a slot has no live query
 pub few-starts :
@@ -58,7 +64,31 @@ module _ (G : Tables) (g : Good base G) where
   unfolding versionsOf
   good-newer c l x h = let a = g .versionsGood x h .first in omega arith
 
+  -- for commit_all: every row is trimmed for the live queries
+  good-trimmed : (q : List ℕ) → Few (starts base (G .txns)) q → (x : ℕ) → x < base .items → Trimmed (row (versionRow base) x (G .versions)) q
+  good-trimmed q f x h =
+      let r = row (versionRow base) x (G .versions) in
+      let w : GoodVersions base (G .txns) r = g .versionsGood x h in
+      let sound : Sound r = good-sound (G .txns) r w in
+      let first : stampAt (versionsIn r) 0 ≡ getD r 1 0 = stamp-in r 0 (w .countLeast) in
+      let low : getD r 1 0 ≤ guard = let a = w .first in let b = g .clockMost in omega arith in
+      record {
+        same = λ qs k.
+            ap (rowOf base)
+            (old-kept qs q r k sound low
+            ∙ sym (old-kept (starts base (G .txns)) q r f sound low)
+            ∙ kept-fixed (starts base (G .txns)) (versionsIn r) (Good→read base (G .txns) r w))
+            ∙ rowOf-versionsIn base r (length-row x (G .versions) (g .versionsExact) h) (w .countMost) (w .unused);
+      }
+
   pub good-commits :
-      (qs q : List ℕ) → Few qs q → (s : ℕ) → s < base .slots → (c : ℕ) → clock (G .txns) < c
+      (qs q : List ℕ) → Few qs q → qs ≡ starts base (G .txns) → (s : ℕ) → s < base .slots → (c : ℕ) → clock (G .txns) < c
       → Committable (G .versions) (G .locks) q s c
-  good-commits qs q f s h c l = record { sound = good-rows qs q f; locks = g .locksExact; inside = h; newer = good-newer c l }
+  good-commits qs q f e s h c l =
+      record {
+        sound = good-rows qs q f;
+        locks = g .locksExact;
+        inside = h;
+        newer = good-newer c l;
+        trimmed = good-trimmed q (subst (λ (u : List ℕ). Few u q) e f);
+      }

@@ -5,7 +5,7 @@ use mathlib.Core.List.{List, _++_, append-assoc}
 use native.Mathlib.Omega.{arith}
 use native.Mathlib.Nat.{add-zero, zero-add, mul-zero}
 use native.Mathlib.Numerals.{add-one}
-use lib.ListN.{length, take, drop, length-drop}
+use lib.ListN.{length, take, drop, length-drop, take-append-drop}
 use lib.Seq.{take-append-add, drop-append-add, drop-drop, length-take-le}
 use Rattle.names.specs.Sizes.{base}
 use Rattle.rules.specs.Words.{row, mapRows}
@@ -54,6 +54,11 @@ module _ (w : ℕ) (f : ℕ → List ℕ → List ℕ) (keeps : (i : ℕ) (r : L
       ap₂ (λ (x y : List ℕ). x ++ y) t (ap₂ (λ (x y : List ℕ). x ++ drop w y) g d)
       ∙ append-assoc a (take (w * n) b) _
       ∙ ap (λ (x : List ℕ). a ++ x) (row-more n (suc i) (drop w l) (rw length-drop (omega arith)))
+
+-- a row put back in its place changes nothing
+pub row-back : (x : ℕ) (v : List ℕ) → withRow x (row (versionRow base) x v) v ≡ v
+unfolding row
+row-back x v = ap (λ (l : List ℕ). take (versionRow base * x) v ++ l) (take-append-drop (versionRow base) (drop (versionRow base * x) v)) ∙ take-append-drop (versionRow base * x) v
 
 -- ---- the rows of the version table
 -- the words of row x as f makes them

@@ -55,6 +55,10 @@ pub record Writable (r q : List ℕ) (new : Bool) (stamp : ℕ) : Type 0 where
   pub starts : List ℕ
   pub few : Few starts q
 
+-- a row that has what the starts in order read and no more: rewritten without a new version it has the same words
+pub record Trimmed (r q : List ℕ) : Type 0 where
+  pub same : (qs : List ℕ) → Few qs q → rowOf base (kept qs (versionsIn r)) ≡ r
+
 -- a row that can be packed behind a pair of that stamp, from place from on: there is room
 pub record Packable (r q : List ℕ) (stamp from : ℕ) : Type 0 where
   pub size : length r ≡ versionRow base
@@ -75,3 +79,4 @@ pub record Committable (v l q : List ℕ) (s stamp : ℕ) : Type 0 where
   pub locks : length l ≡ lockWords base
   pub inside : s < base .slots
   pub newer : (x : ℕ) → x < base .items → stampAt (versionsOf base v x) 0 < stamp
+  pub trimmed : (x : ℕ) → x < base .items → Trimmed (row (versionRow base) x v) q

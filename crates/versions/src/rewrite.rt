@@ -1,6 +1,7 @@
 // All rows rewritten: each item's row is lent, as the middle part of the table, to the one row
 // writer.
 ghost use mathlib.Core.Path.{_≡_};
+ghost use mathlib.Core.Bool.{false};
 ghost use mathlib.Core.List.{List};
 ghost use Prim.Native.Nat.{ℕ, _<_};
 ghost use lib.ListN.{length};
@@ -9,7 +10,7 @@ ghost use Rattle.rules.specs.Words.{row};
 ghost use Rattle.rules.specs.Tables.{versionRow, versionWords};
 ghost use Rattle.rules.specs.Versions.{rewritten};
 ghost use Rattle.rules.specs.Step.{withNew};
-ghost use Rattle.versions.specs.Written.{newWords, withRow, Few, Writable, AllSound, Committable};
+ghost use Rattle.versions.specs.Written.{newWords, withRow, Few, Writable, Trimmed, AllSound, Committable};
 use super::LOCK;
 use super::ROW;
 use super::ROWS;
@@ -39,6 +40,16 @@ pub fn trim_all(versions: &mut [u64], starts: &[u64])
     }
 }
 
+// The row of item x at a commit: one that gets no new version is trimmed already, so it stays.
+fn commit_item(versions: &mut [u64], x: usize, starts: &[u64], new: bool, stamp: u64, value: u64)
+    requires { ⌜ (length (now versions) ≡ versionWords base) × (x < base .items) × Writable (row (versionRow base) x (now versions)) (now starts) new stamp × (new ≡ false → Trimmed (row (versionRow base) x (now versions)) (now starts)) ⌝ }
+    ensures { λ _. ⌜ ((qs : List ℕ) → Few qs (now (starts .entry)) → now (versions .exit) ≡ withRow x (newWords qs new stamp value (row (versionRow base) x (now (versions .entry)))) (now (versions .entry))) ⌝ }
+{
+    if new {
+        write_item(versions, x, starts, new, stamp, value);
+    }
+}
+
 // Rewrites every row at a commit of the update in a slot: the working values of the items that it
 // holds exclusively go in front, under the new stamp, and every row is trimmed.
 pub fn commit_all(versions: &mut [u64], locks: &[u64], slot: Slot, stamp: Stamp, starts: &[u64])
@@ -50,7 +61,7 @@ pub fn commit_all(versions: &mut [u64], locks: &[u64], slot: Slot, stamp: Stamp,
     let mut i: usize = 0;
     while i < ROWS {
         let new = locks[LOCK * i + 1] == owner;
-        write_item(versions, i, starts, new, stamp, locks[LOCK * i + 2]);
+        commit_item(versions, i, starts, new, stamp, locks[LOCK * i + 2]);
         i += 1;
     }
 }

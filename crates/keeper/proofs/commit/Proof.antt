@@ -126,7 +126,7 @@ commit-update-requires c κs =
     let e = sym (c .before .before .before .before .before .before .before .before .before .before .before .before .who-commits .ensures) ∙ c .before .before .before .before .before .before .before .before .before .before .leaver2 .given .1 in
     let f = subst (LeaverSays G g) e (leaver-says G g (a .number)) in
     let n = next-at (c .before .before .before .before .before .before .before .clock .result) _ (sym (c .before .before .before .before .before .before .next .ensures) ∙ c .before .before .before .before .next2 .given .1) in
-    (g, f .0, n .0 ∙ ap (λ (m : ℕ). m + 1) (c .before .before .before .before .before .before .before .clock .ensures))
+    (g, f .0, n .0 ∙ ap (λ (m : ℕ). m + 1) (c .before .before .before .before .before .before .before .clock .ensures), f .1)
 
 same-length-7 : tie.Need-same-length-7
 same-length-7 c = search needs

@@ -7,7 +7,9 @@ use lib.ListN.{set, length-set}
 use Rattle.names.specs.Sizes.{base}
 use Rattle.rules.specs.Tables.{Tables, tables, clock, txn, setTxn, noTxn, starts}
 use Rattle.rules.specs.Good.{Good}
+use Rattle.rules.specs.Step.{committed}
 use Rattle.rules.proofs.Ends.{gone-query}
+use Rattle.rules.proofs.ChangedVersions.{committed-starts}
 use Rattle.rules.proofs.Views.{txn-top}
 use Rattle.versions.specs.Ordered.{InOrder}
 use Rattle.versions.specs.Written.{Few}
@@ -29,6 +31,7 @@ slice-aggregate-commit-all : tie.Need-slice-aggregate-commit-all
 slice-aggregate-commit-all c = search needs
 
 commit-all-requires : tie.Need-commit-all-requires
+unfolding committed
 commit-all-requires c κs =
     let p = c .before .before .before .before .before .before .before .before .before .before .before .before .before .before .before .before .pre in
     let t = c .before .before .before .before .before .before .before .before .before .before .before .before .before .before .before .before .args .txns .now in
@@ -40,7 +43,9 @@ commit-all-requires c κs =
     let e = c .before .before .before .before .before .before .before .leave .ensures ∙ ap (λ (u : List ℕ). setTxn u s noTxn) (c .before .before .before .before .before .before .before .before .before .before .before .set-clock .ensures) in
     let o = subst (λ (u : List ℕ). InOrder (starts base u) q) e (c .before .before .before .starts-in-order .ensures) in
     let f : Few (starts base w) q = few-starts w q o s (p .1) (gone-query base t (set t 1 k) s (p .1) (length-set t 1 k ∙ p .0 .txnsExact) (λ r. txn-top t 1 k r (omega arith))) in
-    good-commits G (p .0) (starts base w) q f s (p .1) k (let z = p .2 in omega arith)
+    let same : starts base w ≡ starts base t =
+    ap (λ (m : ℕ). starts base (setTxn (set t 1 m) s noTxn)) (p .2) ∙ committed-starts base G (p .0) (omega arith) s (p .1) (p .3) in
+    good-commits G (p .0) (starts base w) q f same s (p .1) k (let z = p .2 in omega arith)
 
 release-requires : tie.Need-release-requires
 release-requires c κs = search needs

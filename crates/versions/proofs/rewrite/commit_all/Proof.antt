@@ -6,7 +6,7 @@ use native.Mathlib.Omega.{arith}
 use lib.ListN.{length}
 use Rattle.names.specs.Sizes.{base}
 use Rattle.rules.specs.Versions.{Version, versionsIn, versionsOf, stampAt, rewritten}
-use Rattle.versions.specs.Written.{claimed, Few, Sound}
+use Rattle.versions.specs.Written.{claimed, Few, Sound, Trimmed}
 use Rattle.versions.proofs.Lent.{length-row}
 use Rattle.versions.proofs.Renew.{claimed-is}
 use Rattle.versions.proofs.Table.{soFar, none-yet, all-done, length-soFar, row-soFar, one-more}
@@ -37,21 +37,21 @@ mul-new-2 c = omega arith
 shared-slice-read-new : tie.Need-shared-slice-read-new Inv-loop μ-loop
 shared-slice-read-new c = omega arith
 
-mul-write-item : tie.Need-mul-write-item Inv-loop μ-loop
-mul-write-item c = omega arith
+mul-commit-item : tie.Need-mul-commit-item Inv-loop μ-loop
+mul-commit-item c = omega arith
 
-add-write-item : tie.Need-add-write-item Inv-loop μ-loop
-add-write-item c = omega arith
+add-commit-item : tie.Need-add-commit-item Inv-loop μ-loop
+add-commit-item c = omega arith
 
-mul-write-item-2 : tie.Need-mul-write-item-2 Inv-loop μ-loop
-mul-write-item-2 c = omega arith
+mul-commit-item-2 : tie.Need-mul-commit-item-2 Inv-loop μ-loop
+mul-commit-item-2 c = omega arith
 
-shared-slice-read-write-item : tie.Need-shared-slice-read-write-item Inv-loop μ-loop
-shared-slice-read-write-item c = omega arith
+shared-slice-read-commit-item : tie.Need-shared-slice-read-commit-item Inv-loop μ-loop
+shared-slice-read-commit-item c = omega arith
 
-write-item-requires : tie.Need-write-item-requires Inv-loop μ-loop
+commit-item-requires : tie.Need-commit-item-requires Inv-loop μ-loop
 unfolding versionsOf
-write-item-requires c κs =
+commit-item-requires c κs =
     let a = c .before .before .before .before .before .before .before .before .before .args in
     let v = a .versions .now in
     let f = claimed (a .locks .now) (a .slot .0 + 1) (a .stamp .0) in
@@ -71,6 +71,7 @@ write-item-requires c κs =
         starts = p .starts;
         few = p .few;
       },
+      λ z. subst (λ (r : List ℕ). Trimmed r (a .starts .now)) (sym r) (c .before .before .before .before .before .before .before .before .before .pre .trimmed i h),
     )
 
 add-i : tie.Need-add-i Inv-loop μ-loop
@@ -86,7 +87,7 @@ loop-again c =
     let p = c .before .before .before .before .before .before .before .before .before .before .before .before .pre .sound in
     let l = c .before .before .before .before .before .before .before .loop in (
       omega arith,
-      λ qs h. c .before .before .write-item .ensures qs h ∙ one-more qs f (a .versions .now) (h .few) (p .size) (l .i) (c .before .before .before .before .before .before .loop-test .taken) (l .versions) (l .inv .1 qs h),
+      λ qs h. c .before .before .commit-item .ensures qs h ∙ one-more qs f (a .versions .now) (h .few) (p .size) (l .i) (c .before .before .before .before .before .before .loop-test .taken) (l .versions) (l .inv .1 qs h),
     )
 
 same-length : tie.Need-same-length Inv-loop μ-loop
@@ -123,11 +124,11 @@ commit-all-spec =
     add-new
     mul-new-2
     shared-slice-read-new
-    mul-write-item
-    add-write-item
-    mul-write-item-2
-    shared-slice-read-write-item
-    write-item-requires
+    mul-commit-item
+    add-commit-item
+    mul-commit-item-2
+    shared-slice-read-commit-item
+    commit-item-requires
     add-i
     loop-less
     loop-again

@@ -1,0 +1,37 @@
+-- A row with a new version goes to the row writer; one without is trimmed, so that it is what the writer would leave. Assumes nothing.
+use mathlib.Core.Path.{_≡_, sym, ap, _∙_}
+use mathlib.Core.Bool.{Bool}
+use mathlib.Core.List.{List}
+use Prim.Native.Nat.{ℕ}
+use Rattle.names.specs.Sizes.{base}
+use Rattle.rules.specs.Words.{row}
+use Rattle.rules.specs.Tables.{versionRow}
+use Rattle.versions.specs.Written.{withRow, newWords}
+use Rattle.versions.proofs.Table.{row-back}
+use borrow.Author.Needs.{needs}
+use Rattle.versions.proofs.rewrite.commit_item.Statement.{statement}
+use Rattle.versions.proofs.rewrite.commit_item.Tie as tie
+
+write-item-requires : tie.Need-write-item-requires
+write-item-requires c κs = search needs
+
+same-length : tie.Need-same-length
+same-length c = search needs
+
+returns : tie.Need-returns
+returns c = search needs
+
+returns-2 : tie.Need-returns-2
+returns-2 c =
+    let a = c .before .before .before .args in
+    let v = a .versions .now in
+    let r : List ℕ = row (versionRow base) (a .x) v in
+    let e = c .if1 .left in
+    λ qs k.
+    sym
+    (ap (λ (b : Bool). withRow (a .x) (newWords qs b (a .stamp) (a .value) r) v) e
+    ∙ ap (λ (l : List ℕ). withRow (a .x) l v) (c .before .before .before .pre .3 e .same qs k)
+    ∙ row-back (a .x) v)
+
+pub commit-item-spec : {M : Type 1} → statement M
+commit-item-spec = tie.close (tie.spec write-item-requires same-length returns returns-2)
