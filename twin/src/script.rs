@@ -44,18 +44,22 @@ pub fn parse(line: &[u8]) -> Option<Call> {
 
 /// Appends a call as a line without its end.
 pub fn push_call(out: &mut Vec<u8>, call: Call) {
-    let (word, numbers): (&[u8], &[u64]) = match &call {
-        Call::Update => (b"update", &[]),
-        Call::Query => (b"query", &[]),
-        Call::Read { number, item } => (b"read", &[*number, *item]),
+    match call {
+        Call::Update => push_words(out, b"update", &[]),
+        Call::Query => push_words(out, b"query", &[]),
+        Call::Read { number, item } => push_words(out, b"read", &[number, item]),
         Call::Write {
             number,
             item,
             value,
-        } => (b"write", &[*number, *item, *value]),
-        Call::Commit { number } => (b"commit", &[*number]),
-        Call::Abort { number } => (b"abort", &[*number]),
-    };
+        } => push_words(out, b"write", &[number, item, value]),
+        Call::Commit { number } => push_words(out, b"commit", &[number]),
+        Call::Abort { number } => push_words(out, b"abort", &[number]),
+    }
+}
+
+/// Appends a word and its numbers, one space before each.
+fn push_words(out: &mut Vec<u8>, word: &[u8], numbers: &[u64]) {
     out.extend_from_slice(word);
     for &number in numbers {
         out.push(b' ');
