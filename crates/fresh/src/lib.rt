@@ -11,13 +11,14 @@ ghost use Rattle.rules.specs.Tables.{tables, versionWords};
 ghost use Rattle.rules.specs.Tested.{sizesExact};
 ghost use Rattle.fresh.specs.Made.{counted, freshened};
 
-const TXN_WORDS: usize = 2 + 5 * (SLOTS as usize);
+// The sizes of the three tables in words.
+pub const TXN_WORDS: usize = 2 + 5 * (SLOTS as usize);
 
-const LOCK_WORDS: usize = 3 * (ITEMS as usize);
+pub const LOCK_WORDS: usize = 3 * (ITEMS as usize);
 
 const VERSION_ROW: usize = 1 + 2 * (PLACES as usize);
 
-const VERSION_WORDS: usize = VERSION_ROW * (ITEMS as usize);
+pub const VERSION_WORDS: usize = VERSION_ROW * (ITEMS as usize);
 
 // Whether the three tables have their sizes.
 fn sizes_exact(txns: &[u64], locks: &[u64], versions: &[u64]) -> bool

@@ -3,6 +3,9 @@
 //
 // It is thin: the lines, their calls and the printed answers are those of `script`, the answers
 // those of `keeper`. Input is read and output written in large pieces.
+use fresh::LOCK_WORDS;
+use fresh::TXN_WORDS;
+use fresh::VERSION_WORDS;
 use libc::STDIN_FILENO;
 use libc::STDOUT_FILENO;
 use names::Answer;
@@ -17,6 +20,9 @@ ghost use Rattle.rules.specs.Tables.{tables};
 ghost use Rattle.rules.specs.Answers.{outcome};
 ghost use Rattle.rules.specs.Step.{step};
 ghost use Rattle.script.specs.Parse.{callOf};
+ghost use Rattle.script.specs.Print.{Wrote};
+ghost use Rattle.script.specs.Lines.{readAs, heldBy, reads, left};
+ghost use Rattle.runner.specs.Replies.{replyTo, afterLine, afterAll, place};
 
 // The longest answer: four numbers of 20 digits, each with a byte behind it.
 const ANSWER: usize = 84;
@@ -48,6 +54,8 @@ fn respond(
 ) -> usize
     requires { ⌜ used + 84 ≤ length (now out) ⌝ }
     ensures { λ r. ⌜ r ≤ used + 84 ⌝ }
+    ensures { λ r. ⌜ Wrote (now (out .entry)) used (replyTo parsed (tables (now (txns .entry)) (now (locks .entry)) (now (versions .entry)))) (now (out .exit)) r ⌝ }
+    ensures { λ _. ⌜ tables (now (txns .exit)) (now (locks .exit)) (now (versions .exit)) ≡ afterLine parsed (tables (now (txns .entry)) (now (locks .entry)) (now (versions .entry))) ⌝ }
 {
     let Parsed::Call(command) = parsed else {
         return script::print_bad(out, used);
@@ -60,6 +68,7 @@ fn respond(
 fn room(out: &[u8], used: usize) -> usize
     requires { ⌜ (used ≤ length (now out)) × (84 ≤ length (now out)) ⌝ }
     ensures { λ r. ⌜ r + 84 ≤ length (now (out .entry)) ⌝ }
+    ensures { λ r. ⌜ r ≡ place (length (now (out .entry))) used ⌝ }
 {
     if out.len() - used < ANSWER {
         io::write_all(STDOUT_FILENO, &out[..used]);
@@ -68,7 +77,7 @@ fn room(out: &[u8], used: usize) -> usize
     used
 }
 
-// A line, answered.
+// A line, answered: its reply stands in the output at its place.
 fn answer_line(
     lines: Lines,
     txns: &mut [u64],
@@ -79,6 +88,8 @@ fn answer_line(
 ) -> usize
     requires { ⌜ (used ≤ length (now out)) × (84 ≤ length (now out)) ⌝ }
     ensures { λ r. ⌜ r ≤ length (now (out .entry)) ⌝ }
+    ensures { λ r. ⌜ Wrote (now (out .entry)) (place (length (now (out .entry))) used) (replyTo (readAs (heldBy lines)) (tables (now (txns .entry)) (now (locks .entry)) (now (versions .entry)))) (now (out .exit)) r ⌝ }
+    ensures { λ _. ⌜ tables (now (txns .exit)) (now (locks .exit)) (now (versions .exit)) ≡ afterLine (readAs (heldBy lines)) (tables (now (txns .entry)) (now (locks .entry)) (now (versions .entry))) ⌝ }
 {
     let free = room(&out[..], used);
     respond(lines.parsed(), txns, locks, versions, out, free)
@@ -94,6 +105,8 @@ fn answer_chunk(
     out: &mut [u8],
 ) -> Lines
     requires { ⌜ 84 ≤ length (now out) ⌝ }
+    ensures { λ r. ⌜ heldBy r ≡ left (heldBy lines) (now (chunk .entry)) ⌝ }
+    ensures { λ _. ⌜ tables (now (txns .exit)) (now (locks .exit)) (now (versions .exit)) ≡ afterAll (reads (heldBy lines) (now (chunk .entry))) (tables (now (txns .entry)) (now (locks .entry)) (now (versions .entry))) ⌝ }
 {
     let mut held = lines;
     let mut used: usize = 0;
@@ -101,12 +114,13 @@ fn answer_chunk(
     while at < chunk.len() {
         let next = held.next(chunk, at);
         held = next.lines;
-        if !next.ended {
-            break;
+        if next.ended {
+            at = next.at;
+            used = answer_line(held, txns, locks, versions, out, used);
+            held = Lines::new();
+        } else {
+            at = chunk.len();
         }
-        at = next.at;
-        used = answer_line(held, txns, locks, versions, out, used);
-        held = Lines::new();
     }
     io::write_all(STDOUT_FILENO, &out[..used]);
     held
@@ -135,9 +149,9 @@ fn run(txns: &mut [u64], locks: &mut [u64], versions: &mut [u64]) {
 }
 
 fn main() {
-    let mut txns = [0u64; 82];
-    let mut locks = [0u64; 192];
-    let mut versions = [0u64; 2112];
+    let mut txns = [0u64; TXN_WORDS];
+    let mut locks = [0u64; LOCK_WORDS];
+    let mut versions = [0u64; VERSION_WORDS];
     fresh::fresh(&mut txns, &mut locks, &mut versions);
     run(&mut txns, &mut locks, &mut versions);
 }

@@ -1,6 +1,8 @@
--- An answer is at most 84 bytes. Assumes nothing.
+-- A call is made and its answer printed, else `bad`; an answer is at most 84 bytes. Assumes nothing.
 use native.Mathlib.Omega.{arith}
+use Rattle.rules.specs.Tables.{Tables, tables}
 use Rattle.script.proofs.Decimals.{length-answerLine}
+use Rattle.runner.proofs.Replied.{wrote-as, call-reply, call-after, bad-reply, bad-after}
 use borrow.Author.Needs.{needs}
 use Rattle.runner.proofs.respond.Statement.{statement}
 use Rattle.runner.proofs.respond.Tie as tie
@@ -18,7 +20,12 @@ same-length : tie.Need-same-length
 same-length c = search needs
 
 returns : tie.Need-returns
-returns c = search needs
+returns c =
+    let a = c .before .before .before .before .before .before .before .before .before .before .args in
+    let G : Tables = tables (a .txns .now) (a .locks .now) (a .versions .now) in
+    let q = c .before .before .before .before .enum-told .given .1 in
+    let w = c .before .before .print-bad .ensures in
+    (omega (arith, w .index), (wrote-as (bad-reply G q) w, bad-after G q))
 
 call-requires : tie.Need-call-requires
 call-requires c κs = search needs
@@ -39,7 +46,13 @@ same-length-5 : tie.Need-same-length-5
 same-length-5 c = search needs
 
 returns-2 : tie.Need-returns-2
-returns-2 c = omega (arith, c .before .before .print .ensures .index, length-answerLine (c .before .before .before .before .before .before .before .before .before .before .call .result))
+returns-2 c =
+    let a = c .before .before .before .before .before .before .before .before .before .before .before .before .before .before .before .before .before .before .before .before .before .args in
+    let G : Tables = tables (a .txns .now) (a .locks .now) (a .versions .now) in
+    let q = c .before .before .before .before .before .before .before .before .before .before .before .before .before .before .before .parsed .given .1 in
+    let e = c .before .before .before .before .before .before .before .before .before .before .call .ensures in
+    let w = c .before .before .print .ensures in
+    (omega (arith, w .index, length-answerLine (c .before .before .before .before .before .before .before .before .before .before .call .result)), (wrote-as (call-reply _ _ _ _ _ G q e) w, call-after _ _ _ _ _ G q e))
 
 pub respond-spec : {M : Type 1} → statement M
 respond-spec =

@@ -1,6 +1,8 @@
 -- What is used fits. Assumes nothing.
 use mathlib.Core.Path.{sym}
 use lib.Seq.{length-take-le}
+use native.Mathlib.Omega.{arith}
+use Rattle.runner.proofs.Replied.{no-room, some-room}
 use borrow.Author.Needs.{needs}
 use Rattle.runner.proofs.room.Statement.{statement}
 use Rattle.runner.proofs.room.Tie as tie
@@ -15,10 +17,10 @@ write-all-requires : tie.Need-write-all-requires
 write-all-requires c κs = search needs
 
 returns : tie.Need-returns
-returns c = search needs
+returns c = (omega arith, no-room _ _ (omega arith))
 
 returns-2 : tie.Need-returns-2
-returns-2 c = search needs
+returns-2 c = (omega arith, some-room _ _ (omega arith))
 
 pub room-spec : {M : Type 1} → statement M
 room-spec =

@@ -1,0 +1,2 @@
+-- Laws of the runner's replies.
+pub mod Replied

@@ -1,0 +1,2 @@
+-- What the runner replies, and where.
+pub mod Replies
