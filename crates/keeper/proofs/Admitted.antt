@@ -25,11 +25,11 @@ use Rattle.rules.proofs.Tests.{true-is, is-true, and-left, not-use}
 use Rattle.rules.proofs.Equal.{good→Good, Good→good}
 use Rattle.rules.proofs.Steps.{step-good, step-bad}
 use Rattle.rules.proofs.Callers.{caller-in, is-query, is-update}
-use Rattle.keeper.specs.Verdicts.{Rows, Ended, Committed, beginOf, begunBy, callerOf, leaverOf, quitterOf}
-use Rattle.keeper.specs.declared.judge.Caller.{Caller}
-use Rattle.keeper.specs.declared.judge.Caller.the-variants as callers
-use Rattle.keeper.specs.declared.judge.Leaver.{Leaver}
-use Rattle.keeper.specs.declared.judge.Leaver.the-variants as leavers
+use Rattle.acts.specs.Verdicts.{Rows, Ended, Committed, beginOf, begunBy, callerOf, leaverOf, quitterOf}
+use Rattle.acts.specs.declared.judge.Caller.{Caller}
+use Rattle.acts.specs.declared.judge.Caller.the-variants as callers
+use Rattle.acts.specs.declared.judge.Leaver.{Leaver}
+use Rattle.acts.specs.declared.judge.Leaver.the-variants as leavers
 
 -- the test of all tables passed, or not
 pub admitted : (G : Tables) (r : Bool) → r ≡ good base G → not r ≡ false → Good base G

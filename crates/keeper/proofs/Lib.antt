@@ -1,5 +1,2 @@
--- Laws of the keeper's parts.
-pub mod Founds
+-- Laws of the six calls.
 pub mod Admitted
-pub mod Decided
-pub mod Conflicts

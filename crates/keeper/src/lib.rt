@@ -3,14 +3,22 @@
 // No call has a `requires`. Each says, for every input whatever, its four answer numbers and every
 // word of the three tables afterwards, by one equation with the rules' `step`. Each first tests all
 // tables, then judges without changing a word, then changes the tables once.
-mod access;
-mod begins;
-mod cells;
-mod ends;
-mod judge;
-
-use judge::Caller;
-use judge::Leaver;
+use acts::BAD_TABLES;
+use acts::CLOCK_SPENT;
+use acts::Caller;
+use acts::EXCLUSIVE;
+use acts::GRANTED;
+use acts::Leaver;
+use acts::QUERY;
+use acts::QUERY_MAY_NOT_WRITE;
+use acts::SHARED;
+use acts::STILL_WAITING;
+use acts::TO_READ;
+use acts::TO_WRITE;
+use acts::UNKNOWN_ITEM;
+use acts::UNKNOWN_TRANSACTION;
+use acts::UPDATE;
+use acts::refusal;
 use names::Answer;
 use names::NextStamp;
 use names::Stamp;
@@ -21,57 +29,6 @@ ghost use Rattle.rules.specs.Answers.{outcome, beginUpdate, beginQuery};
 ghost use Rattle.rules.specs.Answers.{read as call·read, write as call·write, commit as call·commit, abort as call·abort};
 ghost use Rattle.rules.specs.Step.{step};
 
-// The codes of an answer.
-pub const GRANTED: u64 = 0;
-
-pub const WAIT: u64 = 1;
-
-pub const DEADLOCK: u64 = 2;
-
-pub const UNKNOWN_TRANSACTION: u64 = 3;
-
-pub const UNKNOWN_ITEM: u64 = 4;
-
-pub const QUERY_MAY_NOT_WRITE: u64 = 5;
-
-pub const STILL_WAITING: u64 = 6;
-
-pub const NO_SLOT: u64 = 7;
-
-pub const NUMBERS_SPENT: u64 = 8;
-
-pub const CLOCK_SPENT: u64 = 9;
-
-pub const BAD_TABLES: u64 = 10;
-
-// Kinds of transactions and of locks, as the tables have them.
-const UPDATE: u64 = 0;
-
-const QUERY: u64 = 1;
-
-const NO_LOCK: u64 = 0;
-
-const SHARED: u64 = 1;
-
-const EXCLUSIVE: u64 = 2;
-
-// What an update asks for.
-const TO_READ: u64 = 0;
-
-const TO_WRITE: u64 = 1;
-
-// What is not named is 0.
-fn refusal(code: u64) -> Answer
-    ensures { λ r. ⌜ r ≡ record { code = code; value = 0; number = 0; looked = 0 } ⌝ }
-{
-    Answer {
-        code,
-        value: 0,
-        number: 0,
-        looked: 0,
-    }
-}
-
 // Begins an update: the answer's number is its number.
 pub fn begin_update(txns: &mut [u64], locks: &mut [u64], versions: &mut [u64]) -> Answer
     ensures { λ r. ⌜ outcome r (now (txns .exit)) (now (locks .exit)) (now (versions .exit)) ≡ step base beginUpdate (tables (now (txns .entry)) (now (locks .entry)) (now (versions .entry))) ⌝ }
@@ -79,7 +36,7 @@ pub fn begin_update(txns: &mut [u64], locks: &mut [u64], versions: &mut [u64]) -
     if !tables::good(&txns[..], &locks[..], &versions[..]) {
         return refusal(BAD_TABLES);
     }
-    begins::begin(txns, UPDATE, Stamp::FIRST)
+    acts::begin(txns, UPDATE, Stamp::FIRST)
 }
 
 // Begins a query, which reads what is committed now.
@@ -90,7 +47,7 @@ pub fn begin_query(txns: &mut [u64], locks: &mut [u64], versions: &mut [u64]) ->
         return refusal(BAD_TABLES);
     }
     let now = rows::clock(&txns[..]);
-    begins::begin(txns, QUERY, now)
+    acts::begin(txns, QUERY, now)
 }
 
 // Reads an item.
@@ -106,7 +63,7 @@ pub fn read(
     if !tables::good(&txns[..], &locks[..], &versions[..]) {
         return refusal(BAD_TABLES);
     }
-    let caller = judge::who_calls(&txns[..], number, item, SHARED);
+    let caller = acts::who_calls(&txns[..], number, item, SHARED);
     match caller {
         Caller::Unknown => refusal(UNKNOWN_TRANSACTION),
         Caller::NoItem => refusal(UNKNOWN_ITEM),
@@ -121,7 +78,7 @@ pub fn read(
                 looked: choice.looked,
             }
         }
-        Caller::Update(slot, x) => access::access(txns, locks, &versions[..], slot, x, TO_READ, 0),
+        Caller::Update(slot, x) => acts::access(txns, locks, &versions[..], slot, x, TO_READ, 0),
     }
 }
 
@@ -139,14 +96,14 @@ pub fn write(
     if !tables::good(&txns[..], &locks[..], &versions[..]) {
         return refusal(BAD_TABLES);
     }
-    let caller = judge::who_calls(&txns[..], number, item, EXCLUSIVE);
+    let caller = acts::who_calls(&txns[..], number, item, EXCLUSIVE);
     match caller {
         Caller::Unknown => refusal(UNKNOWN_TRANSACTION),
         Caller::NoItem => refusal(UNKNOWN_ITEM),
         Caller::Waiting => refusal(STILL_WAITING),
         Caller::Query(_, _) => refusal(QUERY_MAY_NOT_WRITE),
         Caller::Update(slot, x) => {
-            access::access(txns, locks, &versions[..], slot, x, TO_WRITE, value)
+            acts::access(txns, locks, &versions[..], slot, x, TO_WRITE, value)
         }
     }
 }
@@ -158,12 +115,12 @@ pub fn commit(txns: &mut [u64], locks: &mut [u64], versions: &mut [u64], number:
     if !tables::good(&txns[..], &locks[..], &versions[..]) {
         return refusal(BAD_TABLES);
     }
-    let leaver = judge::who_commits(&txns[..], number);
+    let leaver = acts::who_commits(&txns[..], number);
     match leaver {
         Leaver::Unknown => refusal(UNKNOWN_TRANSACTION),
         Leaver::Waiting => refusal(STILL_WAITING),
         Leaver::Query(slot) => {
-            ends::end_query(txns, versions, slot);
+            acts::end_query(txns, versions, slot);
             refusal(GRANTED)
         }
         Leaver::Update(slot) => {
@@ -171,7 +128,7 @@ pub fn commit(txns: &mut [u64], locks: &mut [u64], versions: &mut [u64], number:
             let NextStamp::At(stamp) = next else {
                 return refusal(CLOCK_SPENT);
             };
-            ends::commit_update(txns, locks, versions, slot, stamp);
+            acts::commit_update(txns, locks, versions, slot, stamp);
             Answer {
                 code: GRANTED,
                 value: 0,
@@ -189,12 +146,12 @@ pub fn abort(txns: &mut [u64], locks: &mut [u64], versions: &mut [u64], number: 
     if !tables::good(&txns[..], &locks[..], &versions[..]) {
         return refusal(BAD_TABLES);
     }
-    let leaver = judge::who_aborts(&txns[..], number);
+    let leaver = acts::who_aborts(&txns[..], number);
     match leaver {
         Leaver::Unknown => refusal(UNKNOWN_TRANSACTION),
         Leaver::Waiting => refusal(STILL_WAITING),
         Leaver::Query(slot) => {
-            ends::end_query(txns, versions, slot);
+            acts::end_query(txns, versions, slot);
             refusal(GRANTED)
         }
         Leaver::Update(slot) => {

@@ -12,7 +12,7 @@ use Rattle.rules.specs.Good.{Good}
 use Rattle.rules.specs.Answers.{Outcome, outcome, beginUpdate, beginQuery, read, write, commit, abort}
 use Rattle.rules.specs.Step.{act, begin, queryRead}
 use Rattle.rules.proofs.Steps.{step-good, step-bad}
-use Rattle.keeper.specs.Verdicts.{Done, begunBy, beginDone, callerOf, leaverOf, quitterOf}
+use Rattle.acts.specs.Verdicts.{Done, begunBy, beginDone, callerOf, leaverOf, quitterOf}
 use Rattle.keeper.proofs.Admitted.{admitted, turned-away, rows-of, passed, CallerSays, caller-says, LeaverSays, leaver-says, quitter-says}
 use Rattle.keeper.proofs.Admitted.{begins-is, readOut, read-is, writeOut, write-is, commitOut, commit-is, abortOut, abort-is}
 use Rattle.keeper.proofs.Admitted.{ended-is, committed-is, aborted-is, next-at, next-spent}

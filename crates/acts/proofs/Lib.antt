@@ -1,0 +1,4 @@
+-- Laws of the acts.
+pub mod Founds
+pub mod Decided
+pub mod Conflicts

@@ -1,0 +1,34 @@
+-- The lock decision's words: what is asked, what is held, what is decided. Assumes nothing.
+use Prim.Native.Nat.{ℕ, zero, suc, _^_, _≤_, _<_}
+use mathlib.Core.Bool.{Bool}
+use Rattle.names.specs.Sizes.{base}
+use Rattle.rules.specs.Tables.{Lock}
+use Rattle.rules.specs.Locks.{Asked, toRead, toWrite, Held, exclusively, sharing, nothing, Decision}
+use Rattle.rules.specs.Locks.{ownValue, replaceValue, newestValue, exchangeLock, takeShared, takeExclusive, conflict}
+use Rattle.acts.specs.declared.cells.Cell.{Cell}
+use Rattle.acts.specs.declared.cells.Cell.the-variants as cells
+
+-- 0 asks to read, 1 to write
+abbrev pub askedOf : ℕ → Asked
+askedOf zero = toRead
+askedOf (suc n) = toWrite
+
+-- 0 holds exclusively, 1 shares, 2 holds nothing
+abbrev pub heldOf : ℕ → Held
+heldOf zero = exclusively
+heldOf (suc zero) = sharing
+heldOf (suc (suc n)) = nothing
+
+abbrev pub cellOf : Decision → Cell
+cellOf ownValue = cells.OwnValue
+cellOf replaceValue = cells.ReplaceValue
+cellOf newestValue = cells.NewestValue
+cellOf exchangeLock = cells.ExchangeLock
+cellOf takeShared = cells.TakeShared
+cellOf takeExclusive = cells.TakeExclusive
+cellOf conflict = cells.Conflict
+
+-- a lock whose holders are slots
+pub record Slots (h : Lock) : Type 0 where
+  pub shared : h .shared < 2 ^ base .slots
+  pub exclusive : h .exclusive ≤ base .slots

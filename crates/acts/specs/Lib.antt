@@ -1,0 +1,3 @@
+-- What the acts are proved against, besides the rules.
+pub mod Verdicts
+pub mod Cells
