@@ -1,20 +1,20 @@
 -- Words of slots: the bits of an and, an or, of one word without another, of a single slot; how many bits. Assumes nothing.
 use Prim.Native.Nat.{ℕ, _+_, _-_, _*_, _/_, _%_, _^_, _≤_, _<_}
-use mathlib.Core.Path.{_≡_, refl, sym, ap, _∙_}
+use mathlib.Core.Path.{_≡_, refl, sym, ap, _∙_, subst}
 use mathlib.Core.Logic.{_≢_, _⊎_, inl, inr, ⊎-elim}
 use mathlib.Core.Bool.{Bool, true, false, _&&_, _||_, not}
 use native.Mathlib.Omega.{arith}
-use native.Mathlib.Nat.{eq-or-lt-of-le, mod-lt, add-mul, one-mul, zero-mul, zero-add}
+use native.Mathlib.Nat.{eq-or-lt-of-le, mod-lt, add-mul, one-mul, zero-mul}
 use lib.Bits.{bitAnd, bitOr, bitXor, and-shr, and-mod, or-shr, or-mod, xor-shr, xor-mod, and-high}
 use lib.Bits.{xor-add-and, xor-zero-r, or-disjoint, and-le-l}
 use lib.Pow.{pow-pos, pow-add, split, shl-exact}
 use lib.Count.{ones, ones-cat, ones-step}
 use lib.Dec.{T, eqb, ltb, eqb→eq}
-use borrow.Author.Tests.{eqb-true, eqb-false, ltb-true, ltb-false}
-use Rattle.rules.specs.Words.{bit, withBit, someBelow}
+use borrow.Author.Tests.{eqb-false, ltb-true, ltb-false}
+use Rattle.rules.specs.Words.{bit, someBelow}
 use Rattle.rules.proofs.Tests.{is-false, true-is, false-is, eq-make}
 use Rattle.rules.proofs.Counts.{someBelow→, →someBelow}
-use Rattle.rules.proofs.Bits.{bit-none, bit-below, no-bits, withBit-there}
+use Rattle.rules.proofs.Bits.{bit-none, bit-below, no-bits, one-bit-at}
 
 -- ---- digits
 digit : (w i : ℕ) → (w / 2 ^ i % 2 ≡ 0) ⊎ (w / 2 ^ i % 2 ≡ 1)
@@ -92,17 +92,8 @@ unfolding bit
 bit-on w i d = eq-make (w / 2 ^ i % 2) 1 (omega arith)
 
 -- ---- the word of one slot
-alone : (k : ℕ) → withBit 0 k ≡ 2 ^ k
-unfolding withBit
-alone k = rw (bit-none k) (zero-add (2 ^ k))
-
 pub alone-only : (k i : ℕ) → T (bit (2 ^ k) i) → i ≡ k
-alone-only k i t = go (eqb i k) refl
-  where
-    go : (c : Bool) → eqb i k ≡ c → i ≡ k
-    go true e = eqb-true i k e
-    go false e =
-        absurd (false-is (ap (λ (w : ℕ). bit w i) (sym (alone k)) ∙ withBit-there 0 k i (eqb-false i k e) ∙ bit-none i) t)
+alone-only k i t = sym (eqb→eq k i (subst T (one-bit-at k i) t))
 
 -- a shift by less than a word's width loses nothing
 pub shifted : (k : ℕ) → k < 64 → 1 * 2 ^ k % 2 ^ 64 ≡ 2 ^ k

@@ -1,21 +1,21 @@
 -- Words set to 0 one by one, the counts of version rows set to 1 row by row, and the tables that come of it. Assumes nothing.
-use Prim.Native.Nat.{ℕ, zero, suc, _+_, _-_, _*_, _/_, _%_, _≤_, _<_}
+use Prim.Native.Nat.{ℕ, zero, suc, _+_, _*_, _/_, _%_, _≤_, _<_}
 use mathlib.Core.Path.{_≡_, refl, sym, ap, _∙_, subst}
 use mathlib.Core.Logic.{_≢_, _⊎_, inl, inr}
 use mathlib.Core.Bool.{Bool, true, false, not, cond}
-use mathlib.Core.List.{List, [], _∷_}
+use mathlib.Core.List.{List, _∷_}
 use native.Mathlib.Omega.{arith}
-use lib.ListN.{length, getD, set, drop, replicate, length-set, length-replicate, length-drop}
+use lib.ListN.{length, getD, set, drop, replicate, length-set, length-replicate}
 use lib.Seq.{ext-getD, getD-set-same, getD-set-other, getD-drop}
 use lib.Dec.{T, eqb, eqb→eq}
 use borrow.Author.Tests.{not-true, not-false}
 use Rattle.names.specs.Sizes.{base}
-use Rattle.rules.specs.Words.{row, mapRows}
+use Rattle.rules.specs.Words.{row}
 use Rattle.rules.specs.Tables.{Tables, tables, txnWords, lockWords, versionRow, versionWords, fresh}
 use Rattle.rules.specs.Tested.{sizesExact}
 use Rattle.rules.proofs.Tests.{same?, and-left, and-right, true-is}
-use Rattle.rules.proofs.Rows.{length-mapRows, row-mapRows, row-word}
-use Rattle.rules.proofs.Fresh.{zeros}
+use Rattle.rules.proofs.Rows.{row-word}
+use Rattle.rules.proofs.Fresh.{zeros, withCounts, length-withCounts, row-withCounts}
 use Rattle.fresh.specs.Made.{counted, freshened}
 
 -- ---- the words below k are 0
@@ -47,67 +47,66 @@ all-zeroed before after k b r =
 pub zeroed-length : (l z : List ℕ) → z ≡ replicate (length l) 0 → length z ≡ length l
 zeroed-length l z e = ap length e ∙ length-replicate {A = ℕ} (length l) 0
 
+-- ---- the words of a version row, and those behind its count
+abbrev rowWords : ℕ
+rowWords = versionRow base
+
+abbrev behind : ℕ
+behind = 2 * base .places
+
 -- ---- the rows below x have the count 1, and no other word is changed
 pub record Counted (before after : List ℕ) (x : ℕ) : Type 0 where
   pub within : x ≤ base .items
   pub size : length after ≡ versionWords base
-  pub done : (y : ℕ) → y < x → getD after (versionRow base * y) 0 ≡ 1
-  pub rest : (y k : ℕ) → k < 32 → getD after (versionRow base * y + suc k) 0 ≡ getD before (versionRow base * y + suc k) 0
+  pub done : (y : ℕ) → y < x → getD after (rowWords * y) 0 ≡ 1
+  pub rest : (y k : ℕ) → k < behind → getD after (rowWords * y + suc k) 0 ≡ getD before (rowWords * y + suc k) 0
 
 pub none-counted : (l : List ℕ) → length l ≡ versionWords base → Counted l l 0
 none-counted l e = record { within = omega arith; size = e; done = λ y b. absurd (omega arith); rest = λ y k b. refl }
 
-pub one-counted : (before after : List ℕ) (x : ℕ) → x < base .items → Counted before after x → Counted before (set after (33 * x) 1) (x + 1)
+pub one-counted : (before after : List ℕ) (x : ℕ) → x < base .items → Counted before after x → Counted before (set after (rowWords * x) 1) (x + 1)
 one-counted before after x i r =
     record {
       within = omega arith;
-      size = length-set after (33 * x) 1 ∙ r .size;
+      size = length-set after (rowWords * x) 1 ∙ r .size;
       done = λ y b. go y b (same? y x);
-      rest = λ y k b. getD-set-other after (33 * x) (33 * y + suc k) 1 0 (λ q. omega arith) ∙ r .rest y k b;
+      rest = λ y k b. getD-set-other after (rowWords * x) (rowWords * y + suc k) 1 0 (λ q. omega arith) ∙ r .rest y k b;
     }
   where
-    go : (y : ℕ) → y < x + 1 → (y ≡ x) ⊎ (y ≢ x) → getD (set after (33 * x) 1) (33 * y) 0 ≡ 1
+    go : (y : ℕ) → y < x + 1 → (y ≡ x) ⊎ (y ≢ x) → getD (set after (rowWords * x) 1) (rowWords * y) 0 ≡ 1
     go y b (inl q) =
-        subst (λ (z : ℕ). getD (set after (33 * x) 1) (33 * z) 0 ≡ 1) (sym q)
-        (getD-set-same after (33 * x) 1 0 (let s = r .size in omega arith))
-    go y b (inr d) = getD-set-other after (33 * x) (33 * y) 1 0 (λ q. d (omega arith)) ∙ r .done y (omega arith)
-
-long : (x : ℕ) (r : List ℕ) → length r ≡ versionRow base → length (1 ∷ drop 1 r) ≡ versionRow base
-long x r e = let a = length-drop 1 r in omega arith
-
-pub length-counted : (l : List ℕ) → length l ≡ versionWords base → length (counted base l) ≡ versionWords base
-unfolding counted
-length-counted l e = length-mapRows (versionRow base) (λ x r. 1 ∷ drop 1 r) long (base .items) 0 l (omega arith) ∙ e
-
-row-is : (l : List ℕ) → length l ≡ versionWords base → (y : ℕ) → y < base .items → row 33 y (counted base l) ≡ 1 ∷ drop 1 (row 33 y l)
-unfolding counted
-row-is l e y i = row-mapRows 33 (λ x r. 1 ∷ drop 1 r) long (base .items) 0 l (omega arith) y i
+        subst (λ (z : ℕ). getD (set after (rowWords * x) 1) (rowWords * z) 0 ≡ 1) (sym q)
+        (getD-set-same after (rowWords * x) 1 0 (let s = r .size in omega arith))
+    go y b (inr d) = getD-set-other after (rowWords * x) (rowWords * y) 1 0 (λ q. d (omega arith)) ∙ r .done y (omega arith)
 
 pub all-counted :
     (before after : List ℕ) (x : ℕ) → length before ≡ versionWords base → base .items ≤ x → Counted before after x → after ≡ counted base before
+unfolding counted
 all-counted before after x e b r =
-    ext-getD 0 after (counted base before) (r .size ∙ sym (length-counted before e))
-    (λ j i. word j (let s = r .size in omega arith) (j % 33) refl)
+    ext-getD 0 after (counted base before) (r .size ∙ sym (length-withCounts base before e))
+    (λ j i. word j (let s = r .size in omega arith) (j % rowWords) refl)
   where
-    new : (j : ℕ) → j < versionWords base → (k : ℕ) → k < 33 → getD (counted base before) (33 * (j / 33) + k) 0 ≡ getD (1 ∷ drop 1 (row 33 (j / 33) before)) k 0
+    new :
+        (j : ℕ) → j < versionWords base → (k : ℕ) → k < rowWords
+        → getD (counted base before) (rowWords * (j / rowWords) + k) 0 ≡ getD (1 ∷ drop 1 (row rowWords (j / rowWords) before)) k 0
     new j i k h =
-        sym (row-word 33 (j / 33) k (counted base before) h)
-        ∙ ap (λ (m : List ℕ). getD m k 0) (row-is before e (j / 33) (omega arith))
+        sym (row-word rowWords (j / rowWords) k (counted base before) h)
+        ∙ ap (λ (m : List ℕ). getD m k 0) (row-withCounts base before e (j / rowWords) (omega arith))
 
-    word : (j : ℕ) → j < versionWords base → (k : ℕ) → j % 33 ≡ k → getD after j 0 ≡ getD (counted base before) j 0
+    word : (j : ℕ) → j < versionWords base → (k : ℕ) → j % rowWords ≡ k → getD after j 0 ≡ getD (counted base before) j 0
     word j i zero q =
-        let p : 33 * (j / 33) ≡ j = omega arith in
-        let n : 33 * (j / 33) + 0 ≡ j = omega arith in
-        subst (λ (m : ℕ). getD after m 0 ≡ 1) p (r .done (j / 33) (omega arith))
+        let p : rowWords * (j / rowWords) ≡ j = omega arith in
+        let n : rowWords * (j / rowWords) + 0 ≡ j = omega arith in
+        subst (λ (m : ℕ). getD after m 0 ≡ 1) p (r .done (j / rowWords) (omega arith))
         ∙ sym (subst (λ (m : ℕ). getD (counted base before) m 0 ≡ 1) n (new j i 0 (omega arith)))
     word j i (suc k) q =
-        let h : k < 32 = omega arith in
-        let p : 33 * (j / 33) + suc k ≡ j = omega arith in
+        let h : k < behind = omega arith in
+        let p : rowWords * (j / rowWords) + suc k ≡ j = omega arith in
         let n : 1 + k ≡ suc k = omega arith in
         subst (λ (m : ℕ). getD after m 0 ≡ getD (counted base before) m 0) p
-        (r .rest (j / 33) k h
-        ∙ sym (row-word 33 (j / 33) (suc k) before (omega arith))
-        ∙ sym (getD-drop 1 (row 33 (j / 33) before) k 0 ∙ ap (λ (m : ℕ). getD (row 33 (j / 33) before) m 0) n)
+        (r .rest (j / rowWords) k h
+        ∙ sym (row-word rowWords (j / rowWords) (suc k) before (omega arith))
+        ∙ sym (getD-drop 1 (row rowWords (j / rowWords) before) k 0 ∙ ap (λ (m : ℕ). getD (row rowWords (j / rowWords) before) m 0) n)
         ∙ sym (new j i (suc k) (omega arith)))
 
 -- ---- the whole
@@ -156,5 +155,5 @@ filled G r e h t l z v p q a c = (
     lo : l ≡ replicate (lockWords base) 0
     lo = q ∙ ap (λ (n : ℕ). replicate n 0) (x .locksExact)
 
-    ve : v ≡ mapRows (base .items) (versionRow base) (λ x r. 1 ∷ drop 1 r) 0 (replicate (versionWords base) 0)
-    ve = c ∙ ap (λ (m : List ℕ). mapRows (base .items) (versionRow base) (λ x r. 1 ∷ drop 1 r) 0 m) (a ∙ ap (λ (n : ℕ). replicate n 0) (x .versionsExact))
+    ve : v ≡ withCounts base (replicate (versionWords base) 0)
+    ve = c ∙ ap (λ (m : List ℕ). withCounts base m) (a ∙ ap (λ (n : ℕ). replicate n 0) (x .versionsExact))

@@ -1,24 +1,23 @@
 -- Laws of tables that belong to the crate `rules`: what a start reads, locks that others keep, fresh values. Assumes nothing.
-use Prim.Native.Nat.{ℕ, suc, _+_, _*_, _≤_, _<_}
+use Prim.Native.Nat.{ℕ, suc, _+_, _≤_, _<_}
 use mathlib.Core.Path.{_≡_, refl, sym, ap, _∙_, subst}
 use mathlib.Core.Logic.{_≢_, _⊎_, inl, inr}
 use mathlib.Core.Bool.{Bool, true, false, _||_, cond}
 use mathlib.Core.List.{List, [], _∷_, List·Memᴰ}
 use native.Mathlib.Omega.{arith}
-use lib.ListN.{length, getD, set, drop, replicate, length-set, length-drop, length-replicate}
-use lib.Seq.{getD-set-same, getD-set-other, getD-drop}
+use lib.ListN.{length, getD, set, length-set}
+use lib.Seq.{getD-set-same, getD-set-other}
 use lib.Dec.{T, eqb, eqb→eq, eqb·zero-suc}
 use borrow.Author.Tests.{ne-eqb, lt-leb, eqb-true}
 use Rattle.names.specs.declared.Sizes.{Sizes}
-use Rattle.rules.specs.Words.{row, bit, withBit, withoutBit, mapRows}
-use Rattle.rules.specs.Tables.{Tables, txnWords, versionRow, versionWords, lastNumber, clock, Txn, txn, setTxn, setAwaited, noTxn, liveQuery, starts}
+use Rattle.rules.specs.Words.{row, bit, withBit, withoutBit}
+use Rattle.rules.specs.Tables.{Tables, txnWords, versionRow, lastNumber, clock, Txn, txn, setTxn, setAwaited, noTxn, liveQuery, starts}
 use Rattle.rules.specs.Tables.{Lock, lock, holds, holdsShared, holdsExclusive, released, release, fresh}
 use Rattle.rules.specs.Versions.{Version, noVersion, pairs, versionsIn, versionsOf, newest, choice, kept, keptFrom, rewritten}
 use Rattle.rules.specs.Good.{Good}
 use Rattle.rules.specs.Step.{sharedToo, replaced, taken, begun, withNew, committed, ended, aborted}
 use Rattle.rules.proofs.Tests.{or-cases, or-left, or-right, is-false, true-is, same?}
 use Rattle.rules.proofs.Bits.{withBit-here, withBit-there, withoutBit-there}
-use Rattle.rules.proofs.Rows.{row-mapRows, row-word}
 use Rattle.rules.proofs.Views.{awaiting, setAwaited-row, lastNumber-setTxn, txn-setTxn, txn-setTxn-other, txn-top, lock-release}
 use Rattle.rules.proofs.Choice.{choice-miss}
 use Rattle.rules.proofs.Trim.{kept-choice}
@@ -28,7 +27,7 @@ use Rattle.rules.proofs.Carried.{reads-first}
 use Rattle.rules.proofs.Awaits.{awaiting-same}
 use Rattle.rules.proofs.Ends.{gone-here, gone-there, gone-lives, gone-room}
 use Rattle.rules.proofs.Decisions.{exclusive-one}
-use Rattle.rules.proofs.Fresh.{zeros}
+use Rattle.rules.proofs.Fresh.{zeros, fresh-row, fresh-row-zero}
 
 -- ---- rows: number, kind and start of a slot as they were
 pub record SameRow (t t′ : List ℕ) (r : ℕ) : Type 0 where
@@ -306,22 +305,6 @@ pub fresh-clock : (S : Sizes) → clock ((fresh S) .txns) ≡ 0
 unfolding fresh
 fresh-clock S = zeros (txnWords S) 1
 
-pub fresh-newest : (S : Sizes) → 1 ≤ S .places → (x : ℕ) → x < S .items → newest S ((fresh S) .versions) x ≡ 0
-unfolding newest versionsOf versionsIn pairs fresh
-fresh-newest S room x i =
-    ap (λ (r : List ℕ). (getD (versionsIn r) 0 noVersion) .value) row-is
-    ∙ getD-drop 1 (row (versionRow S) x words) 1 0
-    ∙ row-word (versionRow S) x 2 words (omega arith)
-    ∙ zeros (versionWords S) (versionRow S * x + 2)
-  where
-    words : List ℕ
-    words = replicate (versionWords S) 0
-
-    long : (x : ℕ) (r : List ℕ) → length r ≡ versionRow S → length (1 ∷ drop 1 r) ≡ versionRow S
-    long x r e = let a = length-drop 1 r in omega arith
-
-    row-is :
-        row (versionRow S) x (mapRows (S .items) (versionRow S) (λ x r. 1 ∷ drop 1 r) 0 words) ≡ 1 ∷ drop 1 (row (versionRow S) x words)
-    row-is =
-        row-mapRows (versionRow S) (λ x r. 1 ∷ drop 1 r) long (S .items) 0 words
-        (let a : length {A = ℕ} words ≡ versionWords S = length-replicate {A = ℕ} (versionWords S) 0 in omega arith) x i
+pub fresh-newest : (S : Sizes) (x : ℕ) → x < S .items → newest S ((fresh S) .versions) x ≡ 0
+unfolding newest versionsOf versionsIn pairs
+fresh-newest S x i = ap (λ (r : List ℕ). (getD (versionsIn r) 0 noVersion) .value) (fresh-row S x i) ∙ fresh-row-zero S x 1

@@ -187,7 +187,7 @@ module _ (S : Sizes) (enough : S .slots ≤ S .places) where
     after-fresh =
         record {
           told = tt;
-          now = λ x b. sym (fresh-newest S room x b);
+          now = λ x b. sym (fresh-newest S x b);
           named = λ n. within-none _;
           once = tt;
           unplaced = λ n h. tt;

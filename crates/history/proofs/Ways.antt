@@ -1,9 +1,9 @@
 -- Every way that a call can go on good tables, with what is known then: one constructor for each answer and change of the tables. Each
 -- theorem about runs is then a case for each way. (It belongs to the crate `rules`.) Assumes nothing.
 use Prim.Native.Nat.{ℕ, _+_, _<_}
-use mathlib.Core.Path.{_≡_, sym}
-use mathlib.Core.Logic.{_≢_, _⊎_, inl, inr}
-use mathlib.Core.Bool.{_&&_, _||_, not}
+use mathlib.Core.Path.{_≡_}
+use mathlib.Core.Logic.{_≢_}
+use mathlib.Core.Bool.{not}
 use mathlib.Core.List.{List}
 use native.Mathlib.Omega.{arith}
 use lib.Dec.{T, eqb, leb}
@@ -13,18 +13,18 @@ use Rattle.names.specs.Sizes.{lastWord}
 use Rattle.rules.specs.Tables.{Tables, lastNumber, clock, txn, setAwaited, liveUpdate, liveQuery, freeSlot, slotOf}
 use Rattle.rules.specs.Tables.{anUpdate, aQuery, noLock, sharedLock, exclusiveLock, lock, holds, holdsShared, holdsExclusive}
 use Rattle.rules.specs.Versions.{newest}
-use Rattle.rules.specs.Waits.{blocks, blocked, conflicts, circleAt}
+use Rattle.rules.specs.Waits.{circleAt}
 use Rattle.rules.specs.Good.{Good}
 use Rattle.rules.specs.Locks.{Asked, toRead, toWrite, Decision, decision, wanted}
 use Rattle.rules.specs.Answers.{Call, beginUpdate, beginQuery, read, write, commit, abort, Outcome, says, granted, refuses, code, Refusal}
 use Rattle.rules.specs.Answers.{wait, deadlock, unknownTransaction, unknownItem, queryMayNotWrite, stillWaiting, noSlot, numbersSpent, clockSpent, badTables}
 use Rattle.rules.specs.Step.{withTxns, begun, begin, conflicted, cleared, locked, replaced, sharedToo, taken, awaitsOther, carriedOut, access}
 use Rattle.rules.specs.Step.{queryRead, readBy, writeBy, committed, ended, commitBy, aborted, abortBy, act}
-use Rattle.rules.proofs.Tests.{and-both, or-cases, or-left, or-right, ne-make}
+use Rattle.rules.proofs.Tests.{or-right}
 use Rattle.rules.proofs.Steps.{cond-case}
 use Rattle.rules.proofs.Callers.{Caller, caller-in, Free, free-found, is-query, is-update}
 use Rattle.rules.proofs.Decisions.{Cell, ownCell, newestCell, shareCell, replaceCell, exchangeCell, excludeCell, readConflict, writeConflict}
-use Rattle.rules.proofs.Decisions.{cell, none-excludes, blocked-other}
+use Rattle.rules.proofs.Decisions.{cell, none-excludes, none-holds}
 
 -- no refusal has the code of a grant
 pub refusal-code : (r : Refusal) → code r ≢ granted
@@ -99,17 +99,6 @@ module _ (S : Sizes) (G : Tables) (g : Good S G) where
   conflict-way c s k x i u =
       cond-case (Way S G c) (circleAt S (setAwaited t s k x) l s) _ _ (λ e. refused deadlock (omega arith)) (λ e. waited s k x i u)
 
-  -- who does not block holds nothing
-  alone : (s x : ℕ) → x < S .items → (T (blocked S (lock l x) exclusiveLock s) → ⊥) → (r : ℕ) → r ≢ s → T (holds (lock l x) r) → ⊥
-  unfolding blocks conflicts holds
-  alone s x i f r d h =
-      f (blocked-other S (lock l x) exclusiveLock s .1
-      (r, g .lockGood x i .holders r h .0, and-both (not (eqb s r)) _ (ne-make s r (λ e. d (sym e))) (turned (or-cases (holdsShared (lock l x) r) _ h))))
-    where
-      turned : T (holdsShared (lock l x) r) ⊎ T (holdsExclusive (lock l x) r) → T (holdsExclusive (lock l x) r || (eqb exclusiveLock exclusiveLock && holdsShared (lock l x) r))
-      turned (inl k) = or-right (holdsExclusive (lock l x) r) _ k
-      turned (inr k) = or-left (holdsExclusive (lock l x) r) _ k
-
   abbrev asked : Asked → ℕ → ℕ → ℕ → Call
   asked toRead n x v = read n x
   asked toWrite n x v = write n x v
@@ -121,8 +110,8 @@ module _ (S : Sizes) (G : Tables) (g : Good S G) where
   cell-way n s x v U a d (shareCell h f) =
       readShared n s x U (none-excludes S G g x (U .known) s sharedLock (λ k. h (unfold holds in (or-right (holdsShared (lock l x) s) _ k))) f)
   cell-way n s x v U a d (replaceCell h) = wroteOwn n s x v U h
-  cell-way n s x v U a d (exchangeCell h f) = wroteTaken n s x v U (alone s x (U .known) f)
-  cell-way n s x v U a d (excludeCell h f) = wroteTaken n s x v U (alone s x (U .known) f)
+  cell-way n s x v U a d (exchangeCell h f) = wroteTaken n s x v U (none-holds S G g x (U .known) s f)
+  cell-way n s x v U a d (excludeCell h f) = wroteTaken n s x v U (none-holds S G g x (U .known) s f)
   cell-way n s x v U a d (readConflict h b) = conflict-way (read n x) s sharedLock x (U .caller .inside) (U .update)
   cell-way n s x v U a d (writeConflict h b) = conflict-way (write n x v) s exclusiveLock x (U .caller .inside) (U .update)
 

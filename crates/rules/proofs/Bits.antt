@@ -1,15 +1,15 @@
--- Bits of a word: one set or cleared, the others as they were; a word below a power of two. Assumes nothing.
+-- Bits of a word: one set or cleared, the others as they were; the word of one bit; a word below a power of two. Assumes nothing.
 use Prim.Native.Nat.{ℕ, zero, suc, _+_, _-_, _*_, _/_, _%_, _^_, _≤_, _<_}
 use mathlib.Core.Path.{_≡_, refl, sym, ap, _∙_, subst}
-use mathlib.Core.Logic.{_≢_, _⊎_, inl, inr}
+use mathlib.Core.Logic.{_≢_}
 use mathlib.Core.Bool.{Bool, true, false, cond}
 use native.Mathlib.Omega.{arith}
-use native.Mathlib.Nat.{div-eq-of-lt, pow-suc, add-comm, div-one, zero-div, lt-of-lt-of-le}
+use native.Mathlib.Nat.{div-eq-of-lt, pow-suc, zero-add, div-one, zero-div, lt-of-lt-of-le}
 use lib.Pow.{shr-shr, pow-mono}
-use lib.Dec.{T, eqb, leb, ltb}
-use borrow.Author.Tests.{eq-eqb, ne-eqb, eqb-true, eqb-false, leb-true, leb-false, ltb-true, ltb-false}
+use lib.Dec.{T, eqb, ltb}
+use borrow.Author.Tests.{eq-eqb, ne-eqb, eqb-true, eqb-false, ltb-true, ltb-false}
 use Rattle.rules.specs.Words.{bit, withBit, withoutBit}
-use Rattle.rules.proofs.Tests.{is-false, true-is}
+use Rattle.rules.proofs.Tests.{is-false}
 
 -- the lowest digit, and the others
 pub bit-zero : (h : ℕ) → bit h 0 ≡ eqb (h % 2) 1
@@ -113,11 +113,23 @@ withoutBit-there h i j d = go (bit h i) refl
     go true e = rw e (clear-there i j h e d)
     go false e = rw e refl
 
--- ---- a word that has bits below k only is below 2 ^ k, and the other way round
+-- ---- a word without bits, and the word of one bit
 pub bit-none : (b : ℕ) → bit 0 b ≡ false
 unfolding bit
 bit-none b = rw zero-div
 
+one-bit : (k : ℕ) → withBit 0 k ≡ 2 ^ k
+unfolding withBit
+one-bit k = rw (bit-none k) (zero-add (2 ^ k))
+
+pub one-bit-at : (k i : ℕ) → bit (2 ^ k) i ≡ eqb k i
+one-bit-at k i = ap (λ (w : ℕ). bit w i) (sym (one-bit k)) ∙ go (eqb k i) refl
+  where
+    go : (c : Bool) → eqb k i ≡ c → bit (withBit 0 k) i ≡ eqb k i
+    go true e = ap (bit (withBit 0 k)) (sym (eqb-true k i e)) ∙ withBit-here 0 k ∙ sym e
+    go false e = withBit-there 0 k i (λ q. eqb-false k i e (sym q)) ∙ bit-none i ∙ sym e
+
+-- ---- a word that has bits below k only is below 2 ^ k, and the other way round
 pub bit-below : (h b k : ℕ) → h < 2 ^ k → T (bit h b) → b < k
 unfolding bit
 bit-below h b k l t = go (ltb b k) refl

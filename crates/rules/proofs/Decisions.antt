@@ -281,6 +281,21 @@ module _ (S : Sizes) (G : Tables) (g : Good S G) (x : ℕ) (known : x < S .items
           let i : b < S .slots = g .lockGood x known .holders b (or-right (holdsShared h b) _ t) .0 in
           absurd (n (excludes-blocked S h s k (another-excludes S h s b i (λ q. m (subst (λ (c : ℕ). T (holdsExclusive h c)) (sym q) t)) t)))
 
+  -- without a conflict for exclusive, nobody but s holds it
+  pub none-holds :
+      (T (blocked S (lock (G .locks) x) exclusiveLock s) → ⊥) → (r : ℕ) → r ≢ s → T (holds (lock (G .locks) x) r) → ⊥
+  unfolding holds
+  none-holds n r d t =
+      ⊎-elim (λ a. n (shares-blocked S h s (another-shares S h s r i (λ q. d (sym q)) a)))
+      (λ a. n (excludes-blocked S h s exclusiveLock (another-excludes S h s r i (λ q. d (sym q)) a)))
+      (or-cases (holdsShared h r) (holdsExclusive h r) t)
+    where
+      h : Lock
+      h = lock (G .locks) x
+
+      i : r < S .slots
+      i = g .lockGood x known .holders r t .0
+
   -- without a conflict for exclusive, nobody but s shares it
   pub none-shares : (T (blocked S (lock (G .locks) x) exclusiveLock s) → ⊥) → withoutBit ((lock (G .locks) x) .shared) s ≡ 0
   unfolding holdsShared holds
@@ -293,6 +308,4 @@ module _ (S : Sizes) (G : Tables) (g : Good S G) (x : ℕ) (known : x < S .items
       go b (inl e) = ap (bit (withoutBit (h .shared) s)) e ∙ withoutBit-here (h .shared) s
       go b (inr d) =
           withoutBit-there (h .shared) s b d
-          ∙ is-false (bit (h .shared) b) (λ t.
-          let i : b < S .slots = g .lockGood x known .holders b (or-left (holdsShared h b) (holdsExclusive h b) t) .0 in
-          n (shares-blocked S h s (another-shares S h s b i (λ q. d (sym q)) t)))
+          ∙ is-false (bit (h .shared) b) (λ t. none-holds n b d (or-left (holdsShared h b) (holdsExclusive h b) t))

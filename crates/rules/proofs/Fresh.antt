@@ -1,25 +1,25 @@
 -- Fresh tables are good. Assumes nothing.
-use Prim.Native.Nat.{ℕ, zero, suc, _+_, _-_, _*_, _≤_, _<_}
+use Prim.Native.Nat.{ℕ, zero, suc, _+_, _*_, _≤_, _<_}
 use mathlib.Core.Path.{_≡_, refl, sym, ap, _∙_, subst}
-use mathlib.Core.Logic.{_≢_, _⊎_, inl, inr, _↔_}
-use mathlib.Core.Bool.{Bool, true, false, _||_}
-use mathlib.Core.List.{List, [], _∷_}
+use mathlib.Core.Logic.{_⊎_, inl, inr}
+use mathlib.Core.Bool.{Bool, true, false}
+use mathlib.Core.List.{List, _∷_}
 use native.Mathlib.Omega.{arith}
-use native.Mathlib.Nat.{zero-add, not-suc-le-zero}
+use native.Mathlib.Nat.{not-suc-le-zero}
 use lib.ListN.{length, getD, take, drop, replicate, length-replicate, length-drop, length-take, List·getD-eq-default}
 use lib.Seq.{getD-drop, getD-take}
 use lib.Dec.{T, eqb, ltb, eqb·zero-suc}
 use borrow.Author.Tests.{ltb-true, ltb-false}
 use Rattle.names.specs.declared.Sizes.{Sizes}
-use Rattle.rules.specs.Words.{row, bit}
-use Rattle.rules.specs.Tables.{Tables, txnAt, txnWords, lockWords, lockRow, versionWords, versionRow, Txn, txn, noTxn, live, liveUpdate, liveQuery}
+use Rattle.rules.specs.Words.{row, mapRows, bit}
+use Rattle.rules.specs.Tables.{txnAt, txnWords, lockWords, lockRow, versionWords, versionRow, Txn, txn, noTxn, live, liveQuery}
 use Rattle.rules.specs.Tables.{Lock, lock, holds, holdsShared, holdsExclusive, fresh}
-use Rattle.rules.specs.Versions.{Version, versionsIn, pairs, stampAt, place, noVersion}
+use Rattle.rules.specs.Versions.{versionsIn, pairs, stampAt}
 use Rattle.rules.specs.Waits.{waitsFor, Walk, one, more}
 use Rattle.rules.specs.Good.{Good, GoodTxn, GoodLock, GoodVersions}
 use Rattle.rules.proofs.Tests.{or-cases, false-is}
 use Rattle.rules.proofs.Bits.{bit-none}
-use Rattle.rules.proofs.Rows.{length-mapRows, row-mapRows, row-word}
+use Rattle.rules.proofs.Rows.{length-mapRows, row-mapRows}
 use Rattle.rules.proofs.EqualRows.{live-number}
 use Rattle.rules.proofs.Carried.{free-row}
 use Rattle.rules.proofs.Walks.{waits-for→}
@@ -30,6 +30,9 @@ zeros zero j = refl
 zeros (suc n) zero = refl
 zeros (suc n) (suc j) = zeros n j
 
+length-zeros : (n : ℕ) → length {A = ℕ} (replicate n 0) ≡ n
+length-zeros n = length-replicate {A = ℕ} n 0
+
 -- and so is every word of a row of them
 zero-row : (w x : ℕ) (l : List ℕ) → ((j : ℕ) → getD l j 0 ≡ 0) → (j : ℕ) → getD (row w x l) j 0 ≡ 0
 unfolding row
@@ -39,6 +42,35 @@ zero-row w x l z j = go (ltb j w) refl
     go true e = let h = ltb-true j w e in rw (getD-take, getD-drop) (z (w * x + j))
     go false e = List·getD-eq-default (take w (drop (w * x) l)) 0 (let h = ltb-false j w e in let a = length-take w (drop (w * x) l) in omega arith)
 
+-- ---- a version table whose every row gets the count 1
+abbrev pub withCounts : Sizes → List ℕ → List ℕ
+withCounts S v = mapRows (S .items) (versionRow S) (λ x r. 1 ∷ drop 1 r) 0 v
+
+module _ (S : Sizes) (v : List ℕ) (size : length v ≡ versionWords S) where
+  long : (x : ℕ) (r : List ℕ) → length r ≡ versionRow S → length (1 ∷ drop 1 r) ≡ versionRow S
+  long x r e = let a = length-drop 1 r in omega arith
+
+  pub length-withCounts : length (withCounts S v) ≡ versionWords S
+  length-withCounts = length-mapRows (versionRow S) (λ x r. 1 ∷ drop 1 r) long (S .items) 0 v (omega arith) ∙ size
+
+  pub row-withCounts : (x : ℕ) → x < S .items → row (versionRow S) x (withCounts S v) ≡ 1 ∷ drop 1 (row (versionRow S) x v)
+  row-withCounts x i = row-mapRows (versionRow S) (λ x r. 1 ∷ drop 1 r) long (S .items) 0 v (omega arith) x i
+
+-- a fresh version row: the count 1, and zeros
+pub behindCount : Sizes → ℕ → List ℕ
+behindCount S x = drop 1 (row (versionRow S) x (replicate (versionWords S) 0))
+
+pub fresh-row : (S : Sizes) (x : ℕ) → x < S .items → row (versionRow S) x ((fresh S) .versions) ≡ 1 ∷ behindCount S x
+unfolding fresh behindCount
+fresh-row S x i = row-withCounts S (replicate (versionWords S) 0) (length-zeros (versionWords S)) x i
+
+pub fresh-row-zero : (S : Sizes) (x j : ℕ) → getD (behindCount S x) j 0 ≡ 0
+unfolding behindCount
+fresh-row-zero S x j =
+    getD-drop 1 (row (versionRow S) x (replicate (versionWords S) 0)) j 0
+    ∙ zero-row (versionRow S) x (replicate (versionWords S) 0) (zeros (versionWords S)) (1 + j)
+
+-- ---- fresh tables
 module _ (S : Sizes) (room : 1 ≤ S .places) where
   txn-free : (s : ℕ) → txn ((fresh S) .txns) s ≡ noTxn
   unfolding fresh txn
@@ -74,19 +106,6 @@ module _ (S : Sizes) (room : 1 ≤ S .places) where
       none s (inl h) = false-is (bit-none s) h
       none s (inr h) = false-is (eqb·zero-suc s) h
 
-  -- a row: the count 1, and zeros
-  abbrev zeroRow : ℕ → List ℕ
-  zeroRow x = row (versionRow S) x (replicate (versionWords S) 0)
-
-  long : (x : ℕ) (r : List ℕ) → length r ≡ versionRow S → length (1 ∷ drop 1 r) ≡ versionRow S
-  long x r e = let a = length-drop 1 r in omega arith
-
-  row-is : (x : ℕ) → x < S .items → row (versionRow S) x ((fresh S) .versions) ≡ 1 ∷ drop 1 (zeroRow x)
-  unfolding fresh
-  row-is x i =
-      row-mapRows (versionRow S) (λ x r. 1 ∷ drop 1 r) long (S .items) 0 (replicate (versionWords S) 0)
-      (let a : length {A = ℕ} (replicate (versionWords S) 0) ≡ versionWords S = length-replicate {A = ℕ} (versionWords S) 0 in omega arith) x i
-
   -- a row of words that are zero behind its count of 1
   first-row : (ws : List ℕ) → ((j : ℕ) → getD ws j 0 ≡ 0) → GoodVersions S ((fresh S) .txns) (1 ∷ ws)
   unfolding versionsIn pairs stampAt
@@ -105,9 +124,6 @@ module _ (S : Sizes) (room : 1 ≤ S .places) where
       behind zero l = absurd (not-suc-le-zero l)
       behind (suc k) l = z k
 
-  zero-word : (x j : ℕ) → getD (drop 1 (zeroRow x)) j 0 ≡ 0
-  zero-word x j = getD-drop 1 (zeroRow x) j 0 ∙ zero-row (versionRow S) x (replicate (versionWords S) 0) (zeros (versionWords S)) (1 + j)
-
   -- nobody waits
   no-link : (a b : ℕ) → T (waitsFor ((fresh S) .txns) ((fresh S) .locks) a b) → ⊥
   no-link a b e = waits-for→ ((fresh S) .txns) ((fresh S) .locks) a b e .0 (ap (λ (r : Txn). r .awaitedLock) (txn-free a))
@@ -120,16 +136,14 @@ module _ (S : Sizes) (room : 1 ≤ S .places) where
   unfolding fresh
   fresh-good =
       record {
-        txnsExact = length-replicate {A = ℕ} (txnWords S) 0;
-        locksExact = length-replicate {A = ℕ} (lockWords S) 0;
-        versionsExact =
-            (let a : length {A = ℕ} (replicate (versionWords S) 0) ≡ versionWords S = length-replicate {A = ℕ} (versionWords S) 0 in
-            length-mapRows (versionRow S) (λ x r. 1 ∷ drop 1 r) long (S .items) 0 (replicate (versionWords S) 0) (omega arith) ∙ a);
+        txnsExact = length-zeros (txnWords S);
+        locksExact = length-zeros (lockWords S);
+        versionsExact = length-withCounts S (replicate (versionWords S) 0) (length-zeros (versionWords S));
         lastMost = let a = zeros (txnWords S) 0 in omega arith;
         clockMost = let a = zeros (txnWords S) 1 in omega arith;
         txnGood = λ s i. subst (λ (r : Txn). GoodTxn S ((fresh S) .txns) ((fresh S) .locks) s r) (sym (txn-free s)) (free-row S ((fresh S) .txns) ((fresh S) .locks) s);
         distinct = λ r s i j d h. absurd (not-live s h);
         lockGood = λ x i. subst (λ (h : Lock). GoodLock S ((fresh S) .txns) h) (sym (lock-free x)) free-lock;
-        versionsGood = λ x i. subst (λ (r : List ℕ). GoodVersions S ((fresh S) .txns) r) (sym (row-is x i)) (first-row (drop 1 (zeroRow x)) (zero-word x));
+        versionsGood = λ x i. subst (λ (r : List ℕ). GoodVersions S ((fresh S) .txns) r) (sym (fresh-row S x i)) (first-row (behindCount S x) (fresh-row-zero S x));
         noCircle = λ a w. no-walk w;
       }

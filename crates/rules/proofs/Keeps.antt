@@ -1,27 +1,27 @@
 -- "Every call on good tables leaves good tables.": all six calls, every way of going. Assumes nothing.
 use Prim.Native.Nat.{ℕ, _≤_, _<_}
-use mathlib.Core.Path.{_≡_, refl, sym, ap, _∙_, subst}
+use mathlib.Core.Path.{_≡_, refl, sym, subst}
 use mathlib.Core.Logic.{_≢_, _⊎_, inl, inr}
-use mathlib.Core.Bool.{Bool, true, false, _&&_, _||_, not}
+use mathlib.Core.Bool.{not}
 use mathlib.Core.List.{List}
 use native.Mathlib.Omega.{arith}
 use lib.Dec.{T, eqb, leb}
-use borrow.Author.Tests.{eqb-true, eqb-false, leb-false}
+use borrow.Author.Tests.{eqb-false, leb-false}
 use Rattle.names.specs.declared.Sizes.{Sizes}
 use Rattle.names.specs.Sizes.{lastWord}
-use Rattle.rules.specs.Tables.{Tables, lastNumber, clock, txn, setAwaited, live, liveUpdate, liveQuery, freeSlot, slotOf}
-use Rattle.rules.specs.Tables.{anUpdate, aQuery, noLock, sharedLock, exclusiveLock, Lock, lock, holds, holdsShared, holdsExclusive}
-use Rattle.rules.specs.Waits.{blocks, blocked, conflicts, circleAt}
+use Rattle.rules.specs.Tables.{Tables, lastNumber, clock, txn, setAwaited, liveUpdate, freeSlot, slotOf}
+use Rattle.rules.specs.Tables.{anUpdate, aQuery, noLock, sharedLock, exclusiveLock, lock, holds, holdsShared}
+use Rattle.rules.specs.Waits.{blocked, circleAt}
 use Rattle.rules.specs.Good.{Good}
 use Rattle.rules.specs.Tested.{good}
-use Rattle.rules.specs.Locks.{Asked, toRead, toWrite, Decision, ownValue, replaceValue, newestValue, exchangeLock, takeShared, takeExclusive, conflict, decision, wanted}
+use Rattle.rules.specs.Locks.{Asked, toRead, toWrite, Decision, decision, wanted}
 use Rattle.rules.specs.Answers.{Call, beginUpdate, beginQuery, read, write, commit, abort, Outcome}
 use Rattle.rules.specs.Step.{begin, conflicted, locked, taken, awaitsOther, carriedOut, access, queryRead, readBy, writeBy, commitBy, abortBy, act, step}
-use Rattle.rules.proofs.Tests.{and-both, or-cases, or-left, or-right, is-true, false-is, ne-make}
-use Rattle.rules.proofs.Equal.{good→Good, Good→good}
+use Rattle.rules.proofs.Tests.{or-right, is-true, false-is}
+use Rattle.rules.proofs.Equal.{Good→good}
 use Rattle.rules.proofs.Steps.{step-good, cond-case}
 use Rattle.rules.proofs.Callers.{caller-in, free-found, is-query, is-update}
-use Rattle.rules.proofs.Decisions.{Cell, ownCell, newestCell, shareCell, replaceCell, exchangeCell, excludeCell, readConflict, writeConflict, cell, none-excludes, blocked-other}
+use Rattle.rules.proofs.Decisions.{Cell, ownCell, newestCell, shareCell, replaceCell, exchangeCell, excludeCell, readConflict, writeConflict, cell, none-excludes, none-holds}
 use Rattle.rules.proofs.Deadlock.{circle-is}
 use Rattle.rules.proofs.Begins.{begun-good}
 use Rattle.rules.proofs.Awaits.{MayAwait, waited-good, cleared-good}
@@ -57,23 +57,11 @@ module _ (S : Sizes) (enough : S .slots ≤ S .places) (G : Tables) (g : Good S 
         cond-case Stays (circleAt S (setAwaited t s k x) l s) _ _ (λ e. g)
         (λ e. waited-good S G g s inside update k x d may (λ w. false-is e (circle-is S G g s k x inside known d .1 w)))
 
-    -- who does not block holds nothing
-    alone : (T (blocked S (lock l x) exclusiveLock s) → ⊥) → (r : ℕ) → r ≢ s → T (holds (lock l x) r) → ⊥
-    unfolding blocks conflicts holds
-    alone f r d h =
-        let i = g .lockGood x known .holders r h .0 in
-        f (blocked-other S (lock l x) exclusiveLock s .1
-        (r, i, and-both (not (eqb s r)) _ (ne-make s r (λ e. d (sym e))) (turned (or-cases (holdsShared (lock l x) r) _ h))))
-      where
-        turned : T (holdsShared (lock l x) r) ⊎ T (holdsExclusive (lock l x) r) → T (holdsExclusive (lock l x) r || (eqb exclusiveLock exclusiveLock && holdsShared (lock l x) r))
-        turned (inl k) = or-right (holdsExclusive (lock l x) r) _ k
-        turned (inr k) = or-left (holdsExclusive (lock l x) r) _ k
-
     taken-keeps : (v : ℕ) → (T (blocked S (lock l x) exclusiveLock s) → ⊥) → Good S (locked s x (taken (lock l x) s v) G)
     taken-keeps v f =
         locked-good S G g s x inside update known _
-        (taken-good S t (lock l x) (g .lockGood x known) s inside update (alone f) v)
-        (taken-others S t (lock l x) (g .lockGood x known) s inside update (alone f) v)
+        (taken-good S t (lock l x) (g .lockGood x known) s inside update (none-holds S G g x known s f) v)
+        (taken-others S t (lock l x) (g .lockGood x known) s inside update (none-holds S G g x known s f) v)
 
     cell-keeps : (a : Asked) (v : ℕ) (d : Decision) → Cell S (lock l x) s a d → Stays (carriedOut S s (wanted a) x v G d)
     unfolding carriedOut

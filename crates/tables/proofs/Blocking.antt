@@ -12,10 +12,10 @@ use Rattle.rules.specs.Words.{bit}
 use Rattle.rules.specs.Tables.{Lock, exclusiveLock, holdsShared, holdsExclusive}
 use Rattle.rules.specs.Waits.{conflicts, blocks}
 use Rattle.rules.proofs.Tests.{and-right, or-cases}
-use Rattle.rules.proofs.Bits.{bit-none, bit-below, below-bits}
+use Rattle.rules.proofs.Bits.{bit-none, bit-below, below-bits, one-bit-at}
 use Rattle.circles.proofs.Words.{or-at, sans-at, shifted}
 use Rattle.tables.specs.Waiting.{Blockers}
-use Rattle.tables.proofs.Masks.{oneShifted, alone-at}
+use Rattle.tables.proofs.Masks.{oneShifted}
 
 -- the word w holds the exclusive holder
 abbrev pub Owner : ℕ → ℕ → Type 0
@@ -26,7 +26,7 @@ owner-some zero h n e = absurd (n refl)
 owner-some (suc y) h n {w} e =
     let d : suc y - 1 ≡ y = omega arith in
     let p : w ≡ 2 ^ y = e ∙ ap oneShifted d ∙ shifted y (omega arith) in
-    λ b. ap (λ (m : ℕ). bit m b) p ∙ alone-at y b ∙ sym (eqb·suc-suc y b)
+    λ b. ap (λ (m : ℕ). bit m b) p ∙ one-bit-at y b ∙ sym (eqb·suc-suc y b)
 
 pub owner-none : (x : ℕ) → x ≡ 0 → {w : ℕ} → w ≡ 0 → Owner x w
 owner-none x h {w} e =
@@ -62,7 +62,7 @@ blockers-of h k i w ls lx li o = rw (shifted i (omega arith)) (record { small = 
     at : (b : ℕ) → bit (bitXor w (bitAnd w (2 ^ i))) b ≡ (not (eqb i b) && (eqb (h .exclusive) (suc b) || (eqb k exclusiveLock && bit (h .shared) b)))
     at b =
         sans-at w (2 ^ i) b
-        ∙ ap₂ (λ (c d : Bool). c && not d) (o b) (alone-at i b)
+        ∙ ap₂ (λ (c d : Bool). c && not d) (o b) (one-bit-at i b)
         ∙ and-swap (eqb (h .exclusive) (suc b) || (eqb k exclusiveLock && bit (h .shared) b)) (not (eqb i b))
 
     holder : (b : ℕ) → T (eqb (h .exclusive) (suc b)) ⊎ T (eqb k exclusiveLock && bit (h .shared) b) → b < base .slots

@@ -5,32 +5,20 @@ use mathlib.Core.Logic.{⊎-elim}
 use mathlib.Core.Bool.{Bool, true, false, _||_, cond}
 use native.Mathlib.Omega.{arith}
 use native.Mathlib.Numerals.{add-one}
-use native.Mathlib.Nat.{not-suc-le-zero, pow-suc, add-zero, zero-add, one-mul}
+use native.Mathlib.Nat.{not-suc-le-zero, pow-suc, add-zero, one-mul}
 use lib.Bits.{bitOr, or-shifted-r}
 use lib.Dec.{eqb}
-use borrow.Author.Tests.{eq-eqb, ne-eqb, eqb-true, eqb-false}
-use Rattle.rules.specs.Words.{bit, withBit}
+use borrow.Author.Tests.{eq-eqb, ne-eqb}
+use Rattle.rules.specs.Words.{bit}
 use Rattle.rules.proofs.Tests.{is-false}
 use Rattle.rules.proofs.Counts.{split-le}
-use Rattle.rules.proofs.Bits.{bit-none, bit-below, withBit-here, withBit-there}
+use Rattle.rules.proofs.Bits.{bit-below, one-bit-at}
 use Rattle.circles.proofs.Words.{or-at, shifted}
 use Rattle.tables.specs.Shape.{slotsThat}
 
--- ---- the word of one slot
--- as the code computes it
+-- the word of one slot, as the code computes it
 abbrev pub oneShifted : ℕ → ℕ
 oneShifted k = 1 * 2 ^ k % 2 ^ 64
-
-alone : (k : ℕ) → withBit 0 k ≡ 2 ^ k
-unfolding withBit
-alone k = rw (bit-none k) (zero-add (2 ^ k))
-
-pub alone-at : (k i : ℕ) → bit (2 ^ k) i ≡ eqb k i
-alone-at k i = ap (λ (w : ℕ). bit w i) (sym (alone k)) ∙ go (eqb k i) refl
-  where
-    go : (c : Bool) → eqb k i ≡ c → bit (withBit 0 k) i ≡ eqb k i
-    go true e = ap (bit (withBit 0 k)) (sym (eqb-true k i e)) ∙ withBit-here 0 k ∙ sym e
-    go false e = withBit-there 0 k i (λ q. eqb-false k i e (sym q)) ∙ bit-none i ∙ sym e
 
 -- ---- the word of the slots that pass
 pub slots-lt : (n : ℕ) (p : ℕ → Bool) → slotsThat n p < 2 ^ n
@@ -75,7 +63,7 @@ slots-at (suc n) p s h = go (p n) refl (λ q. slots-at n p s q)
     go true e ih =
         ap (λ (v : ℕ). bit v s) (sym (or-alone n p))
         ∙ or-at w (2 ^ n) s
-        ∙ ap (λ (b : Bool). bit w s || b) (alone-at n s)
+        ∙ ap (λ (b : Bool). bit w s || b) (one-bit-at n s)
         ∙ ⊎-elim
         (λ (q : s < n). ap (λ (b : Bool). bit w s || b) (ne-eqb n s (λ z. omega arith)) ∙ or-false (bit w s) ∙ ih q)
         (λ (q : s ≡ n). subst (λ (s : ℕ). (bit w s || eqb n s) ≡ p s) (sym q) (ap (λ (b : Bool). b || eqb n n) (high w n (slots-lt n p)) ∙ eq-eqb n n refl ∙ sym e))

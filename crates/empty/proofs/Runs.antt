@@ -1,0 +1,145 @@
+-- Small runs from fresh tables, trial C of document 01 among them, and what the rules say of the next call, by computation. The tables
+-- stay behind the inputs' names: whoever uses a run has only what is stated of it here. Assumes nothing.
+use Prim.Native.Nat.{ℕ, _-_}
+use mathlib.Core.Path.{_≡_, refl, sym, _∙_}
+use mathlib.Core.Bool.{not}
+use mathlib.Core.List.{List, [], _∷_}
+use lib.Dec.{T}
+use lib.ListN.{replicate}
+use Rattle.names.specs.declared.Answer.{Answer}
+use Rattle.names.specs.Sizes.{base}
+use Rattle.rules.specs.Words.{implies, everyBelow, someBelow, firstFrom, every, some, tabulateFrom, row, everyRow, mapRows, bit, withBit, withoutBit}
+use Rattle.rules.specs.Tables.{txn, setTxn, setAwaited, live, liveUpdate, liveQuery, slotOf, freeSlot, startsFrom, starts, lock, setLock, holdsShared, holdsExclusive, holds, lockIn, lockWordsOf, released, release, fresh}
+use Rattle.rules.specs.Versions.{pairs, versionsIn, versionsOf, pairWords, rowOf, stampAt, newest, place, choice, readBySome, keptFrom, kept, rewritten}
+use Rattle.rules.specs.Waits.{conflicts, blocks, blocked, waitsFor, marked, spread, rounds, reached, circleAt, noCircle}
+use Rattle.rules.specs.Tested.{sizesExact, topsMost, freeZero, listed, startGood, awaitedGood, awaiterGood, txnGood, distinct, holdersLive, lockGood, falls, lastOld, allRead, versionsGood, good}
+use Rattle.rules.specs.Locks.{heldBy, decide, anotherShares, anotherExcludes, decision}
+use Rattle.rules.specs.Step.{begun, begin, conflicted, cleared, locked, carriedOut, access, awaitsOther, queryRead, readBy, writeBy, withNew, committed, ended, commitBy, aborted, abortBy, act, step}
+use Rattle.rules.specs.Tables.{Tables, tables, lastNumber, txnWords, lockWords, aQuery}
+use Rattle.rules.specs.Answers.{Call, beginUpdate, beginQuery, read, write, commit, Outcome}
+use Rattle.empty.specs.Programs.{Input, isWord, callOfWords, tablesOfWords}
+use Rattle.empty.specs.Empty.{isRead, isBegin, withoutVersions}
+
+-- the tables that the calls leave, one after another
+unfoldable leave : List Call → Tables → Tables
+leave [] G = G
+leave (c ∷ cs) G = leave cs ((step base c G) .after)
+
+-- the tables that the calls leave of fresh ones
+unfoldable pub tablesAfter : List Call → Tables
+unfolding leave
+tablesAfter cs = leave cs (fresh base)
+
+-- what the rules answer and leave of an input
+unfoldable pub right : Input → Outcome
+right i = step base (i .call) (i .before)
+
+-- whoever unfolds this computes with all the rules
+unfoldable computed : Input → Outcome
+unfolding right isRead isBegin isWord callOfWords tablesOfWords withoutVersions tablesAfter leave implies everyBelow someBelow firstFrom every some tabulateFrom row everyRow mapRows bit withBit withoutBit txn setTxn setAwaited live liveUpdate liveQuery slotOf freeSlot startsFrom starts lock setLock holdsShared holdsExclusive holds lockIn lockWordsOf released release fresh pairs versionsIn versionsOf pairWords rowOf stampAt newest place choice readBySome keptFrom kept rewritten conflicts blocks blocked waitsFor marked spread rounds reached circleAt noCircle sizesExact topsMost freeZero listed startGood awaitedGood awaiterGood txnGood distinct holdersLive lockGood falls lastOld allRead versionsGood good heldBy decide anotherShares anotherExcludes decision begun begin conflicted cleared locked carriedOut access awaitsOther queryRead readBy writeBy withNew committed ended commitBy aborted abortBy act step
+computed i = right i
+
+-- the call c after the calls cs
+abbrev asked : (c : Call) (cs : List Call) → T (callOfWords c) → T (tablesOfWords (tablesAfter cs)) → Input
+asked c cs w u = record { call = c; before = tablesAfter cs; callWords = w; tableWords = u }
+
+-- an answer's code, value, number and looked
+abbrev pub answer : ℕ → ℕ → ℕ → ℕ → Answer
+answer c v n k = record { code = c; value = v; number = n; looked = k }
+
+-- ---- a begin on fresh tables: it is granted, and gives the number 1
+pub beginFresh : Input
+unfolding computed
+beginFresh = asked beginUpdate [] tt tt
+
+pub beginFresh-answer : (right beginFresh) .answer ≡ answer 0 0 1 0
+unfolding computed beginFresh
+beginFresh-answer = refl
+
+pub beginFresh-last : lastNumber (beginFresh .before .txns) ≡ 0
+unfolding computed beginFresh
+beginFresh-last = refl
+
+pub beginFresh-next : lastNumber ((right beginFresh) .after .txns) ≡ 1
+unfolding computed beginFresh
+beginFresh-next = refl
+
+-- ---- trial C, "T1 writes x, T2 reads x: 1.": x is 7, and T1 writes 42
+pub readHeld : Input
+unfolding computed
+readHeld = asked (read 2 7) (beginUpdate ∷ beginUpdate ∷ write 1 7 42 ∷ []) tt tt
+
+pub readHeld-good : T (good base (readHeld .before))
+unfolding computed readHeld
+readHeld-good = tt
+
+pub readHeld-answer : (right readHeld) .answer ≡ answer 1 0 0 0
+unfolding computed readHeld
+readHeld-answer = refl
+
+-- "T1 commits": the newest value of x was 0 and is 42
+pub commitWritten : Input
+unfolding computed
+commitWritten = asked (commit 1) (beginUpdate ∷ beginUpdate ∷ write 1 7 42 ∷ read 2 7 ∷ []) tt tt
+
+pub commitWritten-later : T (not (isBegin (commitWritten .call)))
+unfolding computed commitWritten
+commitWritten-later = tt
+
+pub commitWritten-was : newest base (commitWritten .before .versions) 7 ≡ 0
+unfolding computed commitWritten
+commitWritten-was = refl
+
+pub commitWritten-is : newest base ((right commitWritten) .after .versions) 7 ≡ 42
+unfolding computed commitWritten
+commitWritten-is = refl
+
+-- "T2 reads x: 0 with T1's value."
+pub readCommitted : Input
+unfolding computed
+readCommitted = asked (read 2 7) (beginUpdate ∷ beginUpdate ∷ write 1 7 42 ∷ read 2 7 ∷ commit 1 ∷ []) tt tt
+
+pub readCommitted-reads : T (isRead (readCommitted .call))
+unfolding computed readCommitted
+readCommitted-reads = tt
+
+pub readCommitted-answer : (right readCommitted) .answer ≡ answer 0 42 0 1
+unfolding computed readCommitted
+readCommitted-answer = refl
+
+-- ---- query 1 reads item 5 after update 2 wrote that item, or another one, and committed. All but the version rows is the same, and
+-- the query reads 0 in both, at place 2 and at place 1
+pub readPast : Input
+unfolding computed
+readPast = asked (read 1 5) (beginQuery ∷ beginUpdate ∷ write 2 5 77 ∷ commit 2 ∷ []) tt tt
+
+pub readBeside : Input
+unfolding computed
+readBeside = asked (read 1 5) (beginQuery ∷ beginUpdate ∷ write 2 6 77 ∷ commit 2 ∷ []) tt tt
+
+pub same-call : readPast .call ≡ readBeside .call
+unfolding computed readPast readBeside
+same-call = refl
+
+-- what is the same: two numbers given, one commit, query 1 with the start 0 in slot 0, and no lock
+unfoldable oneQuery : Tables
+oneQuery = tables (2 ∷ 1 ∷ 1 ∷ aQuery ∷ replicate (txnWords base - 4) 0) (replicate (lockWords base) 0) []
+
+readPast-beside : withoutVersions (readPast .before) ≡ oneQuery
+unfolding computed readPast oneQuery
+readPast-beside = refl
+
+readBeside-beside : withoutVersions (readBeside .before) ≡ oneQuery
+unfolding computed readBeside oneQuery
+readBeside-beside = refl
+
+pub same-beside-versions : withoutVersions (readPast .before) ≡ withoutVersions (readBeside .before)
+same-beside-versions = readPast-beside ∙ sym readBeside-beside
+
+pub readPast-answer : (right readPast) .answer ≡ answer 0 0 0 2
+unfolding computed readPast
+readPast-answer = refl
+
+pub readBeside-answer : (right readBeside) .answer ≡ answer 0 0 0 1
+unfolding computed readBeside
+readBeside-answer = refl

@@ -1,0 +1,3 @@
+-- The empty programs that have to break the keeper's statement.
+pub mod Programs
+pub mod Empty
