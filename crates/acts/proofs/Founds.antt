@@ -1,28 +1,24 @@
 -- What a search that found somebody says, and one that found nobody. Assumes nothing.
 use Prim.Native.Nat.{ℕ, _+_, _≤_, _<_}
-use mathlib.Core.Path.{_≡_, refl, sym, ap, _∙_, subst}
+use mathlib.Core.Path.{_≡_, refl, sym, ap, _∙_}
 use mathlib.Core.Logic.{_≢_, _⊎_, inl, inr}
 use mathlib.Core.Bool.{Bool, true, false, cond, _&&_, _||_}
 use mathlib.Core.List.{List}
 use native.Mathlib.Omega.{arith}
 use lib.Dec.{T, eqb, ltb, leb, eqb→eq}
-use borrow.Author.Tests.{eqb-true, eqb-false, eq-eqb, ne-eqb, ltb-true, ltb-false, le-leb, lt-leb}
+use borrow.Author.Tests.{eqb-true, eqb-false, ltb-true, ltb-false, le-leb, lt-leb}
 use Rattle.names.specs.Sizes.{base, lastWord}
 use Rattle.names.specs.Words.{itemOf, numberOf}
 use Rattle.names.specs.declared.Slot.{Slot}
 use Rattle.names.specs.declared.Item.{Item}
 use Rattle.names.specs.declared.Number.{Number}
-use Rattle.names.specs.declared.ItemOf.{ItemOf}
 use Rattle.names.specs.declared.ItemOf.the-variants.{Known, Unknown}
-use Rattle.names.specs.declared.NumberOf.{NumberOf}
 use Rattle.names.specs.declared.NumberOf.the-variants.{Possible, Impossible}
-use Rattle.rules.specs.Words.{firstFrom}
 use Rattle.rules.specs.Tables.{txn, live, slotOf, freeSlot, lastNumber}
 use Rattle.rules.proofs.Counts.{first-le, first-passes}
-use Rattle.rules.proofs.Tests.{and-left, and-right, not-use, eq-make, same?}
+use Rattle.rules.proofs.Tests.{and-left, and-right, same?}
 use Rattle.rules.proofs.EqualRows.{live-number}
 use Rattle.rows.specs.Founds.{foundAt}
-use Rattle.rows.specs.declared.txns.Found.{Found}
 use Rattle.rows.specs.declared.txns.Found.the-variants.{At, Nobody}
 use Rattle.acts.specs.Verdicts.{Rows, beginOf}
 use Rattle.acts.specs.declared.judge.Begin.{Begin}

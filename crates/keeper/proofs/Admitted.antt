@@ -1,8 +1,8 @@
 -- What the keeper knows once the tables are good: who calls, and what the call is by the rules. Assumes nothing.
-use Prim.Native.Nat.{ℕ, suc, _+_, _≤_, _<_}
+use Prim.Native.Nat.{ℕ, _+_, _≤_, _<_}
 use mathlib.Core.Path.{_≡_, refl, sym, ap, _∙_, subst}
-use mathlib.Core.Logic.{_≢_, _⊎_, inl, inr}
-use mathlib.Core.Bool.{Bool, true, false, not, cond, _&&_}
+use mathlib.Core.Logic.{_≢_}
+use mathlib.Core.Bool.{Bool, true, false, not, cond}
 use mathlib.Core.List.{List}
 use native.Mathlib.Omega.{arith}
 use lib.ListN.{set}
@@ -11,19 +11,18 @@ use borrow.Author.Tests.{leb-false, eq-eqb, not-true, not-false, ltb-true, ltb-f
 use Rattle.names.specs.Sizes.{base, lastWord}
 use Rattle.names.specs.Words.{nextStamp}
 use Rattle.names.specs.declared.Stamp.{Stamp}
-use Rattle.names.specs.declared.NextStamp.{NextStamp}
 use Rattle.names.specs.declared.NextStamp.the-variants.{At, Spent}
 use Rattle.rules.specs.Versions.{rewritten}
-use Rattle.rules.specs.Tables.{Tables, tables, setTxn, noTxn, starts, release, lastNumber, clock, txn, slotOf, freeSlot, live, liveUpdate, liveQuery, noLock, sharedLock, exclusiveLock, aQuery}
+use Rattle.rules.specs.Tables.{Tables, tables, setTxn, noTxn, starts, release, lastNumber, clock, txn, slotOf, freeSlot, liveUpdate, liveQuery, noLock, sharedLock, exclusiveLock, aQuery}
 use Rattle.rules.specs.Good.{Good}
 use Rattle.rules.specs.Tested.{good}
 use Rattle.rules.specs.Locks.{toRead, toWrite}
-use Rattle.rules.specs.Answers.{Outcome, outcome, says, granted, refuses, unknownTransaction, unknownItem, queryMayNotWrite, stillWaiting, noSlot, numbersSpent, clockSpent}
-use Rattle.rules.specs.Answers.{beginUpdate, beginQuery, read, write, commit, abort}
+use Rattle.rules.specs.Answers.{Outcome, outcome, says, granted, refuses, unknownTransaction, unknownItem, queryMayNotWrite, stillWaiting, clockSpent}
+use Rattle.rules.specs.Answers.{read, write, commit, abort}
 use Rattle.rules.specs.Step.{step, act, begin, begun, readBy, writeBy, commitBy, abortBy, queryRead, access, awaitsOther, committed, ended, aborted, withNew}
-use Rattle.rules.proofs.Tests.{true-is, is-true, and-left, not-use}
+use Rattle.rules.proofs.Tests.{true-is, is-true}
 use Rattle.rules.proofs.Equal.{good→Good, Good→good}
-use Rattle.rules.proofs.Steps.{step-good, step-bad}
+use Rattle.rules.proofs.Steps.{step-good}
 use Rattle.rules.proofs.Callers.{caller-in, is-query, is-update}
 use Rattle.acts.specs.Verdicts.{Rows, Ended, Committed, beginOf, begunBy, callerOf, leaverOf, quitterOf}
 use Rattle.acts.specs.declared.judge.Caller.{Caller}

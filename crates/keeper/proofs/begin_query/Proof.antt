@@ -1,21 +1,15 @@
 -- A begin on good tables, whose start is the clock; code 10 on others. Assumes nothing.
-use Prim.Native.Nat.{ℕ, _+_, _≤_, _<_}
-use mathlib.Core.Path.{_≡_, refl, sym, ap, _∙_, subst}
-use mathlib.Core.Bool.{Bool, true, false}
-use native.Mathlib.Omega.{arith}
-use lib.Dec.{eqb}
-use borrow.Author.Tests.{eq-eqb, ne-eqb}
+use Prim.Native.Nat.{ℕ}
+use mathlib.Core.Path.{sym, ap, _∙_}
 use Rattle.names.specs.declared.Answer.{Answer}
-use Rattle.names.specs.Sizes.{base, lastWord}
-use Rattle.rules.specs.Tables.{Tables, tables, clock, anUpdate, aQuery, sharedLock, exclusiveLock}
-use Rattle.rules.specs.Good.{Good}
-use Rattle.rules.specs.Answers.{Outcome, outcome, beginUpdate, beginQuery, read, write, commit, abort}
-use Rattle.rules.specs.Step.{act, begin, queryRead}
+use Rattle.names.specs.Sizes.{base}
+use Rattle.rules.specs.Tables.{Tables, tables, clock, aQuery}
+use Rattle.rules.specs.Answers.{outcome, beginQuery}
+use Rattle.rules.specs.Step.{act, begin}
 use Rattle.rules.proofs.Steps.{step-good, step-bad}
-use Rattle.acts.specs.Verdicts.{Done, begunBy, beginDone, callerOf, leaverOf, quitterOf}
-use Rattle.keeper.proofs.Admitted.{admitted, turned-away, rows-of, passed, CallerSays, caller-says, LeaverSays, leaver-says, quitter-says}
-use Rattle.keeper.proofs.Admitted.{begins-is, readOut, read-is, writeOut, write-is, commitOut, commit-is, abortOut, abort-is}
-use Rattle.keeper.proofs.Admitted.{ended-is, committed-is, aborted-is, next-at, next-spent}
+use Rattle.acts.specs.Verdicts.{Done, begunBy}
+use Rattle.keeper.proofs.Admitted.{admitted, turned-away, rows-of, passed}
+use Rattle.keeper.proofs.Admitted.{begins-is}
 use borrow.Author.Needs.{needs}
 use Rattle.keeper.proofs.begin_query.Statement.{statement}
 use Rattle.keeper.proofs.begin_query.Tie as tie

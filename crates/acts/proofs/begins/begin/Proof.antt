@@ -1,19 +1,10 @@
 -- What was judged is done. Assumes nothing.
-use Prim.Native.Nat.{ℕ, _+_, _≤_, _<_}
-use mathlib.Core.Path.{_≡_, refl, sym, ap, _∙_, subst}
-use mathlib.Core.Bool.{Bool, true, false}
+use Prim.Native.Nat.{ℕ}
+use mathlib.Core.Path.{sym, ap, _∙_, subst}
 use mathlib.Core.List.{List}
-use native.Mathlib.Omega.{arith}
-use lib.Dec.{eqb}
-use borrow.Author.Tests.{eq-eqb, ne-eqb}
 use Rattle.names.specs.declared.Answer.{Answer}
-use Rattle.names.specs.Sizes.{base, lastWord}
-use Rattle.rules.specs.Tables.{Tables, tables, clock, anUpdate, aQuery, sharedLock, exclusiveLock}
-use Rattle.rules.specs.Good.{Good}
-use Rattle.rules.specs.Answers.{Outcome, outcome, beginUpdate, beginQuery, read, write, commit, abort}
-use Rattle.rules.specs.Step.{act, begin, queryRead}
-use Rattle.rules.proofs.Steps.{step-good, step-bad}
-use Rattle.acts.specs.Verdicts.{Done, begunBy, beginDone, callerOf, leaverOf, quitterOf}
+use Rattle.rules.specs.Step.{begin}
+use Rattle.acts.specs.Verdicts.{begunBy, beginDone}
 use Rattle.acts.proofs.Founds.{BeginSays, begin-says}
 use borrow.Author.Needs.{needs}
 use Rattle.acts.proofs.begins.begin.Statement.{statement}

@@ -1,5 +1,4 @@
 -- The shared bits without that of the slot. Assumes nothing.
-use mathlib.Core.Path.{refl}
 use Rattle.rows.specs.Founds.{lockOf}
 use Rattle.rows.proofs.Bits.{digit-le, digit-shifted, cleared-is}
 use Rattle.acts.proofs.Decided.{shares-is}

@@ -1,5 +1,4 @@
 -- The holding and the two tests, looked up in the table. Assumes nothing.
-use mathlib.Core.Path.{refl}
 use Rattle.rules.specs.Locks.{decision}
 use borrow.Author.Needs.{needs}
 use Rattle.acts.proofs.cells.decision.Statement.{statement}

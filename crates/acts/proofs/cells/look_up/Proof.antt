@@ -1,5 +1,5 @@
 -- Each code is one row and one column of the table. Assumes nothing.
-use mathlib.Core.Path.{_≡_, refl}
+use mathlib.Core.Path.{_≡_}
 use native.Mathlib.Omega.{arith}
 use Rattle.rules.specs.Locks.{decide}
 use borrow.Author.Needs.{needs}

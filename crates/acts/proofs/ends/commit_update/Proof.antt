@@ -1,19 +1,18 @@
 -- The clock moves, the row goes, the working values become versions, the locks go. Assumes nothing.
-use Prim.Native.Nat.{ℕ, _+_, _≤_, _<_}
-use mathlib.Core.Path.{_≡_, refl, sym, ap, _∙_, subst}
+use Prim.Native.Nat.{ℕ}
+use mathlib.Core.Path.{_≡_, ap, _∙_, subst}
 use mathlib.Core.List.{List}
 use native.Mathlib.Omega.{arith}
 use lib.ListN.{set, length-set}
 use Rattle.names.specs.Sizes.{base}
-use Rattle.rules.specs.Tables.{Tables, tables, clock, txn, setTxn, noTxn, starts}
-use Rattle.rules.specs.Good.{Good}
+use Rattle.rules.specs.Tables.{Tables, tables, clock, setTxn, noTxn, starts}
 use Rattle.rules.specs.Step.{committed}
 use Rattle.rules.proofs.Ends.{gone-query}
 use Rattle.rules.proofs.ChangedVersions.{committed-starts}
 use Rattle.rules.proofs.Views.{txn-top}
 use Rattle.versions.specs.Ordered.{InOrder}
 use Rattle.versions.specs.Written.{Few}
-use Rattle.versions.proofs.Handed.{few-starts, good-rows, good-commits}
+use Rattle.versions.proofs.Handed.{few-starts, good-commits}
 use borrow.Author.Needs.{needs}
 use Rattle.acts.proofs.ends.commit_update.Statement.{statement}
 use Rattle.acts.proofs.ends.commit_update.Tie as tie

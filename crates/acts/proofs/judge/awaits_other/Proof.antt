@@ -1,16 +1,5 @@
 -- The test is the definition. Assumes nothing.
-use Prim.Native.Nat.{ℕ, _+_, _≤_, _<_}
-use mathlib.Core.Path.{_≡_, refl, sym, ap, _∙_}
-use mathlib.Core.Bool.{Bool, true, false, not}
-use native.Mathlib.Omega.{arith}
-use lib.Dec.{eqb, leb}
-use borrow.Author.Tests.{eq-eqb, ne-eqb}
-use Rattle.names.specs.Sizes.{base, lastWord}
-use Rattle.rows.specs.Founds.{foundAt}
-use Rattle.rules.specs.Tables.{txn, slotOf, freeSlot, lastNumber, noLock, aQuery}
 use Rattle.rules.specs.Step.{awaitsOther}
-use Rattle.acts.specs.Verdicts.{beginOf, callerOf, leaverOf, quitterOf}
-use Rattle.acts.proofs.Founds.{FoundSlot, found-slot, found-nobody, slot-most, free-most, impossible, possible, known, unknown}
 use borrow.Author.Needs.{needs}
 use Rattle.acts.proofs.judge.awaits_other.Statement.{statement}
 use Rattle.acts.proofs.judge.awaits_other.Tie as tie

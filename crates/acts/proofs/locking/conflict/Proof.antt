@@ -1,6 +1,5 @@
 -- The blockers of the request searched for the slot itself. Assumes nothing.
 use mathlib.Core.Path.{_≡_, sym, _∙_}
-use native.Mathlib.Omega.{arith}
 use Rattle.names.specs.Sizes.{base}
 use Rattle.rules.specs.Tables.{lock, setAwaited}
 use Rattle.rules.specs.Waits.{circleAt}

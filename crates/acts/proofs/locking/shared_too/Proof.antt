@@ -1,5 +1,4 @@
 -- The slot's bit set. Assumes nothing.
-use mathlib.Core.Path.{refl}
 use native.Mathlib.Omega.{arith}
 use Rattle.circles.proofs.Words.{shifted}
 use Rattle.acts.proofs.Decided.{set-is}

@@ -1,5 +1,4 @@
 -- The slot's shared bit cleared, the slot entered. Assumes nothing.
-use mathlib.Core.Path.{refl}
 use native.Mathlib.Numerals.{add-one}
 use Rattle.rows.proofs.Bits.{digit-le, digit-shifted, cleared-is}
 use borrow.Author.Needs.{needs}
