@@ -1,11 +1,9 @@
 -- What a word says as a stamp, an item or a transaction's number. Assumes nothing.
 use Prim.Native.Nat.{ℕ, _+_}
-use mathlib.Core.Bool.{Bool, cond, _||_}
+use mathlib.Core.Bool.{cond, _||_}
 use lib.Dec.{eqb, ltb}
 use Rattle.names.specs.Sizes.{base, lastWord}
 use Rattle.names.specs.declared.Stamp.{Stamp}
-use Rattle.names.specs.declared.Item.{Item}
-use Rattle.names.specs.declared.Number.{Number}
 use Rattle.names.specs.declared.NextStamp.{NextStamp}
 use Rattle.names.specs.declared.NextStamp.the-variants.{At, Spent}
 use Rattle.names.specs.declared.ItemOf.{ItemOf}

@@ -1,16 +1,15 @@
 -- A search that goes up one by one: what it has passed, and where it ends. Assumes nothing.
 use Prim.Native.Nat.{ℕ, zero, suc, _+_, _-_, _≤_, _<_}
-use mathlib.Core.Path.{_≡_, refl, sym, ap, _∙_}
+use mathlib.Core.Path.{_≡_, refl, ap, _∙_}
 use mathlib.Core.Bool.{Bool, true, false, _&&_, not}
 use mathlib.Core.List.{List}
 use native.Mathlib.Omega.{arith}
 use lib.Dec.{eqb}
-use borrow.Author.Tests.{eq-eqb, ne-eqb}
+use borrow.Author.Tests.{ne-eqb}
 use Rattle.names.specs.Sizes.{base}
 use Rattle.rules.specs.Words.{firstFrom}
 use Rattle.rules.specs.Tables.{txn, live}
 use Rattle.rows.specs.Founds.{foundAt}
-use Rattle.rows.specs.declared.txns.Found.{Found}
 use Rattle.rows.specs.declared.txns.Found.the-variants.{At, Nobody}
 
 -- the live transaction in slot s has the number n; the slot s is free

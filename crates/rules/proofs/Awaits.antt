@@ -7,8 +7,8 @@ use native.Mathlib.Omega.{arith}
 use lib.ListN.{length}
 use lib.Dec.{T}
 use Rattle.names.specs.declared.Sizes.{Sizes}
-use Rattle.rules.specs.Tables.{Tables, txnWords, lastNumber, clock, Txn, txn, setTxn, setAwaited, live, liveUpdate, liveQuery}
-use Rattle.rules.specs.Tables.{noLock, sharedLock, exclusiveLock, anUpdate, lock, holds, holdsExclusive}
+use Rattle.rules.specs.Tables.{Tables, txnWords, lastNumber, clock, Txn, txn, setAwaited, live, liveUpdate, liveQuery}
+use Rattle.rules.specs.Tables.{noLock, sharedLock, exclusiveLock, lock, holds, holdsExclusive}
 use Rattle.rules.specs.Waits.{waitsFor, Walk}
 use Rattle.rules.specs.Good.{Good, GoodTxn}
 use Rattle.rules.specs.Conditions.{Circle}

@@ -2,7 +2,6 @@
 use Prim.Native.Nat.{ℕ, _+_, _≤_, _<_}
 use mathlib.Core.Path.{_≡_, refl, sym, ap, _∙_, subst}
 use mathlib.Core.Logic.{_≢_, _⊎_, inl, inr}
-use mathlib.Core.Bool.{Bool}
 use mathlib.Core.List.{List}
 use native.Mathlib.Omega.{arith}
 use lib.ListN.{length, set, length-set}
@@ -10,15 +9,15 @@ use lib.Seq.{getD-set-same, getD-set-other}
 use lib.Dec.{T}
 use Rattle.names.specs.declared.Sizes.{Sizes}
 use Rattle.names.specs.Sizes.{lastWord}
-use Rattle.rules.specs.Tables.{Tables, txnWords, lastNumber, clock, Txn, txn, setTxn, noTxn, live, liveUpdate, liveQuery}
+use Rattle.rules.specs.Tables.{Tables, txnWords, lastNumber, clock, Txn, txn, setTxn, live, liveQuery}
 use Rattle.rules.specs.Tables.{anUpdate, aQuery, noLock, lock}
 use Rattle.rules.specs.Waits.{waitsFor}
 use Rattle.rules.specs.Good.{Good, GoodTxn}
 use Rattle.rules.specs.Step.{begun}
 use Rattle.rules.proofs.Tests.{same?}
 use Rattle.rules.proofs.Views.{length-setTxn, lastNumber-setTxn, clock-setTxn, txn-setTxn, txn-setTxn-other, txn-top}
-use Rattle.rules.proofs.EqualRows.{live-number, update-live, query-live}
-use Rattle.rules.proofs.Carried.{NoMore, no-more-same, txn-carried, lock-carried, versions-carried}
+use Rattle.rules.proofs.EqualRows.{update-live, query-live}
+use Rattle.rules.proofs.Carried.{no-more-same, txn-carried, lock-carried, versions-carried}
 use Rattle.rules.proofs.Walks.{waits-for→}
 use Rattle.rules.proofs.Deadlock.{fewer-no-circle}
 

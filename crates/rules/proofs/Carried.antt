@@ -1,21 +1,18 @@
 -- What a clause of good tables needs of other tables, to hold there too. Assumes nothing.
 use Prim.Native.Nat.{ℕ, zero, suc, _-_, _≤_, _<_}
-use mathlib.Core.Path.{_≡_, refl, sym, ap, subst}
-use mathlib.Core.Logic.{_≢_, _⊎_, inl, inr, _↔_}
-use mathlib.Core.Bool.{Bool, true, false}
+use mathlib.Core.Path.{_≡_, refl, subst}
+use mathlib.Core.Logic.{_≢_, _⊎_, inl, inr}
 use mathlib.Core.List.{List, [], _∷_}
 use native.Mathlib.Omega.{arith}
-use lib.ListN.{length, getD}
-use lib.Dec.{T, leb}
+use lib.ListN.{length}
+use lib.Dec.{T}
 use borrow.Author.Tests.{le-leb}
 use Rattle.names.specs.declared.Sizes.{Sizes}
-use Rattle.rules.specs.Words.{bit}
 use Rattle.rules.specs.Tables.{lastNumber, clock, Txn, txn, noTxn, live, liveUpdate, liveQuery, Lock, lock}
-use Rattle.rules.specs.Tables.{holdsShared, holdsExclusive, holds, noLock, aQuery, anUpdate}
+use Rattle.rules.specs.Tables.{holdsShared, holdsExclusive, holds, noLock}
 use Rattle.rules.specs.Versions.{Version, versionsIn, stampAt, place}
 use Rattle.rules.specs.Good.{GoodTxn, GoodLock, GoodVersions}
 use Rattle.rules.proofs.Tests.{same?, or-cases, or-left, or-right}
-use Rattle.rules.proofs.EqualRows.{live-number, update-live, query-live}
 
 -- a free row is a good one, whatever stands in the tables
 pub free-row : (S : Sizes) (t l : List ℕ) (s : ℕ) → GoodTxn S t l s noTxn

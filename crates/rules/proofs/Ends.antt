@@ -5,19 +5,19 @@ use mathlib.Core.Logic.{_≢_, _⊎_, inl, inr}
 use mathlib.Core.Bool.{Bool, true, false, cond}
 use mathlib.Core.List.{List, [], _∷_, List·Memᴰ}
 use native.Mathlib.Omega.{arith}
-use lib.ListN.{length, getD, set, length-set}
+use lib.ListN.{length, set, length-set}
 use lib.Seq.{getD-set-same, getD-set-other}
-use lib.Dec.{T, leb, ltb, le→leb, lt→ltb}
+use lib.Dec.{T, leb, le→leb}
 use Rattle.names.specs.declared.Sizes.{Sizes}
 use Rattle.names.specs.Sizes.{lastWord}
 use Rattle.rules.specs.Words.{row}
-use Rattle.rules.specs.Tables.{Tables, tables, txnWords, versionWords, versionRow, lastNumber, clock, Txn, txn, setTxn, noTxn, live}
+use Rattle.rules.specs.Tables.{Tables, tables, txnWords, versionWords, versionRow, clock, Txn, txn, setTxn, noTxn, live}
 use Rattle.rules.specs.Tables.{liveUpdate, liveQuery, starts, lock, holds, holdsExclusive, release}
 use Rattle.rules.specs.Versions.{Version, versionsIn, stampAt, rowOf, kept, rewritten}
 use Rattle.rules.specs.Good.{Good, GoodVersions}
 use Rattle.rules.specs.Tested.{falls, lastOld, versionsGood}
 use Rattle.rules.specs.Step.{committed, ended, aborted, withNew}
-use Rattle.rules.proofs.Tests.{and-both, same?, is-false}
+use Rattle.rules.proofs.Tests.{same?}
 use Rattle.rules.proofs.Counts.{mem-every}
 use Rattle.rules.proofs.Views.{txn-setTxn, txn-setTxn-other, clock-setTxn, txn-top}
 use Rattle.rules.proofs.Choice.{length-versionsIn, Falls, Falls→falls}
@@ -25,7 +25,7 @@ use Rattle.rules.proofs.Trim.{rowOf-good}
 use Rattle.rules.proofs.Starts.{in-start, starts-lt}
 use Rattle.rules.proofs.Rewrites.{length-rewritten, row-rewritten}
 use Rattle.rules.proofs.EqualVersions.{versions→Good}
-use Rattle.rules.proofs.EqualRows.{live-number, update-live, query-live}
+use Rattle.rules.proofs.EqualRows.{update-live, query-live}
 use Rattle.rules.proofs.Carried.{versions-carried}
 use Rattle.rules.proofs.Leaves.{released-good, released-holds, left-good}
 

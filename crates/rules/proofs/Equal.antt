@@ -1,11 +1,10 @@
 -- The test of all tables says what Good says. Assumes nothing.
-use Prim.Native.Nat.{ℕ, _≤_, _<_}
+use Prim.Native.Nat.{ℕ, _<_}
 use mathlib.Core.Path.{_≡_, refl, sym}
 use mathlib.Core.Logic.{_≢_, _⊎_, inl, inr, _↔_}
-use mathlib.Core.Bool.{Bool, true, false, _&&_, not}
+use mathlib.Core.Bool.{Bool, true, false, not}
 use mathlib.Core.List.{List}
 use native.Mathlib.Omega.{arith}
-use native.Mathlib.Nat.{zero-add}
 use lib.ListN.{length}
 use lib.Dec.{T, eqb, leb, ltb, eqb→eq, leb→le, le→leb}
 use borrow.Author.Tests.{ltb-true, ltb-false}
@@ -13,7 +12,7 @@ use Rattle.names.specs.declared.Sizes.{Sizes}
 use Rattle.names.specs.Sizes.{lastWord}
 use Rattle.rules.specs.Words.{implies, everyBelow, everyRow, row}
 use Rattle.rules.specs.Tables.{Tables, txnWords, lockWords, versionWords, versionRow, lastNumber, clock, txn, live, starts, lock}
-use Rattle.rules.specs.Waits.{noCircle, waitsFor, Walk}
+use Rattle.rules.specs.Waits.{noCircle}
 use Rattle.rules.specs.Good.{Good, GoodTxn, GoodLock}
 use Rattle.rules.specs.Tested.{sizesExact, topsMost, txnGood, distinct, lockGood, versionsGood, good}
 use Rattle.rules.proofs.Tests.{and-left, and-right, and-both, implies-use, implies-make, ne-make, ne-use, eq-make}

@@ -1,11 +1,10 @@
 -- A grant leaves good tables: the awaited fields cleared, then the lock of one item changed for the caller alone. Assumes nothing.
-use Prim.Native.Nat.{ℕ, suc, _≤_, _<_}
-use mathlib.Core.Path.{_≡_, refl, sym, ap, _∙_, subst}
+use Prim.Native.Nat.{ℕ, suc, _<_}
+use mathlib.Core.Path.{_≡_, sym, ap, _∙_, subst}
 use mathlib.Core.Logic.{_≢_, _⊎_, inl, inr}
 use mathlib.Core.Bool.{Bool, false, _&&_, _||_}
 use mathlib.Core.List.{List}
 use native.Mathlib.Omega.{arith}
-use lib.ListN.{length}
 use lib.Dec.{T, eqb, eqb→eq}
 use Rattle.names.specs.declared.Sizes.{Sizes}
 use Rattle.rules.specs.Words.{bit, withBit, withoutBit}
@@ -13,7 +12,7 @@ use Rattle.rules.specs.Tables.{Tables, tables, Txn, txn, liveUpdate, noL
 use Rattle.rules.specs.Waits.{conflicts, waitsFor}
 use Rattle.rules.specs.Good.{Good, GoodTxn, GoodLock}
 use Rattle.rules.specs.Step.{withTxns, cleared, locked, sharedToo, taken, replaced}
-use Rattle.rules.proofs.Tests.{and-left, and-right, and-both, or-cases, or-left, or-right, same?, is-false, true-is}
+use Rattle.rules.proofs.Tests.{and-left, and-right, and-both, or-cases, or-left, or-right, same?, is-false}
 use Rattle.rules.proofs.Bits.{withBit-there, withoutBit-here, withoutBit-there, no-bits}
 use Rattle.rules.proofs.Views.{lock-setLock, lock-setLock-other, length-setLock}
 use Rattle.rules.proofs.Carried.{NoMore, no-more-same, txn-carried, lock-carried}

@@ -1,15 +1,12 @@
 -- Two-phase locks: a granted read leaves its caller with a lock on the item, a granted write with the exclusive one.
 -- Assumes nothing.
 use Prim.Native.Nat.{ℕ, suc, _<_}
-use mathlib.Core.Path.{_≡_, refl, sym, ap, _∙_, subst}
-use mathlib.Core.Logic.{_≢_, _⊎_, inl, inr}
-use mathlib.Core.Bool.{Bool, true, false, _||_}
-use mathlib.Core.List.{List}
+use mathlib.Core.Path.{_≡_, refl}
 use native.Mathlib.Omega.{arith}
-use lib.Dec.{T, eqb, eqb-refl}
+use lib.Dec.{T}
 use Rattle.names.specs.declared.Sizes.{Sizes}
 use Rattle.rules.specs.Words.{bit, withBit}
-use Rattle.rules.specs.Tables.{Tables, setAwaited, Lock, lock, setLock, holds, holdsShared, holdsExclusive}
+use Rattle.rules.specs.Tables.{Tables, setAwaited, Lock, lock, holds, holdsShared, holdsExclusive}
 use Rattle.rules.specs.Waits.{circleAt}
 use Rattle.rules.specs.Good.{Good}
 use Rattle.rules.specs.Locks.{Asked, toRead, toWrite, wanted, Decision, decision}

@@ -1,12 +1,12 @@
 -- A transaction that leaves: its locks go, then its row, and good tables stay good. Assumes nothing.
-use Prim.Native.Nat.{ℕ, suc, _+_, _≤_, _<_}
+use Prim.Native.Nat.{ℕ, suc, _≤_, _<_}
 use mathlib.Core.Path.{_≡_, refl, sym, ap, _∙_, subst}
 use mathlib.Core.Logic.{_≢_, _⊎_, inl, inr}
-use mathlib.Core.Bool.{Bool, true, false, cond, _||_}
+use mathlib.Core.Bool.{Bool, true, false}
 use mathlib.Core.List.{List}
 use native.Mathlib.Omega.{arith}
 use lib.ListN.{length}
-use lib.Dec.{T, eqb, eqb→eq, eqb·zero-suc}
+use lib.Dec.{T, eqb, eqb·zero-suc}
 use Rattle.names.specs.declared.Sizes.{Sizes}
 use Rattle.names.specs.Sizes.{lastWord}
 use Rattle.rules.specs.Words.{bit, withoutBit, row}
@@ -14,7 +14,7 @@ use Rattle.rules.specs.Tables.{Tables, tables, txnWords, versionWords, v
 use Rattle.rules.specs.Tables.{liveUpdate, noLock, Lock, lock, holdsShared, holdsExclusive, holds, released, release}
 use Rattle.rules.specs.Waits.{waitsFor}
 use Rattle.rules.specs.Good.{Good, GoodTxn, GoodLock, GoodVersions}
-use Rattle.rules.proofs.Tests.{or-cases, or-left, or-right, same?, false-is}
+use Rattle.rules.proofs.Tests.{or-cases, or-left, same?, false-is}
 use Rattle.rules.proofs.Bits.{withoutBit-here, withoutBit-there, bit-none, no-bits}
 use Rattle.rules.proofs.Views.{length-setTxn, lastNumber-setTxn, clock-setTxn, txn-setTxn, txn-setTxn-other, lock-release, length-release}
 use Rattle.rules.proofs.EqualRows.{live-number}

@@ -2,8 +2,8 @@
 use Prim.Native.Nat.{ℕ}
 use mathlib.Core.Path.{_≡_, refl, sym, subst}
 use mathlib.Core.Logic.{_≢_, _⊎_, inl, inr}
-use mathlib.Core.Bool.{Bool, true, false, _&&_, _||_, not, cond}
-use lib.Dec.{T, eqb, eqb→eq}
+use mathlib.Core.Bool.{Bool, true, false, _&&_, _||_, not}
+use lib.Dec.{T, eqb}
 use borrow.Author.Tests.{eqb-true, eqb-false, ne-eqb, eq-eqb}
 use Rattle.rules.specs.Words.{implies}
 

@@ -1,8 +1,7 @@
 -- The records that the tables' words are read as, after rows were written. Assumes nothing.
-use Prim.Native.Nat.{ℕ, zero, suc, _+_, _*_, _≤_, _<_}
+use Prim.Native.Nat.{ℕ, _+_, _*_, _≤_, _<_}
 use mathlib.Core.Path.{_≡_, refl, sym, ap, _∙_}
 use mathlib.Core.Logic.{_≢_}
-use mathlib.Core.Bool.{false}
 use mathlib.Core.List.{List}
 use native.Mathlib.Omega.{arith}
 use native.Mathlib.Nat.{add-zero}
@@ -10,7 +9,7 @@ use lib.ListN.{length, getD, set, length-set, List·getD-eq-default}
 use lib.Seq.{getD-set-same, getD-set-other, set-getD}
 use Rattle.names.specs.declared.Sizes.{Sizes}
 use Rattle.rules.specs.Words.{row}
-use Rattle.rules.specs.Tables.{Txn, txn, setTxn, txnAt, txnWords, lastNumber, clock, setAwaited, live}
+use Rattle.rules.specs.Tables.{Txn, txn, setTxn, txnAt, txnWords, lastNumber, clock, setAwaited}
 use Rattle.rules.specs.Tables.{Lock, lock, setLock, lockWords, lockIn, lockWordsOf, released, release}
 use Rattle.rules.proofs.Rows.{row-word, row-mapRows, length-mapRows}
 

@@ -1,6 +1,6 @@
 -- Document 01, "Tables are good when all of this holds": a field for each clause, in the document's order. The test that the calls
 -- make is in Tested; the two are proved equal. Assumes nothing.
-use Prim.Native.Nat.{ℕ, suc, _+_, _-_, _*_, _≤_, _<_}
+use Prim.Native.Nat.{ℕ, _-_, _*_, _≤_, _<_}
 use mathlib.Core.Path.{_≡_}
 use mathlib.Core.Logic.{_≢_, _⊎_, _↔_}
 use mathlib.Core.List.{List}

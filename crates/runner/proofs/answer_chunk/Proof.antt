@@ -1,13 +1,12 @@
 -- Line after line, each turn past the end of one: what is kept and the tables are those of the whole chunk. Assumes nothing.
-use Prim.Native.Nat.{_-_, _≤_, _<_}
-use mathlib.Core.Path.{_≡_, refl, sym, ap, _∙_}
+use Prim.Native.Nat.{_-_, _≤_}
+use mathlib.Core.Path.{_≡_, refl, sym, _∙_}
 use native.Mathlib.Omega.{arith}
 use lib.ListN.{length}
 use lib.Seq.{length-take-le}
 use borrow.Author.Needs.{needs}
 use Rattle.rules.specs.Tables.{Tables, tables}
-use Rattle.script.specs.Lines.{Held, heldBy, readAs}
-use Rattle.runner.specs.Replies.{afterLine}
+use Rattle.script.specs.Lines.{heldBy}
 use Rattle.runner.proofs.Replied.{leftFrom, afterFrom, line-left, line-after, none-left, none-after, end-left, end-after}
 use Rattle.runner.proofs.answer_chunk.Statement.{statement}
 use Rattle.runner.proofs.answer_chunk.Tie as tie

@@ -1,9 +1,7 @@
 -- Each command is the call that it says. Assumes nothing.
-use Prim.Native.Nat.{ℕ}
-use mathlib.Core.Path.{_≡_, sym, ap, _∙_}
+use mathlib.Core.Path.{sym, ap, _∙_}
 use Rattle.names.specs.Sizes.{base}
 use Rattle.rules.specs.Tables.{Tables, tables}
-use Rattle.rules.specs.Answers.{Outcome}
 use Rattle.rules.specs.Step.{step}
 use Rattle.script.specs.Parse.{callOf}
 use Rattle.script.specs.declared.calls.Command.{Command}

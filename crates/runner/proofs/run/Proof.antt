@@ -1,11 +1,10 @@
 -- The turns count down; the two buffers and the tables keep their lengths. Assumes nothing.
-use Prim.Native.Nat.{_-_, _≤_, _<_}
+use Prim.Native.Nat.{_-_}
 use mathlib.Core.Path.{_≡_, refl, sym, _∙_}
 use native.Mathlib.Omega.{arith}
 use lib.ListN.{length}
 use lib.Seq.{length-take-le}
 use borrow.Author.Needs.{needs}
-use borrow.Author.Tests.{not-false}
 use Rattle.runner.proofs.run.Statement.{statement}
 use Rattle.runner.proofs.run.Tie as tie
 

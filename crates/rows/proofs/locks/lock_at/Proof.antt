@@ -4,8 +4,6 @@ use Rattle.rules.specs.Tables.{lock}
 use borrow.Author.Needs.{needs}
 use Rattle.rows.proofs.locks.lock_at.Statement.{statement}
 use Rattle.rows.proofs.locks.lock_at.Tie as tie
-use Rattle.rows.proofs.locks.lock_at.Reads as reads
-use Rattle.rows.proofs.locks.lock_at.Lts as lts
 
 mul-at : tie.Need-mul-at
 mul-at c = search needs

@@ -6,8 +6,6 @@ use Rattle.rules.specs.Tables.{setLock}
 use borrow.Author.Needs.{needs}
 use Rattle.rows.proofs.locks.set_lock.Statement.{statement}
 use Rattle.rows.proofs.locks.set_lock.Tie as tie
-use Rattle.rows.proofs.locks.set_lock.Reads as reads
-use Rattle.rows.proofs.locks.set_lock.Lts as lts
 
 mul-at : tie.Need-mul-at
 mul-at c = search needs

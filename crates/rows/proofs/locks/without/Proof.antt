@@ -1,6 +1,6 @@
 -- A lock without a slot is the lock released. Assumes nothing.
 use Prim.Native.Nat.{suc}
-use mathlib.Core.Path.{_≡_, refl, sym, ap, _∙_}
+use mathlib.Core.Path.{sym, _∙_}
 use borrow.Author.Tests.{eq-eqb, ne-eqb}
 use native.Mathlib.Numerals.{add-one}
 use Rattle.rules.specs.Tables.{released, holdsExclusive}

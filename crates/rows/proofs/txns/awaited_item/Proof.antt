@@ -5,7 +5,6 @@ use borrow.Author.Needs.{needs}
 use Rattle.rows.proofs.txns.awaited_item.Statement.{statement}
 use Rattle.rows.proofs.txns.awaited_item.Tie as tie
 use Rattle.rows.proofs.txns.awaited_item.Reads as reads
-use Rattle.rows.proofs.txns.awaited_item.Lts as lts
 
 mul-result : tie.Need-mul-result
 mul-result c = search needs

@@ -6,8 +6,6 @@ use Rattle.rules.specs.Tables.{setTxn}
 use borrow.Author.Needs.{needs}
 use Rattle.rows.proofs.txns.begin.Statement.{statement}
 use Rattle.rows.proofs.txns.begin.Tie as tie
-use Rattle.rows.proofs.txns.begin.Reads as reads
-use Rattle.rows.proofs.txns.begin.Lts as lts
 
 mul-at : tie.Need-mul-at
 mul-at c = search needs

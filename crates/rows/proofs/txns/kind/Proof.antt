@@ -5,7 +5,6 @@ use borrow.Author.Needs.{needs}
 use Rattle.rows.proofs.txns.kind.Statement.{statement}
 use Rattle.rows.proofs.txns.kind.Tie as tie
 use Rattle.rows.proofs.txns.kind.Reads as reads
-use Rattle.rows.proofs.txns.kind.Lts as lts
 
 mul-result : tie.Need-mul-result
 mul-result c = search needs

@@ -6,8 +6,6 @@ use Rattle.rules.specs.Tables.{setTxn}
 use borrow.Author.Needs.{needs}
 use Rattle.rows.proofs.txns.leave.Statement.{statement}
 use Rattle.rows.proofs.txns.leave.Tie as tie
-use Rattle.rows.proofs.txns.leave.Reads as reads
-use Rattle.rows.proofs.txns.leave.Lts as lts
 
 mul-at : tie.Need-mul-at
 mul-at c = search needs

@@ -6,8 +6,6 @@ use Rattle.rules.specs.Tables.{setAwaited}
 use borrow.Author.Needs.{needs}
 use Rattle.rows.proofs.txns.set_awaited.Statement.{statement}
 use Rattle.rows.proofs.txns.set_awaited.Tie as tie
-use Rattle.rows.proofs.txns.set_awaited.Reads as reads
-use Rattle.rows.proofs.txns.set_awaited.Lts as lts
 
 mul-at : tie.Need-mul-at
 mul-at c = search needs

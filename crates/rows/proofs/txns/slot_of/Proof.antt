@@ -1,16 +1,14 @@
 -- The search goes up the slots, and what it has passed is not the number. Assumes nothing.
-use Prim.Native.Nat.{ℕ, _+_, _-_, _≤_, _<_}
+use Prim.Native.Nat.{_-_, _≤_}
 use mathlib.Core.Path.{_≡_, refl, sym, ap, _∙_}
 use mathlib.Core.Logic.{⊎-elim}
-use mathlib.Core.Bool.{Bool, true, false, not, _&&_}
-use mathlib.Core.List.{List}
+use mathlib.Core.Bool.{true, false, not}
 use native.Mathlib.Omega.{arith}
-use lib.Dec.{eqb}
 use borrow.Author.Needs.{needs}
 use borrow.Author.Tests.{eq-eqb, ne-eqb}
 use Rattle.names.specs.Sizes.{base}
 use Rattle.rules.specs.Words.{firstFrom}
-use Rattle.rules.specs.Tables.{Txn, txn, live, slotOf}
+use Rattle.rules.specs.Tables.{txn, live, slotOf}
 use Rattle.rows.specs.Founds.{foundAt}
 use Rattle.rows.proofs.Search.{first-here, first-next, first-end, found-here, found-none, named}
 use Rattle.rows.proofs.txns.slot_of.Statement.{statement}

@@ -5,7 +5,6 @@ use borrow.Author.Needs.{needs}
 use Rattle.rows.proofs.txns.start.Statement.{statement}
 use Rattle.rows.proofs.txns.start.Tie as tie
 use Rattle.rows.proofs.txns.start.Reads as reads
-use Rattle.rows.proofs.txns.start.Lts as lts
 
 mul-t4 : tie.Need-mul-t4
 mul-t4 c = search needs
