@@ -2,23 +2,16 @@
 //
 // Zeros, but each version row has count 1 with the pair (0, 0).
 use names::ITEMS;
-use names::PLACES;
-use names::SLOTS;
+use names::LOCK_WORDS;
+use names::TXN_WORDS;
+use names::VERSION_ROW;
+use names::VERSION_WORDS;
 ghost use mathlib.Core.Path.{_≡_};
 ghost use lib.ListN.{length, replicate};
 ghost use Rattle.names.specs.Sizes.{base};
 ghost use Rattle.rules.specs.Tables.{tables, versionWords};
 ghost use Rattle.rules.specs.Tested.{sizesExact};
 ghost use Rattle.fresh.specs.Made.{counted, freshened};
-
-// The sizes of the three tables in words.
-pub const TXN_WORDS: usize = 2 + 5 * (SLOTS as usize);
-
-pub const LOCK_WORDS: usize = 3 * (ITEMS as usize);
-
-const VERSION_ROW: usize = 1 + 2 * (PLACES as usize);
-
-pub const VERSION_WORDS: usize = VERSION_ROW * (ITEMS as usize);
 
 // Whether the three tables have their sizes.
 fn sizes_exact(txns: &[u64], locks: &[u64], versions: &[u64]) -> bool

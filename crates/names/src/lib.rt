@@ -1,7 +1,17 @@
 // The words of the keeper: transaction numbers, stamps, items and slots, each a struct of its own
-// so that none can stand in for another, the four numbers of an answer, and the sizes.
+// so that none can stand in for another, the four numbers of an answer, the sizes, and how the
+// tables are laid out.
 //
 // Every function is proved against a definition of specs/, and none has a `requires`.
+mod layout;
+
+pub use layout::LOCK_ROW;
+pub use layout::LOCK_WORDS;
+pub use layout::TXN_HEAD;
+pub use layout::TXN_ROW;
+pub use layout::TXN_WORDS;
+pub use layout::VERSION_ROW;
+pub use layout::VERSION_WORDS;
 ghost use mathlib.Core.Path.{_≡_};
 ghost use Rattle.names.specs.Sizes.{base};
 ghost use Rattle.names.specs.Words.{nextStamp, itemOf, numberOf};

@@ -1,6 +1,7 @@
 // The lock table: a row of three for each item.
 use names::ITEMS;
 use names::Item;
+use names::LOCK_ROW;
 use names::Slot;
 ghost use mathlib.Core.Path.{_≡_};
 ghost use Prim.Native.Nat.{_<_};
@@ -17,15 +18,13 @@ pub struct LockRow {
     pub working: u64,
 }
 
-const ROW: usize = 3;
-
 // The lock of an item.
 pub fn lock_at(locks: &[u64], item: Item) -> LockRow
     requires { ⌜ (length (now locks) ≡ lockWords base) × (item .0 < base .items) ⌝ }
     ensures { λ r. ⌜ lockOf r ≡ lock (now (locks .entry)) (item .0) ⌝ }
 {
     let x = item.0;
-    let at = ROW * (x as usize);
+    let at = LOCK_ROW * (x as usize);
     LockRow {
         shared: locks[at],
         exclusive: locks[at + 1],
@@ -39,7 +38,7 @@ pub fn set_lock(locks: &mut [u64], item: Item, row: LockRow)
     ensures { λ _. ⌜ now (locks .exit) ≡ setLock (now (locks .entry)) (item .0) (lockOf row) ⌝ }
 {
     let x = item.0;
-    let at = ROW * (x as usize);
+    let at = LOCK_ROW * (x as usize);
     locks[at] = row.shared;
     locks[at + 1] = row.exclusive;
     locks[at + 2] = row.working;

@@ -20,9 +20,9 @@ const LAST_NUMBER: usize = 0;
 
 const CLOCK: usize = 1;
 
-const ROWS: u64 = 2;
+const ROWS: u64 = names::TXN_HEAD as u64;
 
-const ROW: u64 = 5;
+const ROW: u64 = names::TXN_ROW as u64;
 
 // The last number given.
 pub fn last_number(txns: &[u64]) -> u64

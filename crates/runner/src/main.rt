@@ -3,12 +3,12 @@
 //
 // It is thin: the lines, their calls and the printed answers are those of `script`, the answers
 // those of `keeper`. Input is read and output written in large pieces.
-use fresh::LOCK_WORDS;
-use fresh::TXN_WORDS;
-use fresh::VERSION_WORDS;
 use libc::STDIN_FILENO;
 use libc::STDOUT_FILENO;
 use names::Answer;
+use names::LOCK_WORDS;
+use names::TXN_WORDS;
+use names::VERSION_WORDS;
 use script::Command;
 use script::Lines;
 use script::Parsed;

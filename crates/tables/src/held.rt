@@ -9,8 +9,8 @@ ghost use Rattle.rules.specs.Tables.{lockWords};
 ghost use Rattle.tables.specs.Shape.{updatesIn};
 ghost use Rattle.tables.specs.Holding.{locksGood, lockOk, locksOk, nothingHeld};
 use super::ITEMS;
-use super::LOCK;
-use super::LOCK_WORDS;
+use names::LOCK_ROW;
+use names::LOCK_WORDS;
 
 // The bits of a word: a shift is by less.
 const WIDTH: u64 = 64;
@@ -34,7 +34,7 @@ fn locks_ok(locks: &[u64], updates: u64) -> bool
     let mut ok = true;
     let mut item: usize = 0;
     while item < ITEMS {
-        let at = LOCK * item;
+        let at = LOCK_ROW * item;
         ok = lock_ok(locks[at], locks[at + 1], locks[at + 2], updates) & ok;
         item += 1;
     }

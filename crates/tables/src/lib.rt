@@ -13,6 +13,9 @@ mod shape;
 mod waiting;
 
 pub use held::locks_pass;
+use names::LOCK_WORDS;
+use names::TXN_WORDS;
+use names::VERSION_WORDS;
 pub use shape::distinct;
 pub use shape::rows;
 pub use waiting::blockers;
@@ -23,21 +26,6 @@ pub use waiting::waits_pass;
 const SLOTS: usize = names::SLOTS as usize;
 
 const ITEMS: usize = names::ITEMS as usize;
-
-// The words before the transaction rows, and the words of such a row.
-const TOPS: usize = 2;
-
-const ROW: usize = 5;
-
-const TXN_WORDS: usize = TOPS + ROW * SLOTS;
-
-// The words of a lock, and of all.
-const LOCK: usize = 3;
-
-const LOCK_WORDS: usize = LOCK * ITEMS;
-
-// The words of all versions: a count and the pairs, for each item.
-const VERSION_WORDS: usize = (1 + 2 * (names::PLACES as usize)) * ITEMS;
 
 // What one pass over the transaction rows sees: whether each is as the rules ask, but for what the
 // locks have a part in; the slots of the live updates; the slots of those that await a lock.

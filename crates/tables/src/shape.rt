@@ -7,10 +7,10 @@ ghost use Rattle.names.specs.Sizes.{base};
 ghost use Rattle.rules.specs.Tables.{txnWords};
 ghost use Rattle.rules.specs.Tested.{distinct};
 ghost use Rattle.tables.specs.Shape.{freeOk, updateOk, queryOk, seen, apartFrom, distinctAt};
-use super::ROW;
 use super::SLOTS;
 use super::Seen;
-use super::TOPS;
+use names::TXN_HEAD;
+use names::TXN_ROW;
 
 // A free row is all zeros.
 fn free_ok(kind: u64, start: u64, wanted: u64, item: u64) -> bool
@@ -57,7 +57,7 @@ pub fn rows(txns: &[u64]) -> Seen
     let mut waiting: u64 = 0;
     let mut slot: usize = 0;
     while slot < SLOTS {
-        let at = TOPS + ROW * slot;
+        let at = TXN_HEAD + TXN_ROW * slot;
         let number = txns[at];
         let kind = txns[at + 1];
         let start = txns[at + 2];
@@ -93,7 +93,7 @@ fn apart(txns: &[u64], slot: usize, number: u64) -> bool
     let mut ok = true;
     let mut below: usize = 0;
     while below < slot {
-        ok = !(txns[TOPS + ROW * below] == number) & ok;
+        ok = !(txns[TXN_HEAD + TXN_ROW * below] == number) & ok;
         below += 1;
     }
     ok
@@ -104,7 +104,7 @@ fn distinct_at(txns: &[u64], slot: usize) -> bool
     requires { ⌜ (length (now txns) ≡ txnWords base) × (slot < base .slots) ⌝ }
     ensures { λ r. ⌜ r ≡ distinctAt (now (txns .entry)) slot ⌝ }
 {
-    let number = txns[TOPS + ROW * slot];
+    let number = txns[TXN_HEAD + TXN_ROW * slot];
     if number == 0 {
         return true;
     }

@@ -5,11 +5,11 @@ ghost use Prim.Native.Nat.{ℕ, _<_, _≤_, _^_};
 ghost use Rattle.names.specs.Sizes.{base};
 ghost use Rattle.rules.specs.Waits.{noCircle};
 ghost use Rattle.tables.specs.Waiting.{Readable, Awaiting, Blockers, Links, awaitersGood, awaiterOk};
-use super::LOCK;
-use super::ROW;
 use super::SLOTS;
-use super::TOPS;
 use super::Waiters;
+use names::LOCK_ROW;
+use names::TXN_HEAD;
+use names::TXN_ROW;
 
 // Who awaits a lock does not hold it exclusively, nor shared if it is a shared one.
 fn awaiter_ok(shared: u64, exclusive: u64, wanted: u64, slot: u64) -> bool
@@ -44,12 +44,12 @@ pub fn waits(txns: &[u64], locks: &[u64]) -> Waiters
     let mut ok = true;
     let mut slot: usize = 0;
     while slot < SLOTS {
-        let at = TOPS + ROW * slot;
+        let at = TXN_HEAD + TXN_ROW * slot;
         let wanted = txns[at + 3];
         if wanted != 0 {
             let item = txns[at + 4] as usize;
-            let shared = locks[LOCK * item];
-            let exclusive = locks[LOCK * item + 1];
+            let shared = locks[LOCK_ROW * item];
+            let exclusive = locks[LOCK_ROW * item + 1];
             let waiter = slot as u64;
             ok = awaiter_ok(shared, exclusive, wanted, waiter) & ok;
             links[slot] = blockers(shared, exclusive, wanted, waiter);

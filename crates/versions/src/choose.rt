@@ -8,9 +8,9 @@ ghost use Rattle.rules.specs.Tables.{versionRow, versionWords};
 ghost use Rattle.rules.specs.Versions.{versionsOf, versionsIn, place, choice};
 ghost use Rattle.rules.specs.Versions.{newest as Versions·newest};
 ghost use Rattle.versions.specs.Found.{Found, FoundIn};
-use super::ROW;
 use names::Item;
 use names::Stamp;
+use names::VERSION_ROW;
 
 // The value of a version, and at how many versions one looked to find it.
 pub struct Choice {
@@ -36,8 +36,8 @@ pub fn chosen(versions: &[u64], item: Item, start: Stamp) -> Choice
     ensures value { λ r. ⌜ r .value ≡ (choice (start .0) (versionsOf base (now (versions .entry)) (item .0))) .value ⌝ }
     ensures looked { λ r. ⌜ r .looked ≡ suc (place (start .0) (versionsOf base (now (versions .entry)) (item .0))) ⌝ }
 {
-    let a = ROW * (item.0 as usize);
-    let e = a + ROW;
+    let a = VERSION_ROW * (item.0 as usize);
+    let e = a + VERSION_ROW;
     let k = place_in(&versions[a..e], start.0);
     Choice {
         value: versions[a + (k * 2 + 2)],
@@ -50,6 +50,6 @@ pub fn newest(versions: &[u64], item: Item) -> u64
     requires { ⌜ (length (now versions) ≡ versionWords base) × (item .0 < base .items) × (1 ≤ getD (row (versionRow base) (item .0) (now versions)) 0 0) ⌝ }
     ensures { λ r. ⌜ r ≡ Versions·newest base (now (versions .entry)) (item .0) ⌝ }
 {
-    let a = ROW * (item.0 as usize);
+    let a = VERSION_ROW * (item.0 as usize);
     versions[a + 2]
 }

@@ -18,17 +18,8 @@ pub use rewrite::trim_all;
 pub use test::all_good;
 pub use write::write_row;
 
-// The words before the rows of the transactions, those of such a row, and those of a lock.
-const HEAD: usize = 2;
-
-const TXN: usize = 5;
-
-const LOCK: usize = 3;
-
-// The words of a row of versions: a count, then pairs of stamp and value.
-const PAIRS: usize = 2 * (names::PLACES as usize);
-
-const ROW: usize = 1 + PAIRS;
+// The words of a row's pairs, and the rows.
+const PAIRS: usize = names::VERSION_ROW - 1;
 
 const ROWS: usize = names::ITEMS as usize;
 

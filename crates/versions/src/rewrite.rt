@@ -11,20 +11,20 @@ ghost use Rattle.rules.specs.Tables.{versionRow, versionWords};
 ghost use Rattle.rules.specs.Versions.{rewritten};
 ghost use Rattle.rules.specs.Step.{withNew};
 ghost use Rattle.versions.specs.Written.{newWords, withRow, Few, Writable, Trimmed, AllSound, Committable};
-use super::LOCK;
-use super::ROW;
 use super::ROWS;
 use super::write::write_row;
+use names::LOCK_ROW;
 use names::Slot;
 use names::Stamp;
+use names::VERSION_ROW;
 
 // Lends the row of item x to write_row.
 fn write_item(versions: &mut [u64], x: usize, starts: &[u64], new: bool, stamp: u64, value: u64)
     requires { ⌜ (length (now versions) ≡ versionWords base) × (x < base .items) × Writable (row (versionRow base) x (now versions)) (now starts) new stamp ⌝ }
     ensures { λ _. ⌜ ((qs : List ℕ) → Few qs (now (starts .entry)) → now (versions .exit) ≡ withRow x (newWords qs new stamp value (row (versionRow base) x (now (versions .entry)))) (now (versions .entry))) ⌝ }
 {
-    let a = ROW * x;
-    let e = a + ROW;
+    let a = VERSION_ROW * x;
+    let e = a + VERSION_ROW;
     write_row(&mut versions[a..e], starts, new, stamp, value);
 }
 
@@ -60,8 +60,8 @@ pub fn commit_all(versions: &mut [u64], locks: &[u64], slot: Slot, stamp: Stamp,
     let stamp = stamp.0;
     let mut i: usize = 0;
     while i < ROWS {
-        let new = locks[LOCK * i + 1] == owner;
-        commit_item(versions, i, starts, new, stamp, locks[LOCK * i + 2]);
+        let new = locks[LOCK_ROW * i + 1] == owner;
+        commit_item(versions, i, starts, new, stamp, locks[LOCK_ROW * i + 2]);
         i += 1;
     }
 }

@@ -11,8 +11,8 @@ ghost use Rattle.rules.specs.Tested.{versionsGood};
 ghost use Rattle.versions.specs.Ordered.{Rises, InOrder, Skipped};
 ghost use Rattle.versions.specs.Rows.{zeroWords, unusedOk, readIn, manyOk, rowOk};
 use super::PAIRS;
-use super::ROW;
 use super::ROWS;
+use names::VERSION_ROW;
 
 // Words that are zero are tested in parts of a length known beforehand, which is faster.
 const FEW: usize = 8;
@@ -118,8 +118,8 @@ pub fn all_good(versions: &[u64], clock: u64, starts: &[u64]) -> bool
     let mut ok = true;
     let mut i: usize = 0;
     while i < ROWS {
-        let a = ROW * i;
-        let e = a + ROW;
+        let a = VERSION_ROW * i;
+        let e = a + VERSION_ROW;
         ok = row_ok(&versions[a..e], clock, starts) & ok;
         i += 1;
     }

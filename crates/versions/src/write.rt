@@ -11,7 +11,7 @@ ghost use Rattle.versions.specs.Ordered.{lanes};
 ghost use Rattle.versions.specs.Rows.{between};
 ghost use Rattle.versions.specs.Written.{readAfter, newWords, Few, Packable, Writable};
 use super::LANES;
-use super::ROW;
+use names::VERSION_ROW;
 
 // Whether one of the starts lies from lo on and below hi: who has such a start reads the version
 // of stamp lo, if hi is the stamp before it.
@@ -30,11 +30,11 @@ fn read_between(starts: &[u64], lo: u64, hi: u64) -> bool
 
 // The words of a row with this pair in front, and behind it the versions that some start reads of
 // those from place from on.
-fn packed(row: &[u64], starts: &[u64], stamp: u64, value: u64, from: usize) -> [u64; ROW]
+fn packed(row: &[u64], starts: &[u64], stamp: u64, value: u64, from: usize) -> [u64; VERSION_ROW]
     requires { ⌜ Packable (now row) (now starts) stamp from ⌝ }
     ensures { λ r. ⌜ r ≡ rowOf base (record { stamp = stamp; value = value } ∷ readAfter (now (starts .entry)) stamp (drop from (versionsIn (now (row .entry))))) ⌝ }
 {
-    let mut out = [0u64; ROW];
+    let mut out = [0u64; VERSION_ROW];
     out[1] = stamp;
     out[2] = value;
     let count = row[0] as usize;
@@ -57,7 +57,7 @@ fn packed(row: &[u64], starts: &[u64], stamp: u64, value: u64, from: usize) -> [
 }
 
 // The words of a row as write_row leaves it.
-fn renewed(row: &[u64], starts: &[u64], new: bool, stamp: u64, value: u64) -> [u64; ROW]
+fn renewed(row: &[u64], starts: &[u64], new: bool, stamp: u64, value: u64) -> [u64; VERSION_ROW]
     requires { ⌜ Writable (now row) (now starts) new stamp ⌝ }
     ensures { λ r. ⌜ ((qs : List ℕ) → Few qs (now (starts .entry)) → r ≡ newWords qs new stamp value (now (row .entry))) ⌝ }
 {
@@ -72,7 +72,7 @@ fn copy(row: &mut [u64], from: &[u64])
     ensures { λ _. ⌜ now (row .exit) ≡ now (from .entry) ⌝ }
 {
     let mut i: usize = 0;
-    while i < ROW {
+    while i < VERSION_ROW {
         row[i] = from[i];
         i += 1;
     }
