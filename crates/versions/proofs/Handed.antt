@@ -18,7 +18,7 @@ use Rattle.rules.proofs.EqualVersions.{Good→read}
 use Rattle.rules.proofs.ChangedVersions.{rowOf-versionsIn}
 use Rattle.versions.specs.Ordered.{guard, InOrder}
 use Rattle.versions.specs.Found.{Found}
-use Rattle.versions.specs.Written.{Few, Sound, Trimmed, AllSound, Committable}
+use Rattle.versions.specs.Written.{Few, Sound, Trimmed, ZeroBehindOne, AllSound, Committable}
 use Rattle.versions.proofs.Lent.{length-row}
 use Rattle.versions.proofs.Read.{stamp-in}
 use Rattle.versions.proofs.Renew.{old-kept}
@@ -30,6 +30,9 @@ few-starts t q o s h e = record { order = o; few = starts-lt base t s h e }
 
 pub good-sound : (t r : List ℕ) → GoodVersions base t r → Sound r
 good-sound t r g = record { least = g .countLeast; most = g .countMost; fall = g .fall }
+
+good-zeros : (t r : List ℕ) → GoodVersions base t r → ZeroBehindOne r
+good-zeros t r g = record { zeros = λ e k h. g .unused k (omega arith) }
 
 module _ (G : Tables) (g : Good base G) where
   -- for chosen: a live query finds a version of each item
@@ -49,12 +52,13 @@ module _ (G : Tables) (g : Good base G) where
   pub good-least : (x : ℕ) → x < base .items → 1 ≤ getD (row (versionRow base) x (G .versions)) 0 0
   good-least x h = g .versionsGood x h .countLeast
 
-  -- for trim_all and commit_all: all rows are sound
+  -- for trim_all and commit_all: all rows are sound, and zero behind a single version
   pub good-rows : (qs q : List ℕ) → Few qs q → AllSound (G .versions) q
   good-rows qs q f =
       record {
         size = g .versionsExact;
         rows = λ x h. good-sound (G .txns) (row (versionRow base) x (G .versions)) (g .versionsGood x h);
+        zeros = λ x h. good-zeros (G .txns) (row (versionRow base) x (G .versions)) (g .versionsGood x h);
         starts = qs;
         few = f;
       }

@@ -1,17 +1,19 @@
 -- A row that is sound, rewritten with a new version and without, and the rows that an update writes. Assumes nothing.
 use Prim.Native.Nat.{ℕ, _+_, _*_, _<_, _≤_}
-use mathlib.Core.Path.{_≡_, ap, _∙_, subst, fun-ext}
+use mathlib.Core.Path.{_≡_, refl, ap, _∙_, subst, fun-ext}
 use mathlib.Core.List.{List, _∷_}
+use native.Mathlib.Omega.{arith}
 use native.Mathlib.Numerals.{add-one}
 use lib.ListN.{getD, length, drop}
 use lib.Dec.{eqb}
 use Rattle.names.specs.Sizes.{base}
-use Rattle.rules.specs.Tables.{lockRow, lock, holdsExclusive}
-use Rattle.rules.specs.Versions.{Version, versionsIn, stampAt, kept}
+use Rattle.rules.specs.Tables.{versionRow, lockRow, lock, holdsExclusive}
+use Rattle.rules.specs.Versions.{Version, pairs, versionsIn, stampAt, rowOf, keptFrom, kept}
 use Rattle.rules.specs.Step.{withNew}
 use Rattle.rules.proofs.Choice.{Falls}
+use Rattle.rules.proofs.ChangedVersions.{rowOf-versionsIn}
 use Rattle.versions.specs.Ordered.{guard}
-use Rattle.versions.specs.Written.{readAfter, fronted, claimed, Few, Sound}
+use Rattle.versions.specs.Written.{readAfter, fronted, claimed, Few, Sound, Trimmed, ZeroBehindOne}
 use Rattle.versions.proofs.Read.{pairAt}
 use Rattle.versions.proofs.Keep.{kept-is, kept-room, falls-new, first-in}
 
@@ -42,6 +44,17 @@ module _ (qs q r : List ℕ) (few : Few qs q) (sound : Sound r) where
 
     pub old-room : length (readAfter q (getD r 1 0) (drop 1 (versionsIn r))) < base .places
     old-room = kept-room qs q (few .order) (pairAt r 0) (drop 1 (versionsIn r)) old-falls low (few .few)
+
+-- a row with one version has nothing to trim
+one-kept : (qs r : List ℕ) → getD r 0 0 ≡ 1 → kept qs (versionsIn r) ≡ versionsIn r
+unfolding kept keptFrom versionsIn pairs
+one-kept qs r e = rw e refl
+
+pub one-trimmed : (r q : List ℕ) → length r ≡ versionRow base → getD r 0 0 ≡ 1 → ZeroBehindOne r → Trimmed r q
+one-trimmed r q l e z =
+    record {
+      same = λ qs k. ap (rowOf base) (one-kept qs r e) ∙ rowOf-versionsIn base r l (omega arith) (λ j h. z .zeros e j (omega arith));
+    }
 
 -- the working values that a commit puts in front
 pub claimed-is : (l : List ℕ) (s c : ℕ) → claimed l (s + 1) c ≡ withNew l s c

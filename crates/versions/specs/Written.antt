@@ -59,6 +59,10 @@ pub record Writable (r q : List ℕ) (new : Bool) (stamp : ℕ) : Type 0 where
 pub record Trimmed (r q : List ℕ) : Type 0 where
   pub same : (qs : List ℕ) → Few qs q → rowOf base (kept qs (versionsIn r)) ≡ r
 
+-- a row that is zero behind its first pair, if it has one version only: trimmed it has the same words
+pub record ZeroBehindOne (r : List ℕ) : Type 0 where
+  pub zeros : getD r 0 0 ≡ 1 → (k : ℕ) → 2 < k → getD r k 0 ≡ 0
+
 -- a row that can be packed behind a pair of that stamp, from place from on: there is room
 pub record Packable (r q : List ℕ) (stamp from : ℕ) : Type 0 where
   pub size : length r ≡ versionRow base
@@ -70,6 +74,7 @@ pub record Packable (r q : List ℕ) (stamp from : ℕ) : Type 0 where
 pub record AllSound (v q : List ℕ) : Type 0 where
   pub size : length v ≡ versionWords base
   pub rows : (x : ℕ) → x < base .items → Sound (row (versionRow base) x v)
+  pub zeros : (x : ℕ) → x < base .items → ZeroBehindOne (row (versionRow base) x v)
   pub starts : List ℕ
   pub few : Few starts q
 

@@ -1,5 +1,5 @@
 // All rows rewritten: each item's row is lent, as the middle part of the table, to the one row
-// writer.
+// writer; a row that cannot change is passed over.
 ghost use mathlib.Core.Path.{_≡_};
 ghost use mathlib.Core.Bool.{false};
 ghost use mathlib.Core.List.{List};
@@ -10,7 +10,7 @@ ghost use Rattle.rules.specs.Words.{row};
 ghost use Rattle.rules.specs.Tables.{versionRow, versionWords};
 ghost use Rattle.rules.specs.Versions.{rewritten};
 ghost use Rattle.rules.specs.Step.{withNew};
-ghost use Rattle.versions.specs.Written.{newWords, withRow, Few, Writable, Trimmed, AllSound, Committable};
+ghost use Rattle.versions.specs.Written.{newWords, withRow, Few, Writable, Trimmed, ZeroBehindOne, AllSound, Committable};
 use super::ROWS;
 use super::write::write_row;
 use names::LOCK_ROW;
@@ -28,6 +28,16 @@ fn write_item(versions: &mut [u64], x: usize, starts: &[u64], new: bool, stamp: 
     write_row(&mut versions[a..e], starts, new, stamp, value);
 }
 
+// The row of item x at a trim: a single version is the newest, so a row with one stays as it is.
+fn trim_item(versions: &mut [u64], x: usize, starts: &[u64])
+    requires { ⌜ (length (now versions) ≡ versionWords base) × (x < base .items) × Writable (row (versionRow base) x (now versions)) (now starts) false 0 × ZeroBehindOne (row (versionRow base) x (now versions)) ⌝ }
+    ensures { λ _. ⌜ ((qs : List ℕ) → Few qs (now (starts .entry)) → now (versions .exit) ≡ withRow x (newWords qs false 0 0 (row (versionRow base) x (now (versions .entry)))) (now (versions .entry))) ⌝ }
+{
+    if versions[VERSION_ROW * x] > 1 {
+        write_item(versions, x, starts, false, 0, 0);
+    }
+}
+
 // Trims every row: the versions that no start reads go, but for the newest.
 pub fn trim_all(versions: &mut [u64], starts: &[u64])
     requires { ⌜ AllSound (now versions) (now starts) ⌝ }
@@ -35,7 +45,7 @@ pub fn trim_all(versions: &mut [u64], starts: &[u64])
 {
     let mut i: usize = 0;
     while i < ROWS {
-        write_item(versions, i, starts, false, 0, 0);
+        trim_item(versions, i, starts);
         i += 1;
     }
 }

@@ -1,5 +1,5 @@
 -- A row with a new version goes to the row writer; one without is trimmed, so that it is what the writer would leave. Assumes nothing.
-use mathlib.Core.Path.{_≡_, sym, ap, _∙_}
+use mathlib.Core.Path.{sym, ap, _∙_}
 use mathlib.Core.Bool.{Bool}
 use mathlib.Core.List.{List}
 use Prim.Native.Nat.{ℕ}
@@ -7,7 +7,7 @@ use Rattle.names.specs.Sizes.{base}
 use Rattle.rules.specs.Words.{row}
 use Rattle.rules.specs.Tables.{versionRow}
 use Rattle.versions.specs.Written.{withRow, newWords}
-use Rattle.versions.proofs.Table.{row-back}
+use Rattle.versions.proofs.Table.{trimmed-back}
 use borrow.Author.Needs.{needs}
 use Rattle.versions.proofs.rewrite.commit_item.Statement.{statement}
 use Rattle.versions.proofs.rewrite.commit_item.Tie as tie
@@ -30,8 +30,7 @@ returns-2 c =
     λ qs k.
     sym
     (ap (λ (b : Bool). withRow (a .x) (newWords qs b (a .stamp) (a .value) r) v) e
-    ∙ ap (λ (l : List ℕ). withRow (a .x) l v) (c .before .before .before .pre .3 e .same qs k)
-    ∙ row-back (a .x) v)
+    ∙ trimmed-back (a .x) v (a .starts .now) (c .before .before .before .pre .3 e) qs k (a .stamp) (a .value))
 
 pub commit-item-spec : {M : Type 1} → statement M
 commit-item-spec = tie.close (tie.spec write-item-requires same-length returns returns-2)

@@ -7,7 +7,7 @@ use native.Mathlib.Omega.{arith}
 use lib.ListN.{length}
 use Rattle.names.specs.Sizes.{base}
 use Rattle.rules.specs.Versions.{Version}
-use Rattle.versions.specs.Written.{Few, Sound}
+use Rattle.versions.specs.Written.{Few, Sound, ZeroBehindOne}
 use Rattle.versions.proofs.Lent.{length-row}
 use Rattle.versions.proofs.Table.{soFar, none-yet, all-done, length-soFar, row-soFar, one-more}
 use Rattle.versions.proofs.rewrite.trim_all.Statement.{statement}
@@ -25,24 +25,26 @@ abbrev μ-loop : tie.MeasureT-loop
 loop-holds : tie.Need-loop-holds Inv-loop μ-loop
 loop-holds c = (omega arith, λ qs h. sym (none-yet qs same (c .before .before .args .versions .now)))
 
-write-item-requires : tie.Need-write-item-requires Inv-loop μ-loop
-write-item-requires c κs =
+trim-item-requires : tie.Need-trim-item-requires Inv-loop μ-loop
+trim-item-requires c κs =
     let v = c .before .before .before .before .before .args .versions .now in
     let p = c .before .before .before .before .before .pre in
     let i = c .before .before .loop .i in
     let h = c .before .loop-test .taken in
     let cur = c .before .before .loop .versions in
     let e = c .before .before .loop .inv .1 (p .starts) (p .few) in
-    let l = ap length e ∙ length-soFar (p .starts) same v (p .few .few) (p .size) i (c .before .before .loop .inv .0) in (
+    let l = ap length e ∙ length-soFar (p .starts) same v (p .few .few) (p .size) i (c .before .before .loop .inv .0) in
+    let r = row-soFar (p .starts) same v (p .few .few) (p .size) i h cur e in (
       l,
       h,
       record {
         size = length-row i cur l h;
-        sound = subst Sound (sym (row-soFar (p .starts) same v (p .few .few) (p .size) i h cur e)) (p .rows i h);
+        sound = subst Sound (sym r) (p .rows i h);
         newer = λ z. absurd (true-is z);
         starts = p .starts;
         few = p .few;
       },
+      subst ZeroBehindOne (sym r) (p .zeros i h),
     )
 
 add-i : tie.Need-add-i Inv-loop μ-loop
@@ -56,7 +58,7 @@ loop-again c =
     let p = c .before .before .before .before .before .before .before .before .pre in
     let l = c .before .before .before .before .before .loop in (
       omega arith,
-      λ qs h. c .before .before .write-item .ensures qs h ∙ one-more qs same (c .before .before .before .before .before .before .before .before .args .versions .now) (h .few) (p .size) (l .i) (c .before .before .before .before .loop-test .taken) (l .versions) (l .inv .1 qs h),
+      λ qs h. c .before .before .trim-item .ensures qs h ∙ one-more qs same (c .before .before .before .before .before .before .before .before .args .versions .now) (h .few) (p .size) (l .i) (c .before .before .before .before .loop-test .taken) (l .versions) (l .inv .1 qs h),
     )
 
 same-length : tie.Need-same-length Inv-loop μ-loop
@@ -80,7 +82,7 @@ trim-all-spec =
     Inv-loop
     μ-loop
     loop-holds
-    write-item-requires
+    trim-item-requires
     add-i
     loop-less
     loop-again
