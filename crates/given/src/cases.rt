@@ -27,6 +27,26 @@ pub(crate) const LOCKS: usize = 3 * (names::ITEMS as usize) + OVER;
 pub(crate) const VERSIONS: usize = (1 + 2 * (names::PLACES as usize)) * (names::ITEMS as usize)
     + OVER;
 
+// Room for the words of each table. The contracts give only the lengths, which lending a part needs;
+// no word is read before it is set.
+fn txns_room() -> [u64; TXNS]
+    ensures { λ r. ⌜ 90 ≡ length r ⌝ }
+{
+    [0; TXNS]
+}
+
+fn locks_room() -> [u64; LOCKS]
+    ensures { λ r. ⌜ 200 ≡ length r ⌝ }
+{
+    [0; LOCKS]
+}
+
+fn versions_room() -> [u64; VERSIONS]
+    ensures { λ r. ⌜ 2120 ≡ length r ⌝ }
+{
+    [0; VERSIONS]
+}
+
 // The call of a kind, made.
 fn call(
     kind: u64,
@@ -80,7 +100,7 @@ fn is_case(numbers: &[u64]) -> bool
     if (VERSIONS as u64) < versions {
         return false;
     }
-    (1 <= kind) & (kind <= 6) & (7 + txns + locks + versions == numbers.len() as u64)
+    (1 <= kind) & (kind <= 6) & (HEAD as u64 + txns + locks + versions == numbers.len() as u64)
 }
 
 // The tables filled with the words of a case, and its call made on them.
@@ -125,9 +145,9 @@ fn case_line(numbers: &[u64], out: &mut [u8], at: usize) -> usize
     requires { ⌜ (isCase (now numbers) ≡ true) × (at + 50757 ≤ length (now out)) ⌝ }
     ensures { λ r. ⌜ Wrote (now (out .entry)) at (caseLine (now (numbers .entry))) (now (out .exit)) r ⌝ }
 {
-    let mut txns = [0u64; TXNS];
-    let mut locks = [0u64; LOCKS];
-    let mut versions = [0u64; VERSIONS];
+    let mut txns = txns_room();
+    let mut locks = locks_room();
+    let mut versions = versions_room();
     let a = numbers[4] as usize;
     let b = numbers[5] as usize;
     let c = numbers[6] as usize;
