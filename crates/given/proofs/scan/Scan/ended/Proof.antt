@@ -1,4 +1,5 @@
 -- `ended` keeps the number, or spoils the line. Assumes nothing.
+use native.Mathlib.Omega.{arith}
 use mathlib.Core.Path.{sym, _∙_}
 use borrow.Author.Tests.{not-true, not-false}
 use Rattle.given.proofs.Scanned.{ends-bare, ends-full, ends-kept}
@@ -16,7 +17,7 @@ spoil-requires-2 : tie.Need-spoil-requires-2
 spoil-requires-2 c κs = search needs
 
 returns-2 : tie.Need-returns-2
-returns-2 c = let a = c .before .before .before .before .before .args in c .spoil2 .ensures (a .words .now) ∙ sym (ends-full (a .words .now) (a .self) (not-false _ (c .before .before .if1 .left)) (c .before .if2 .taken))
+returns-2 c = let a = c .before .before .before .before .before .args in c .spoil2 .ensures (a .words .now) ∙ sym (ends-full (a .words .now) (a .self) (not-false _ (c .before .before .if1 .left)) (omega (arith, c .before .if2 .taken)))
 
 mul-words : tie.Need-mul-words
 mul-words c = search needs
