@@ -7,11 +7,10 @@ use native.Mathlib.Omega.{arith}
 use lib.Dec.{eqb, leb}
 use lib.ListN.{length, take, drop, getD}
 use borrow.Author.Tests.{leb-true, eqb-true, le-leb, lt-leb, ne-eqb}
-use Rattle.names.specs.Sizes.{base}
-use Rattle.rules.specs.Tables.{Tables, tables, txnWords, lockWords, versionWords}
+use Rattle.rules.specs.Tables.{Tables, tables}
 use Rattle.rules.specs.Answers.{Call, beginUpdate, beginQuery, read, write, commit, abort}
 use Rattle.script.proofs.Scans.{and-left, and-right}
-use Rattle.given.specs.Cases.{callBy, tablesOf, txnsLength, locksLength, versionsLength, isCase, Fits}
+use Rattle.given.specs.Cases.{headNumbers, txnsRoom, locksRoom, versionsRoom, longestAnswer, callBy, tablesOf, txnsLength, locksLength, versionsLength, isCase, Fits}
 
 pub take-all : (l : List ℕ) → take (length l) l ≡ l
 take-all [] = refl
@@ -49,76 +48,72 @@ module _ (k n x v : ℕ) where
 module _ (ns : List ℕ) where
   -- the kind, and the number of words
   abbrev rest : Bool
-  rest = leb 1 (getD ns 0 0) && leb (getD ns 0 0) 6 && eqb (7 + txnsLength ns + locksLength ns + versionsLength ns) (length ns)
+  rest = leb 1 (getD ns 0 0) && leb (getD ns 0 0) 6 && eqb (headNumbers + txnsLength ns + locksLength ns + versionsLength ns) (length ns)
 
-  pub short-case : length ns < 7 → false ≡ isCase ns
+  pub short-case : length ns < headNumbers → false ≡ isCase ns
   unfolding isCase
-  short-case h = rw (lt-leb 7 (length ns) h)
+  short-case h = rw (lt-leb headNumbers (length ns) h)
 
-  pub long-txns : 7 ≤ length ns → 90 < txnsLength ns → false ≡ isCase ns
+  pub long-txns : headNumbers ≤ length ns → txnsRoom < txnsLength ns → false ≡ isCase ns
   unfolding isCase
-  long-txns h a = rw (le-leb 7 (length ns) h, lt-leb (txnsLength ns) 90 a)
+  long-txns h a = rw (le-leb headNumbers (length ns) h, lt-leb (txnsLength ns) txnsRoom a)
 
-  pub long-locks : 7 ≤ length ns → txnsLength ns ≤ 90 → 200 < locksLength ns → false ≡ isCase ns
+  pub long-locks : headNumbers ≤ length ns → txnsLength ns ≤ txnsRoom → locksRoom < locksLength ns → false ≡ isCase ns
   unfolding isCase
-  long-locks h a b = rw (le-leb 7 (length ns) h, le-leb (txnsLength ns) 90 a, lt-leb (locksLength ns) 200 b)
+  long-locks h a b = rw (le-leb headNumbers (length ns) h, le-leb (txnsLength ns) txnsRoom a, lt-leb (locksLength ns) locksRoom b)
 
-  pub long-versions : 7 ≤ length ns → txnsLength ns ≤ 90 → locksLength ns ≤ 200 → 2120 < versionsLength ns → false ≡ isCase ns
+  pub long-versions : headNumbers ≤ length ns → txnsLength ns ≤ txnsRoom → locksLength ns ≤ locksRoom → versionsRoom < versionsLength ns → false ≡ isCase ns
   unfolding isCase
-  long-versions h a b c = rw (le-leb 7 (length ns) h, le-leb (txnsLength ns) 90 a, le-leb (locksLength ns) 200 b, lt-leb (versionsLength ns) 2120 c)
+  long-versions h a b c = rw (le-leb headNumbers (length ns) h, le-leb (txnsLength ns) txnsRoom a, le-leb (locksLength ns) locksRoom b, lt-leb (versionsLength ns) versionsRoom c)
 
-  pub fitting : 7 ≤ length ns → txnsLength ns ≤ 90 → locksLength ns ≤ 200 → versionsLength ns ≤ 2120 → rest ≡ isCase ns
+  pub fitting : headNumbers ≤ length ns → txnsLength ns ≤ txnsRoom → locksLength ns ≤ locksRoom → versionsLength ns ≤ versionsRoom → rest ≡ isCase ns
   unfolding isCase
-  fitting h a b c = rw (le-leb 7 (length ns) h, le-leb (txnsLength ns) 90 a, le-leb (locksLength ns) 200 b, le-leb (versionsLength ns) 2120 c)
+  fitting h a b c = rw (le-leb headNumbers (length ns) h, le-leb (txnsLength ns) txnsRoom a, le-leb (locksLength ns) locksRoom b, le-leb (versionsLength ns) versionsRoom c)
 
 -- what the test says
 pub record Case (ns : List ℕ) : Type 0 where
-  pub head : 7 ≤ length ns
-  pub txns : txnsLength ns ≤ 90
-  pub locks : locksLength ns ≤ 200
-  pub versions : versionsLength ns ≤ 2120
-  pub all : 7 + txnsLength ns + locksLength ns + versionsLength ns ≡ length ns
+  pub head : headNumbers ≤ length ns
+  pub txns : txnsLength ns ≤ txnsRoom
+  pub locks : locksLength ns ≤ locksRoom
+  pub versions : versionsLength ns ≤ versionsRoom
+  pub all : headNumbers + txnsLength ns + locksLength ns + versionsLength ns ≡ length ns
 
 pub case-is : (ns : List ℕ) → isCase ns ≡ true → Case ns
 unfolding isCase
 case-is ns e =
-    let a = leb 7 (length ns) in
-    let b = leb (txnsLength ns) 90 in
-    let c = leb (locksLength ns) 200 in
-    let d = leb (versionsLength ns) 2120 in
+    let a = leb headNumbers (length ns) in
+    let b = leb (txnsLength ns) txnsRoom in
+    let c = leb (locksLength ns) locksRoom in
+    let d = leb (versionsLength ns) versionsRoom in
     let abcd : (a && b && c && d) ≡ true = and-left (a && b && c && d) (rest ns) e in
     let abc : (a && b && c) ≡ true = and-left (a && b && c) d abcd in
     let ab : (a && b) ≡ true = and-left (a && b) c abc in
     let r : rest ns ≡ true = and-right (a && b && c && d) (rest ns) e in
     record {
-      head = leb-true 7 (length ns) (and-left a b ab);
-      txns = leb-true (txnsLength ns) 90 (and-right a b ab);
-      locks = leb-true (locksLength ns) 200 (and-right (a && b) c abc);
-      versions = leb-true (versionsLength ns) 2120 (and-right (a && b && c) d abcd);
-      all = eqb-true (7 + txnsLength ns + locksLength ns + versionsLength ns) (length ns) (and-right (leb 1 (getD ns 0 0) && leb (getD ns 0 0) 6) (eqb (7 + txnsLength ns + locksLength ns + versionsLength ns) (length ns)) r);
+      head = leb-true headNumbers (length ns) (and-left a b ab);
+      txns = leb-true (txnsLength ns) txnsRoom (and-right a b ab);
+      locks = leb-true (locksLength ns) locksRoom (and-right (a && b) c abc);
+      versions = leb-true (versionsLength ns) versionsRoom (and-right (a && b && c) d abcd);
+      all = eqb-true (headNumbers + txnsLength ns + locksLength ns + versionsLength ns) (length ns) (and-right (leb 1 (getD ns 0 0) && leb (getD ns 0 0) 6) (eqb (headNumbers + txnsLength ns + locksLength ns + versionsLength ns) (length ns)) r);
     }
 
 -- three tables of these lengths, and the room for the answer line
-pub fits-case : (ns : List ℕ) (at room : ℕ) → Case ns → {t l v : List ℕ} → length t ≡ txnsLength ns → length l ≡ locksLength ns → length v ≡ versionsLength ns → at + 50757 ≤ room → Fits ns t l v × (at + 21 * length ns ≤ room)
+pub fits-case : (ns : List ℕ) (at room : ℕ) → Case ns → {t l v : List ℕ} → length t ≡ txnsLength ns → length l ≡ locksLength ns → length v ≡ versionsLength ns → at + longestAnswer ≤ room → Fits ns t l v × (at + 21 * length ns ≤ room)
 fits-case ns at room k {t} {l} {v} a b c h =
     (record { txns = a; locks = b; versions = c; all = omega (arith, a, b, c, k .all) }, omega (arith, h, k .txns, k .locks, k .versions, k .all))
-
--- the rooms are eight words over the right sizes
-rooms : (90 ≡ txnWords base + 8) × (200 ≡ lockWords base + 8) × (2120 ≡ versionWords base + 8)
-rooms = (refl, refl, refl)
 
 -- ---- the tables
 
 module _ (ns t l v : List ℕ) (f : Fits ns t l v) where
   pub filled :
       {t′ l′ v′ : List ℕ}
-      → t′ ≡ take ((7 + length t) - 7) (drop 7 ns)
-      → l′ ≡ take ((7 + length t + length l) - (7 + length t)) (drop (7 + length t) ns)
-      → v′ ≡ take (length ns - (7 + length t + length l)) (drop (7 + length t + length l) ns)
+      → t′ ≡ take ((headNumbers + length t) - headNumbers) (drop headNumbers ns)
+      → l′ ≡ take ((headNumbers + length t + length l) - (headNumbers + length t)) (drop (headNumbers + length t) ns)
+      → v′ ≡ take (length ns - (headNumbers + length t + length l)) (drop (headNumbers + length t + length l) ns)
       → tables t′ l′ v′ ≡ tablesOf ns
   unfolding tablesOf
   filled a b c =
-      let d : (7 + length t) - 7 ≡ txnsLength ns = omega (arith, f .txns) in
-      let e : (7 + length t + length l) - (7 + length t) ≡ locksLength ns = omega (arith, f .locks) in
-      let g : length ns - (7 + length t + length l) ≡ versionsLength ns = omega (arith, f .versions, f .all) in
+      let d : (headNumbers + length t) - headNumbers ≡ txnsLength ns = omega (arith, f .txns) in
+      let e : (headNumbers + length t + length l) - (headNumbers + length t) ≡ locksLength ns = omega (arith, f .locks) in
+      let g : length ns - (headNumbers + length t + length l) ≡ versionsLength ns = omega (arith, f .versions, f .all) in
       rw (a, b, c, d, e, g, f .txns, f .locks) refl

@@ -1,4 +1,5 @@
 -- Laws of given cases.
 pub mod Scanned
+pub mod Read
 pub mod Printed
 pub mod Cased

@@ -6,11 +6,31 @@ use mathlib.Core.List.{List, [], _∷_, _++_}
 use lib.Dec.{eqb, leb}
 use lib.ListN.{length, getD, take, drop}
 use Rattle.names.specs.Sizes.{base}
-use Rattle.rules.specs.Tables.{Tables, tables}
+use Rattle.rules.specs.Tables.{Tables, tables, txnWords, lockWords, versionWords}
 use Rattle.rules.specs.Answers.{Call, Outcome, beginUpdate, beginQuery, read, write, commit, abort}
 use Rattle.rules.specs.Step.{step}
 use Rattle.script.specs.Print.{decimal, spaced, badLine}
 use Rattle.given.specs.Lines.{Held, reads, spoilt}
+
+-- ---- sizes
+
+-- the numbers before the words: the call's four, and three lengths. An answer has as many: its four numbers, and the lengths
+abbrev pub headNumbers : ℕ
+headNumbers = 7
+
+-- the longest tables that a case may give: eight words over the right sizes
+abbrev pub txnsRoom : ℕ
+txnsRoom = txnWords base + 8
+
+abbrev pub locksRoom : ℕ
+locksRoom = lockWords base + 8
+
+abbrev pub versionsRoom : ℕ
+versionsRoom = versionWords base + 8
+
+-- the bytes of the longest answer: a number has at most 20 digits, and a byte beside it
+abbrev pub longestAnswer : ℕ
+longestAnswer = 21 * (headNumbers + txnsRoom + locksRoom + versionsRoom)
 
 -- ---- what the numbers give
 
@@ -42,25 +62,25 @@ versionsLength ns = getD ns 6 0
 unfoldable pub tablesOf : List ℕ → Tables
 tablesOf ns =
     tables
-    (take (txnsLength ns) (drop 7 ns))
-    (take (locksLength ns) (drop (7 + txnsLength ns) ns))
-    (take (versionsLength ns) (drop (7 + txnsLength ns + locksLength ns) ns))
+    (take (txnsLength ns) (drop headNumbers ns))
+    (take (locksLength ns) (drop (headNumbers + txnsLength ns) ns))
+    (take (versionsLength ns) (drop (headNumbers + txnsLength ns + locksLength ns) ns))
 
 -- a kind, tables of at most eight words over their sizes, and as many words as the lengths say
 unfoldable pub isCase : List ℕ → Bool
 isCase ns =
-    leb 7 (length ns)
-    && leb (txnsLength ns) 90
-    && leb (locksLength ns) 200
-    && leb (versionsLength ns) 2120
-    && (leb 1 (getD ns 0 0) && leb (getD ns 0 0) 6 && eqb (7 + txnsLength ns + locksLength ns + versionsLength ns) (length ns))
+    leb headNumbers (length ns)
+    && leb (txnsLength ns) txnsRoom
+    && leb (locksLength ns) locksRoom
+    && leb (versionsLength ns) versionsRoom
+    && (leb 1 (getD ns 0 0) && leb (getD ns 0 0) 6 && eqb (headNumbers + txnsLength ns + locksLength ns + versionsLength ns) (length ns))
 
 -- three tables that the words fill
 pub record Fits (ns t l v : List ℕ) : Type 0 where
   pub txns : length t ≡ txnsLength ns
   pub locks : length l ≡ locksLength ns
   pub versions : length v ≡ versionsLength ns
-  pub all : 7 + length t + length l + length v ≡ length ns
+  pub all : headNumbers + length t + length l + length v ≡ length ns
 
 -- ---- the answer line
 

@@ -31,6 +31,11 @@ ends room spoilt = spoilt
 unfoldable pub after : ℕ → Held → ℕ → Held
 after room h b = cond (eqb b 32) (ends room h) (digitAfter b h)
 
+-- byte after byte
+unfoldable pub readOn : ℕ → Held → List ℕ → Held
+readOn room h [] = h
+readOn room h (b ∷ bs) = readOn room (after room h b) bs
+
 -- whether the end of input ends a line here
 unfoldable pub begun : Held → Bool
 begun (reads ns v g) = g || ltb 0 (length ns)

@@ -12,7 +12,7 @@ ghost use Rattle.rules.specs.Answers.{outcome};
 ghost use Rattle.rules.specs.Step.{step};
 ghost use Rattle.script.specs.Print.{Wrote};
 ghost use Rattle.given.specs.Lines.{heldBy};
-ghost use Rattle.given.specs.Cases.{callBy, callOf, tablesOf, isCase, caseLine, answerTo, answerAt, Fits};
+ghost use Rattle.given.specs.Cases.{txnsRoom, locksRoom, versionsRoom, longestAnswer, callBy, callOf, tablesOf, isCase, caseLine, answerTo, answerAt, Fits};
 
 // The numbers before the words: kind, number, item and value of the call, and three lengths.
 pub(crate) const HEAD: usize = 7;
@@ -30,19 +30,19 @@ pub(crate) const VERSIONS: usize = (1 + 2 * (names::PLACES as usize)) * (names::
 // Room for the words of each table. The contracts give only the lengths, which lending a part needs;
 // no word is read before it is set.
 fn txns_room() -> [u64; TXNS]
-    ensures { λ r. ⌜ 90 ≡ length r ⌝ }
+    ensures { λ r. ⌜ txnsRoom ≡ length r ⌝ }
 {
     [0; TXNS]
 }
 
 fn locks_room() -> [u64; LOCKS]
-    ensures { λ r. ⌜ 200 ≡ length r ⌝ }
+    ensures { λ r. ⌜ locksRoom ≡ length r ⌝ }
 {
     [0; LOCKS]
 }
 
 fn versions_room() -> [u64; VERSIONS]
-    ensures { λ r. ⌜ 2120 ≡ length r ⌝ }
+    ensures { λ r. ⌜ versionsRoom ≡ length r ⌝ }
 {
     [0; VERSIONS]
 }
@@ -142,7 +142,7 @@ fn made_line(
 
 // A case's answer line, with the tables that it takes.
 fn case_line(numbers: &[u64], out: &mut [u8], at: usize) -> usize
-    requires { ⌜ (isCase (now numbers) ≡ true) × (at + 50757 ≤ length (now out)) ⌝ }
+    requires { ⌜ (isCase (now numbers) ≡ true) × (at + longestAnswer ≤ length (now out)) ⌝ }
     ensures { λ r. ⌜ Wrote (now (out .entry)) at (caseLine (now (numbers .entry))) (now (out .exit)) r ⌝ }
 {
     let mut txns = txns_room();
@@ -163,7 +163,7 @@ fn case_line(numbers: &[u64], out: &mut [u8], at: usize) -> usize
 
 // The answer line of any numbers.
 fn answer(numbers: &[u64], out: &mut [u8], at: usize) -> usize
-    requires { ⌜ at + 50757 ≤ length (now out) ⌝ }
+    requires { ⌜ at + longestAnswer ≤ length (now out) ⌝ }
     ensures { λ r. ⌜ Wrote (now (out .entry)) at (answerTo (now (numbers .entry))) (now (out .exit)) r ⌝ }
 {
     if is_case(numbers) {
@@ -175,7 +175,7 @@ fn answer(numbers: &[u64], out: &mut [u8], at: usize) -> usize
 
 // The answer line of what was read of a line.
 pub(crate) fn respond(line: Scan, words: &[u64], out: &mut [u8], at: usize) -> usize
-    requires { ⌜ at + 50757 ≤ length (now out) ⌝ }
+    requires { ⌜ at + longestAnswer ≤ length (now out) ⌝ }
     ensures { λ r. ⌜ Wrote (now (out .entry)) at (answerAt (heldBy (now (words .entry)) line)) (now (out .exit)) r ⌝ }
 {
     let count = line.count;

@@ -15,6 +15,7 @@ use scan::Scan;
 ghost use mathlib.Core.Path.{_≡_};
 ghost use Prim.Native.Nat.{_+_, _≤_};
 ghost use lib.ListN.{length};
+ghost use Rattle.given.specs.Cases.{longestAnswer};
 
 // The numbers of the longest case, and the bytes of its answer: each number has 20 digits at most
 // and a byte beside it.
@@ -24,8 +25,8 @@ const ANSWER: usize = 21 * NUMBERS;
 
 // Room for one more answer: what is used is written out where there is none.
 fn room(out: &[u8], used: usize) -> usize
-    requires { ⌜ (used ≤ length (now out)) × (50757 ≤ length (now out)) ⌝ }
-    ensures { λ r. ⌜ r + 50757 ≤ length (now (out .entry)) ⌝ }
+    requires { ⌜ (used ≤ length (now out)) × (longestAnswer ≤ length (now out)) ⌝ }
+    ensures { λ r. ⌜ r + longestAnswer ≤ length (now (out .entry)) ⌝ }
 {
     if out.len() - used < ANSWER {
         io::write_all(STDOUT_FILENO, &out[..used]);
@@ -36,7 +37,7 @@ fn room(out: &[u8], used: usize) -> usize
 
 // A line that ends, answered; how many bytes of the output are used then.
 fn answer_line(scan: Scan, words: &mut [u64], out: &mut [u8], used: usize) -> usize
-    requires { ⌜ (used ≤ length (now out)) × (50757 ≤ length (now out)) ⌝ }
+    requires { ⌜ (used ≤ length (now out)) × (longestAnswer ≤ length (now out)) ⌝ }
     ensures { λ r. ⌜ r ≤ length (now (out .entry)) ⌝ }
 {
     let line = scan.ended(words);
@@ -46,7 +47,7 @@ fn answer_line(scan: Scan, words: &mut [u64], out: &mut [u8], used: usize) -> us
 
 // The lines that end in a chunk, answered; what is read of the last one.
 fn answer_chunk(scan: Scan, chunk: &[u8], words: &mut [u64], out: &mut [u8]) -> Scan
-    requires { ⌜ 50757 ≤ length (now out) ⌝ }
+    requires { ⌜ longestAnswer ≤ length (now out) ⌝ }
 {
     let mut held = scan;
     let mut used: usize = 0;

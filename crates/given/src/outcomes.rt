@@ -6,7 +6,7 @@ ghost use Prim.Native.Nat.{_+_, _*_, _≤_};
 ghost use lib.ListN.{length};
 ghost use Rattle.rules.specs.Answers.{outcome};
 ghost use Rattle.script.specs.Print.{spaced, Wrote};
-ghost use Rattle.given.specs.Cases.{outcomeLine};
+ghost use Rattle.given.specs.Cases.{headNumbers, outcomeLine};
 
 // Writes a space and a number.
 fn print_word(word: u64, out: &mut [u8], at: usize) -> usize
@@ -40,7 +40,7 @@ pub(crate) fn print_outcome(
     out: &mut [u8],
     at: usize,
 ) -> usize
-    requires { ⌜ at + 21 * (7 + length (now txns) + length (now locks) + length (now versions)) ≤ length (now out) ⌝ }
+    requires { ⌜ at + 21 * (headNumbers + length (now txns) + length (now locks) + length (now versions)) ≤ length (now out) ⌝ }
     ensures { λ r. ⌜ Wrote (now (out .entry)) at (outcomeLine (outcome answer (now (txns .entry)) (now (locks .entry)) (now (versions .entry)))) (now (out .exit)) r ⌝ }
 {
     let head = [

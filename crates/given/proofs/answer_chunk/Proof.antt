@@ -6,12 +6,13 @@ use mathlib.Core.Path.{_≡_, refl, sym, ap, _∙_}
 use mathlib.Core.Logic.{⊎-elim}
 use lib.ListN.{length}
 use lib.Seq.{length-take-le}
+use Rattle.given.specs.Cases.{longestAnswer}
 use borrow.Author.Tests.{not-false}
 use Rattle.given.proofs.answer_chunk.Statement.{statement}
 use Rattle.given.proofs.answer_chunk.Tie as tie
 
 abbrev Inv-loop : tie.InvT-loop
-Inv-loop chunk words₀ out₀ held₀ used₀ at₀ words out held used at = (used ≤ length out) × (50757 ≤ length out) × (length out ≡ length out₀) × (length words ≡ length words₀)
+Inv-loop chunk words₀ out₀ held₀ used₀ at₀ words out held used at = (used ≤ length out) × (longestAnswer ≤ length out) × (length out ≡ length out₀) × (length words ≡ length words₀)
 
 abbrev μ-loop : tie.MeasureT-loop
 μ-loop chunk words₀ out₀ held₀ used₀ at₀ words out held used at = length chunk - at
