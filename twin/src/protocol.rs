@@ -2,13 +2,17 @@
 //!
 //! In: call kind 1 to 6, number, item, value, the three lengths, then the words
 //! of the three tables. Out: the four numbers of the answer, the three lengths,
-//! then all words as the call left them. Single spaces, decimal numbers.
+//! then all words as the call left them. Single spaces, decimal numbers. A line
+//! that is no case is answered `bad`.
 
 use std::io::{self, BufRead, Write};
 
 use crate::answer::Answer;
 use crate::decimal;
 use crate::keeper::{Call, Keeper};
+
+/// The answer to a line that is no case, without its end.
+pub const BAD: &[u8] = b"bad";
 
 /// Tables of any lengths.
 #[derive(Clone, Debug, PartialEq, Eq)]
@@ -157,7 +161,7 @@ fn words_of(call: Call) -> [u64; 4] {
     }
 }
 
-/// Answers every case of the input. A line that is no case is an error.
+/// Answers every line of the input.
 pub fn run<R, W, F>(input: R, mut output: W, mut call: F) -> io::Result<()>
 where
     R: BufRead,
@@ -166,11 +170,17 @@ where
 {
     let mut out = Vec::new();
     for line in input.split(b'\n') {
-        let mut case = Case::parse(&line?)
-            .ok_or_else(|| io::Error::new(io::ErrorKind::InvalidData, "a line is not a case"))?;
-        let answer = call(case.call, &mut case.tables);
         out.clear();
-        push_outcome(&mut out, answer, &case.tables);
+        match Case::parse(&line?) {
+            Some(mut case) => {
+                let answer = call(case.call, &mut case.tables);
+                push_outcome(&mut out, answer, &case.tables);
+            }
+            None => {
+                out.extend_from_slice(BAD);
+                out.push(b'\n');
+            }
+        }
         output.write_all(&out)?;
     }
     output.flush()

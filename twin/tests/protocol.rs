@@ -77,7 +77,7 @@ fn what_is_no_case() {
     ];
     for line in lines {
         assert_eq!(Case::parse(line), None, "{}", line.escape_ascii());
-        assert!(!answered(&[line, b"\n"].concat()).1);
+        assert_eq!(answered(&[line, b"\n"].concat()), ("bad\n".to_string(), true));
     }
 }
 

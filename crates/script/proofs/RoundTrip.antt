@@ -18,7 +18,7 @@ unfolding spaced
 spaced-numbers Words.none = Numbers.none
 spaced-numbers (Words.more {n} {ns} h r) = Numbers.more (decimal-numeral n h) (spaced-numbers r)
 
-length-spaced : (ns : List ℕ) → length (spaced ns) ≤ 21 * length ns
+pub length-spaced : (ns : List ℕ) → length (spaced ns) ≤ 21 * length ns
 unfolding spaced
 length-spaced [] = omega arith
 length-spaced (n ∷ ns) = omega (arith, length-append (decimal n) (spaced ns), length-decimal n, length-spaced ns)

@@ -7,7 +7,7 @@ ghost use lib.ListN.{length};
 ghost use Rattle.script.specs.Print.{decimal, followed, answerLine, badLine, Wrote};
 
 // Writes a byte, and answers the index after it.
-fn put(out: &mut [u8], at: usize, byte: u8) -> usize
+pub fn put(out: &mut [u8], at: usize, byte: u8) -> usize
     requires { ⌜ at < length (now out) ⌝ }
     ensures { λ r. ⌜ Wrote (now (out .entry)) at (byte ∷ []) (now (out .exit)) r ⌝ }
 {
@@ -23,7 +23,7 @@ fn glyph(digit: u64) -> u8
 }
 
 // Writes a number in decimal.
-fn decimal(n: u64, out: &mut [u8], at: usize) -> usize
+pub fn decimal(n: u64, out: &mut [u8], at: usize) -> usize
     requires { ⌜ at + length (decimal n) ≤ length (now out) ⌝ }
     ensures { λ r. ⌜ Wrote (now (out .entry)) at (decimal n) (now (out .exit)) r ⌝ }
 {

@@ -8,8 +8,10 @@ mod input;
 mod numbers;
 mod words;
 
+pub use answers::decimal;
 pub use answers::print;
 pub use answers::print_bad;
+pub use answers::put;
 pub use calls::Command;
 pub use calls::Parsed;
 pub use calls::parse;

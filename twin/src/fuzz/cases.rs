@@ -6,6 +6,7 @@ use std::time::Duration;
 use super::damage::{self, Damage};
 use super::director::Director;
 use super::made::made;
+use super::odd_cases::{self, odd_case};
 use super::process::Program;
 use super::scene::Scene;
 use super::shrink::{smallest, Budget};
@@ -13,7 +14,7 @@ use super::stats::Stats;
 use crate::answer::code;
 use crate::clauses::{self, Clause};
 use crate::keeper::{Call, Keeper};
-use crate::protocol::{push_outcome, Case, Tables};
+use crate::protocol::{push_outcome, Case, Tables, BAD};
 use crate::rng::Rng;
 use crate::script;
 use crate::sizes::*;
@@ -21,11 +22,24 @@ use crate::sizes::*;
 /// Cases of one run of the other program.
 const BATCH: usize = 300;
 
+/// How many of a hundred cases have an odd line before them.
+const ODD: u64 = 5;
+
 /// One case, what was done to its tables, and the outcome the twin expects.
 struct Prepared {
     case: Case,
     damage: usize,
     expected: Vec<u8>,
+}
+
+/// A line that was sent.
+enum Sent {
+    Case(Prepared),
+    Odd {
+        kind: usize,
+        line: Vec<u8>,
+        expected: Vec<u8>,
+    },
 }
 
 /// Makes one batch, has it answered and compares. Ok(None) if all is the same,
@@ -44,20 +58,30 @@ pub fn round(
         if let Some(mistake) = count(stats, &prepared) {
             return Ok(Some(mistake));
         }
+        if rng.percent(ODD) {
+            let odd = odd(rng, &prepared.case, stats, &mut input);
+            batch.push(odd);
+        }
         prepared.case.push(&mut input);
-        batch.push(prepared);
+        batch.push(Sent::Case(prepared));
+    }
+    if rng.percent(20) {
+        input.pop(); // the end of input ends the last line too
     }
     let run = program.run(&input, true)?;
     let mut outcomes = run.output.split(|&byte| byte == b'\n');
-    for (at, prepared) in batch.iter().enumerate() {
+    for (at, sent) in batch.iter().enumerate() {
         let outcome = outcomes.next().unwrap_or_default();
-        if outcome != &prepared.expected[..] {
-            let mut text = format!("case {} of its batch\n", at + 1);
+        let expected = match sent {
+            Sent::Case(prepared) => &prepared.expected,
+            Sent::Odd { expected, .. } => expected,
+        };
+        if outcome != &expected[..] {
+            let mut text = format!("line {} of its batch\n", at + 1);
             if let Some(failure) = &run.failure {
                 text += &format!("the program failed: {}\n", failure);
             }
-            text += &format!("damage: {}\n", damage::KINDS[prepared.damage].0);
-            return Ok(Some(text + &report(program, &prepared.case)));
+            return Ok(Some(text + &told(program, sent, outcome)));
         }
     }
     let rest: Vec<u8> = outcomes.flatten().copied().collect();
@@ -66,6 +90,51 @@ pub fn round(
         (None, false) => Some("more outcomes than cases\n".to_string()),
         (None, true) => None,
     })
+}
+
+/// Sends an odd line made from a case.
+fn odd(rng: &mut Rng, case: &Case, stats: &mut Stats, input: &mut Vec<u8>) -> Sent {
+    let (kind, line) = odd_case(rng, case);
+    let expected = match Case::parse(&line) {
+        Some(case) => outcome(&case),
+        None => BAD.to_vec(),
+    };
+    stats.see_odd_case(kind, expected == BAD);
+    input.extend_from_slice(&line);
+    input.push(b'\n');
+    Sent::Odd {
+        kind,
+        line,
+        expected,
+    }
+}
+
+/// What differs.
+fn told(program: &Program, sent: &Sent, outcome: &[u8]) -> String {
+    match sent {
+        Sent::Case(prepared) => {
+            let damage = damage::KINDS[prepared.damage].0;
+            format!("damage: {}\n", damage) + &report(program, &prepared.case)
+        }
+        Sent::Odd {
+            kind,
+            line,
+            expected,
+        } => format!(
+            "odd line: {}\n  line:    {}\n  twin:    {}\n  program: {}\n",
+            odd_cases::KINDS[*kind].0,
+            start(line),
+            start(expected),
+            start(outcome)
+        ),
+    }
+}
+
+/// The first bytes of a line.
+fn start(line: &[u8]) -> String {
+    let shown = &line[..line.len().min(200)];
+    let more = if shown.len() < line.len() { ".." } else { "" };
+    format!("{}{}", shown.escape_ascii(), more)
 }
 
 /// Tables from a run, made by chance or fresh; a call that suits them; and
@@ -82,7 +151,7 @@ fn prepare(rng: &mut Rng, samples: &[Keeper], director: &mut Director) -> Prepar
         let kind = match rng.below(10) {
             0..=2 => 0,
             3 => rng.index(damage::HARMLESS),
-            4..=5 => damage::HARMLESS,
+            4..=5 => damage::HARMLESS + rng.index(damage::UNAIMED - damage::HARMLESS),
             _ => damage::UNAIMED + rng.index(damage::KINDS.len() - damage::UNAIMED),
         };
         let (_, damage): (_, Damage) = damage::KINDS[kind];

@@ -6,6 +6,7 @@ pub mod damage;
 pub mod director;
 pub mod made;
 pub mod moods;
+pub mod odd_cases;
 pub mod process;
 pub mod scene;
 pub mod scripts;

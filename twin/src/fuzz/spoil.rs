@@ -97,13 +97,13 @@ pub fn spoil(rng: &mut Rng, call: Call) -> (usize, Vec<u8>) {
     (kind, odd)
 }
 
-fn insert(rng: &mut Rng, line: &[u8], bytes: &[u8]) -> Vec<u8> {
+pub(super) fn insert(rng: &mut Rng, line: &[u8], bytes: &[u8]) -> Vec<u8> {
     let at = rng.index(line.len() + 1);
     [&line[..at], bytes, &line[at..]].concat()
 }
 
 /// Puts something in place of one of the spaces, or else at the end.
-fn swap_space(rng: &mut Rng, line: &[u8], bytes: &[u8]) -> Vec<u8> {
+pub(super) fn swap_space(rng: &mut Rng, line: &[u8], bytes: &[u8]) -> Vec<u8> {
     let spaces: Vec<usize> = (0..line.len()).filter(|&at| line[at] == b' ').collect();
     match rng.pick(&spaces) {
         Some(at) => [&line[..at], bytes, &line[at + 1..]].concat(),
@@ -112,7 +112,7 @@ fn swap_space(rng: &mut Rng, line: &[u8], bytes: &[u8]) -> Vec<u8> {
 }
 
 /// Puts something in place of one of the numbers; a line without any gets one.
-fn change_number(rng: &mut Rng, line: &[u8], other: fn(&mut Rng, &[u8]) -> Vec<u8>) -> Vec<u8> {
+pub(super) fn change_number(rng: &mut Rng, line: &[u8], other: fn(&mut Rng, &[u8]) -> Vec<u8>) -> Vec<u8> {
     let mut parts: Vec<Vec<u8>> = line
         .split(|&byte| byte == b' ')
         .map(<[u8]>::to_vec)
@@ -125,7 +125,7 @@ fn change_number(rng: &mut Rng, line: &[u8], other: fn(&mut Rng, &[u8]) -> Vec<u
     parts.join(&b' ')
 }
 
-fn zeros_before(rng: &mut Rng, number: &[u8]) -> Vec<u8> {
+pub(super) fn zeros_before(rng: &mut Rng, number: &[u8]) -> Vec<u8> {
     let zeros = rng.within(1, 40) as usize;
     [&vec![b'0'; zeros][..], number].concat()
 }
@@ -164,7 +164,7 @@ fn upper_letter(rng: &mut Rng, line: &[u8]) -> Vec<u8> {
     odd
 }
 
-fn number_too_large(rng: &mut Rng, line: &[u8]) -> Vec<u8> {
+pub(super) fn number_too_large(rng: &mut Rng, line: &[u8]) -> Vec<u8> {
     change_number(rng, line, |rng, _| {
         let numbers: [&[u8]; 7] = [
             b"18446744073709551616",
@@ -180,7 +180,7 @@ fn number_too_large(rng: &mut Rng, line: &[u8]) -> Vec<u8> {
 }
 
 /// A number that differs from the right one by a multiple of 2 to the 64th.
-fn number_wraps(rng: &mut Rng, line: &[u8]) -> Vec<u8> {
+pub(super) fn number_wraps(rng: &mut Rng, line: &[u8]) -> Vec<u8> {
     change_number(rng, line, |rng, number| {
         let number = crate::decimal::parse(number).unwrap_or(1);
         let turns = u128::from(rng.one_of(&[1u64, 1, 2, 5, 10, 1 << 32]));
@@ -190,7 +190,7 @@ fn number_wraps(rng: &mut Rng, line: &[u8]) -> Vec<u8> {
     })
 }
 
-fn no_digit(rng: &mut Rng, number: &[u8]) -> Vec<u8> {
+pub(super) fn no_digit(rng: &mut Rng, number: &[u8]) -> Vec<u8> {
     let odd: [&[u8]; 16] = [
         b"/",
         b":",
@@ -252,7 +252,7 @@ fn another_word(rng: &mut Rng, line: &[u8]) -> Vec<u8> {
     [word, &line[rest.unwrap_or(line.len())..]].concat()
 }
 
-fn one_byte_changed(rng: &mut Rng, line: &[u8]) -> Vec<u8> {
+pub(super) fn one_byte_changed(rng: &mut Rng, line: &[u8]) -> Vec<u8> {
     let mut odd = line.to_vec();
     let at = rng.index(odd.len());
     match rng.below(4) {

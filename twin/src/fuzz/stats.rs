@@ -3,7 +3,7 @@
 use std::fmt;
 
 use super::scene::{Held, Scene, Txn};
-use super::{damage, spoil};
+use super::{damage, odd_cases, spoil};
 use crate::answer::{code, Answer};
 use crate::clauses::Clause;
 use crate::keeper::{Call, Keeper};
@@ -118,6 +118,8 @@ pub struct Stats {
     pub empty_scripts: u64,
     pub cases: u64,
     pub case_codes: [u64; 11],
+    /// For each kind of odd case line: how many, and how many of them bad.
+    odd_cases: [(u64, u64); odd_cases::KINDS.len()],
     /// For each kind of damage: how many, and how many of them answered 10.
     pub damages: [(u64, u64); damage::KINDS.len()],
     /// For each clause: in how many cases broken, and broken alone.
@@ -141,6 +143,7 @@ impl Stats {
             empty_scripts: 0,
             cases: 0,
             case_codes: [0; 11],
+            odd_cases: [(0, 0); odd_cases::KINDS.len()],
             damages: [(0, 0); damage::KINDS.len()],
             clauses: [(0, 0); Clause::ALL.len()],
             waited_value: [0; SLOTS],
@@ -154,6 +157,11 @@ impl Stats {
     pub fn see_odd_line(&mut self, kind: usize, is_bad: bool) {
         self.odd_lines[kind].0 += 1;
         self.odd_lines[kind].1 += u64::from(is_bad);
+    }
+
+    pub fn see_odd_case(&mut self, kind: usize, is_bad: bool) {
+        self.odd_cases[kind].0 += 1;
+        self.odd_cases[kind].1 += u64::from(is_bad);
     }
 
     fn event(&mut self, event: Event) {
@@ -322,6 +330,10 @@ impl Stats {
         show_codes(out, &self.case_codes)?;
         writeln!(out, "  damages, and those of them answered 10")?;
         for ((name, _), &(count, bad)) in damage::KINDS.iter().zip(&self.damages) {
+            writeln!(out, "    {:<40} {:>10} {:>10}", name, count, bad)?;
+        }
+        writeln!(out, "  odd lines, and those of them answered bad")?;
+        for ((name, _), &(count, bad)) in odd_cases::KINDS.iter().zip(&self.odd_cases) {
             writeln!(out, "    {:<40} {:>10} {:>10}", name, count, bad)?;
         }
         writeln!(out, "  clauses broken, and broken alone")?;

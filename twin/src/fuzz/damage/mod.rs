@@ -16,11 +16,13 @@ use versions::*;
 pub type Damage = fn(&mut Rng, &mut Tables) -> bool;
 
 /// The kinds of damage by name. The first two leave good tables good.
-pub const KINDS: [(&str, Damage); 38] = [
+pub const KINDS: [(&str, Damage); 40] = [
     ("none", |_, _| true),
     ("numbers or clock nearly spent", nearly_spent),
     ("one word", one_word),
+    ("some words", some_words),
     ("one size off by one", size_off_by_one),
+    ("one size off by some", size_off_by_some),
     ("empty tables", empty_tables),
     ("last number above the limit", |rng, t| {
         set(&mut t.txns[LAST_NUMBER], above_limit(rng))
@@ -100,7 +102,7 @@ pub const KINDS: [(&str, Damage); 38] = [
 /// How many of the kinds leave the tables good.
 pub const HARMLESS: usize = 2;
 /// How many come before the kinds that break one clause on purpose.
-pub const UNAIMED: usize = 3;
+pub const UNAIMED: usize = 4;
 
 fn set(word: &mut u64, value: u64) -> bool {
     *word = value;
@@ -148,12 +150,33 @@ fn one_word(rng: &mut Rng, t: &mut Tables) -> bool {
     true
 }
 
+fn some_words(rng: &mut Rng, t: &mut Tables) -> bool {
+    for _ in 0..rng.within(2, 4) {
+        one_word(rng, t);
+    }
+    true
+}
+
 fn size_off_by_one(rng: &mut Rng, t: &mut Tables) -> bool {
     let table = table(rng, t);
     if rng.percent(50) {
         table.pop();
     } else {
         table.push(rng.one_of(&[0, 0, 1]));
+    }
+    true
+}
+
+/// At most eight words over: a program may have no room for more.
+fn size_off_by_some(rng: &mut Rng, t: &mut Tables) -> bool {
+    let table = table(rng, t);
+    if rng.percent(50) {
+        let left = rng.index(table.len());
+        table.truncate(left);
+    } else {
+        for _ in 0..rng.within(2, 8) {
+            table.push(rng.one_of(&[0, 0, 1]));
+        }
     }
     true
 }

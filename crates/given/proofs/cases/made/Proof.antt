@@ -1,0 +1,119 @@
+-- The tables are filled with the words, and the call is made on them. Assumes nothing.
+use borrow.Author.Needs.{needs}
+use mathlib.Core.Path.{ap, _∙_}
+use Rattle.names.specs.Sizes.{base}
+use Rattle.rules.specs.Tables.{Tables}
+use Rattle.rules.specs.Step.{step}
+use Rattle.given.specs.Cases.{callOf}
+use Rattle.given.proofs.Cased.{filled}
+use Rattle.given.proofs.cases.made.Statement.{statement}
+use Rattle.given.proofs.cases.made.Tie as tie
+
+add-b : tie.Need-add-b
+add-b c = search needs
+
+add-c : tie.Need-add-c
+add-c c = search needs
+
+sub-copy : tie.Need-sub-copy
+sub-copy c = search needs
+
+part-copy-start : tie.Need-part-copy-start
+part-copy-start c = search needs
+
+part-copy-end : tie.Need-part-copy-end
+part-copy-end c = search needs
+
+copy-requires : tie.Need-copy-requires
+copy-requires c κs = search needs
+
+mul-copy : tie.Need-mul-copy
+mul-copy c = search needs
+
+sub-copy-2 : tie.Need-sub-copy-2
+sub-copy-2 c = search needs
+
+part-copy-start-2 : tie.Need-part-copy-start-2
+part-copy-start-2 c = search needs
+
+part-copy-end-2 : tie.Need-part-copy-end-2
+part-copy-end-2 c = search needs
+
+copy-requires-2 : tie.Need-copy-requires-2
+copy-requires-2 c κs = search needs
+
+mul-copy-2 : tie.Need-mul-copy-2
+mul-copy-2 c = search needs
+
+sub-copy-3 : tie.Need-sub-copy-3
+sub-copy-3 c = search needs
+
+part-copy-start-3 : tie.Need-part-copy-start-3
+part-copy-start-3 c = search needs
+
+part-copy-end-3 : tie.Need-part-copy-end-3
+part-copy-end-3 c = search needs
+
+copy-requires-3 : tie.Need-copy-requires-3
+copy-requires-3 c κs = search needs
+
+shared-slice-read-call : tie.Need-shared-slice-read-call
+shared-slice-read-call c = search needs
+
+shared-slice-read-call-2 : tie.Need-shared-slice-read-call-2
+shared-slice-read-call-2 c = search needs
+
+shared-slice-read-call-3 : tie.Need-shared-slice-read-call-3
+shared-slice-read-call-3 c = search needs
+
+shared-slice-read-call-4 : tie.Need-shared-slice-read-call-4
+shared-slice-read-call-4 c = search needs
+
+call-requires : tie.Need-call-requires
+call-requires c κs = search needs
+
+same-length : tie.Need-same-length
+same-length c = search needs
+
+same-length-2 : tie.Need-same-length-2
+same-length-2 c = search needs
+
+same-length-3 : tie.Need-same-length-3
+same-length-3 c = search needs
+
+returns : tie.Need-returns
+unfolding callOf
+returns c =
+    let a = c .before .before .before .before .before .before .before .before .before .before .before .before .before .before .before .before .before .before .before .before .before .before .before .before .before .before .before .before .before .before .before .before .before .args in
+    let f = filled (a .numbers .now) (a .txns .now) (a .locks .now) (a .versions .now) (c .before .before .before .before .before .before .before .before .before .before .before .before .before .before .before .before .before .before .before .before .before .before .before .before .before .before .before .before .before .before .before .before .before .pre) (c .before .before .before .before .before .before .before .before .before .before .before .before .before .before .before .before .before .before .before .before .before .before .before .before .before .before .copy .ensures) (c .before .before .before .before .before .before .before .before .before .before .before .before .before .before .before .before .before .before .before .before .before .copy2 .ensures) (c .before .before .before .before .before .before .before .before .before .before .before .before .before .before .before .before .copy3 .ensures) in
+    c .before .before .before .before .before .before .call .ensures ∙ ap (λ (G : Tables). step base (callOf (a .numbers .now)) G) f
+
+pub made-spec : {M : Type 1} → statement M
+made-spec =
+    tie.close
+    (tie.spec
+    add-b
+    add-c
+    sub-copy
+    part-copy-start
+    part-copy-end
+    copy-requires
+    mul-copy
+    sub-copy-2
+    part-copy-start-2
+    part-copy-end-2
+    copy-requires-2
+    mul-copy-2
+    sub-copy-3
+    part-copy-start-3
+    part-copy-end-3
+    copy-requires-3
+    shared-slice-read-call
+    shared-slice-read-call-2
+    shared-slice-read-call-3
+    shared-slice-read-call-4
+    call-requires
+    same-length
+    same-length-2
+    same-length-3
+    returns)
