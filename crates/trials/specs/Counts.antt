@@ -5,6 +5,7 @@ use mathlib.Core.List.{List, [], _∷_}
 use lib.Dec.{eqb, ltb}
 use lib.ListN.{getD, drop}
 use Rattle.names.specs.declared.Answer.{Answer}
+use Rattle.trials.specs.declared.damage.Score.{Score}
 use Rattle.trials.specs.declared.tally.Tally.{Tally}
 
 -- the same four numbers
@@ -28,6 +29,10 @@ counted t ok =
       tried = more (t .tried);
       right = cond ok (more (t .right)) (t .right);
     }
+
+-- a call more on tables that are tried whole, and the words that it changed
+abbrev pub scored : Score → Bool → ℕ → Score
+scored s ok changed = record { calls = cond ok (more (s .calls)) (s .calls); changed = (s .changed + changed) % 2 ^ 64 }
 
 -- how many words of a table differ from those that another has in their place, or from 0 where it has none
 unfoldable pub differing : List ℕ → List ℕ → ℕ

@@ -1,13 +1,16 @@
 // Trials M to O, and words up to the greatest.
+use crate::play::TRIALS;
 use crate::play::play;
 use crate::tally::Tally;
 
-// The last number is given, then none; with sixteen live there is no slot first. The last number is
-// word 0 of the head.
-pub fn m(tally: Tally) -> Tally {
+// Document 01 has no trial P: it tries that every word that is no number is answered 3, and every one
+// that is no item 4.
+pub fn m_to_p(tally: Tally) -> Tally {
     play(
-        b'M',
-        b"put head 0 0: 4294967294
+        TRIALS,
+        0,
+        b"trial M: the last number is given, then none, and with sixteen live there is no slot first
+put head 0 0: 4294967294
 update: 0 0 4294967295 0
 update: 8 0 0 0
 query: 8 0 0 0
@@ -37,16 +40,8 @@ query: 7 0 0 0
 abort 1: 0 0 0 0
 update: 8 0 0 0
 query: 8 0 0 0
-",
-        tally,
-    )
-}
-
-// A transaction table of 81 words and one of 83; of 82 words it is good.
-pub fn n(tally: Tally) -> Tally {
-    play(
-        b'N',
-        b"update: 0 0 1 0
+trial N: a transaction table of one word less, one more, and the right size
+update: 0 0 1 0
 lend 81 192 2112
 update: 10 0 0 0
 query: 10 0 0 0
@@ -67,16 +62,8 @@ read 1 0: 0 0 0 1
 write 1 0 5: 0 0 0 0
 commit 1: 0 0 1 0
 abort 2: 0 0 0 0
-",
-        tally,
-    )
-}
-
-// Three updates in a circle, and one outside that waits for them. Then sixteen in a circle.
-pub fn o(tally: Tally) -> Tally {
-    play(
-        b'O',
-        b"update: 0 0 1 0
+trial O: three updates in a circle, one outside that waits for them, then sixteen in a circle
+update: 0 0 1 0
 update: 0 0 2 0
 update: 0 0 3 0
 update: 0 0 4 0
@@ -149,17 +136,8 @@ write 16 1 1: 2 0 0 0
 read 16 0: 0 0 0 1
 abort 16: 0 0 0 0
 read 15 16: 0 0 0 1
-",
-        tally,
-    )
-}
-
-// Numbers, items and values up to the greatest word, on good tables. Document 01 has no trial of this
-// letter.
-pub fn p(tally: Tally) -> Tally {
-    play(
-        b'P',
-        b"update: 0 0 1 0
+trial P: numbers, items and values up to the greatest word, on good tables
+update: 0 0 1 0
 query: 0 0 2 0
 read 0 0: 3 0 0 0
 read 3 0: 3 0 0 0

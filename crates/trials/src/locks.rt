@@ -1,12 +1,15 @@
 // Trials A to H: what is granted, who waits, and what is refused.
+use crate::play::TRIALS;
 use crate::play::play;
 use crate::tally::Tally;
 
-// The run of the document.
-pub fn a(tally: Tally) -> Tally {
+// Items that document 01 calls x and y are any two; T1 and T2 are the transactions 1 and 2.
+pub fn a_to_h(tally: Tally) -> Tally {
     play(
-        b'A',
-        b"update: 0 0 1 0
+        TRIALS,
+        0,
+        b"trial A: the run of document 01
+update: 0 0 1 0
 write 1 5 77: 0 0 0 0
 query: 0 0 2 0
 read 2 5: 0 0 0 1
@@ -14,16 +17,8 @@ commit 1: 0 0 1 0
 read 2 5: 0 0 0 2
 commit 2: 0 0 0 0
 read 2 5: 3 0 0 0
-",
-        tally,
-    )
-}
-
-// The first item, the last, and the one after it, read by a query and by an update.
-pub fn b(tally: Tally) -> Tally {
-    play(
-        b'B',
-        b"query: 0 0 1 0
+trial B: the first item, the last, and the one after it
+query: 0 0 1 0
 read 1 0: 0 0 0 1
 read 1 63: 0 0 0 1
 read 1 64: 4 0 0 0
@@ -32,16 +27,8 @@ read 2 63: 0 0 0 1
 read 2 64: 4 0 0 0
 write 2 63 5: 0 0 0 0
 write 2 64 5: 4 0 0 0
-",
-        tally,
-    )
-}
-
-// A reader waits for the writer of its item, and for that of no other.
-pub fn c(tally: Tally) -> Tally {
-    play(
-        b'C',
-        b"update: 0 0 1 0
+trial C: a reader waits for the writer of its item, and for that of no other
+update: 0 0 1 0
 update: 0 0 2 0
 write 1 7 42: 0 0 0 0
 read 2 8: 0 0 0 1
@@ -53,16 +40,8 @@ commit 1: 0 0 1 0
 read 2 7: 0 42 0 1
 see transactions 1 3: 0
 see transactions 1 4: 0
-",
-        tally,
-    )
-}
-
-// The own shared lock is exchanged for the exclusive one.
-pub fn d(tally: Tally) -> Tally {
-    play(
-        b'D',
-        b"update: 0 0 1 0
+trial D: the own shared lock is exchanged for the exclusive one
+update: 0 0 1 0
 read 1 9: 0 0 0 1
 see locks 9 0: 1
 write 1 9 5: 0 0 0 0
@@ -73,16 +52,8 @@ read 1 9: 0 5 0 0
 write 1 9 6: 0 0 0 0
 read 1 9: 0 6 0 0
 commit 1: 0 0 1 0
-",
-        tally,
-    )
-}
-
-// Two readers both want to write: a circle of two.
-pub fn e(tally: Tally) -> Tally {
-    play(
-        b'E',
-        b"update: 0 0 1 0
+trial E: two readers both want to write, a circle of two
+update: 0 0 1 0
 update: 0 0 2 0
 read 1 3: 0 0 0 1
 read 2 3: 0 0 0 1
@@ -95,16 +66,8 @@ abort 2: 0 0 0 0
 write 1 3 8: 0 0 0 0
 read 1 3: 0 8 0 0
 commit 1: 0 0 1 0
-",
-        tally,
-    )
-}
-
-// Who awaits may only repeat its call or abort: first where a read is awaited, then a write.
-pub fn f(tally: Tally) -> Tally {
-    play(
-        b'F',
-        b"update: 0 0 1 0
+trial F: who awaits may only repeat its call or abort, first a read, then a write
+update: 0 0 1 0
 update: 0 0 2 0
 write 1 3 8: 0 0 0 0
 read 2 3: 1 0 0 0
@@ -131,16 +94,8 @@ read 2 3: 6 0 0 0
 write 2 3 7: 0 0 0 0
 read 2 3: 0 7 0 0
 commit 2: 0 0 2 0
-",
-        tally,
-    )
-}
-
-// Sixteen live, and one more; the freed slot is the one that is given.
-pub fn g(tally: Tally) -> Tally {
-    play(
-        b'G',
-        b"update: 0 0 1 0
+trial G: sixteen live, and one more
+update: 0 0 1 0
 update: 0 0 2 0
 update: 0 0 3 0
 update: 0 0 4 0
@@ -165,16 +120,8 @@ update: 7 0 0 0
 commit 17: 0 0 0 0
 update: 0 0 18 0
 query: 7 0 0 0
-",
-        tally,
-    )
-}
-
-// A query may not write; an update may.
-pub fn h(tally: Tally) -> Tally {
-    play(
-        b'H',
-        b"query: 0 0 1 0
+trial H: a query may not write, an update may
+query: 0 0 1 0
 write 1 0 8: 5 0 0 0
 write 1 63 8: 5 0 0 0
 write 1 64 8: 4 0 0 0

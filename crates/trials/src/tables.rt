@@ -7,7 +7,9 @@ use names::Answer;
 use names::ITEMS;
 use names::PLACES;
 use names::SLOTS;
-ghost use Prim.Native.Nat.{_≤_};
+ghost use mathlib.Core.Path.{_≡_};
+ghost use Prim.Native.Nat.{_+_, _≤_};
+ghost use Rattle.trials.specs.Counts.{differing};
 
 // Where the words stand.
 const TXN_HEAD: u64 = 2;
@@ -31,6 +33,8 @@ pub const HEAD: u8 = b'h';
 pub const TXNS: u8 = b't';
 
 pub const LOCKS: u8 = b'l';
+
+pub const VERSIONS: u8 = b'v';
 
 // How it calls the calls: by their first letters.
 pub const UPDATE: u8 = b'u';
@@ -204,7 +208,9 @@ impl Tables {
     }
 
     // How many words differ from those of other tables.
-    pub fn changed(self, others: Tables) -> usize {
+    pub fn changed(self, others: Tables) -> usize
+        ensures { λ r. ⌜ r ≡ differing (self .txns) (others .txns) + differing (self .locks) (others .locks) + differing (self .versions) (others .versions) ⌝ }
+    {
         let txns = self.txns;
         let locks = self.locks;
         let versions = self.versions;

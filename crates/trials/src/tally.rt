@@ -17,13 +17,13 @@ pub struct Tally {
     pub right: u64,
 }
 
-fn more(n: u64) -> u64
+pub fn more(n: u64) -> u64
     ensures { λ r. ⌜ r ≡ one·more n ⌝ }
 {
     std::num::wrapping_add_u64(n, 1)
 }
 
-fn equal(a: Answer, b: Answer) -> bool
+pub fn equal(a: Answer, b: Answer) -> bool
     ensures { λ r. ⌜ r ≡ same a b ⌝ }
 {
     (a.code == b.code) & (a.value == b.value) & (a.number == b.number) & (a.looked == b.looked)
@@ -77,12 +77,10 @@ impl Tally {
         }
     }
 
-    // The start of a line, with the step's number where something is tried.
-    pub fn head(self, tries: bool) {
+    // The start of a line that tries something.
+    pub fn head(self) {
         say::byte(self.letter);
-        if tries {
-            say::next(self.step);
-        }
+        say::next(self.step);
         say::say(b" ");
     }
 

@@ -1,13 +1,16 @@
 // Trials I to L: versions, the clock, aborted writes and counts.
+use crate::play::TRIALS;
 use crate::play::play;
 use crate::tally::Tally;
 
-// A query at each stamp 0 to 14, an update writing item 0 after each: the row is full. Then one write
-// more, and the ends of two queries.
-pub fn i(tally: Tally) -> Tally {
+// In the transactions' head word 0 is the last number and word 1 the clock; in a row of versions word 0
+// is the count.
+pub fn i_to_l(tally: Tally) -> Tally {
     play(
-        b'I',
-        b"query: 0 0 1 0
+        TRIALS,
+        0,
+        b"trial I: a query at each stamp, the row is full, then one write more and the ends of two queries
+query: 0 0 1 0
 update: 0 0 2 0
 write 2 0 100: 0 0 0 0
 commit 2: 0 0 1 0
@@ -98,16 +101,8 @@ read 13 0: 0 105 0 9
 read 17 0: 0 107 0 8
 abort 1: 0 0 0 0
 see versions 0 0: 14
-",
-        tally,
-    )
-}
-
-// The last stamp is given, then none; who awaits is told so first. The clock is word 1 of the head.
-pub fn j(tally: Tally) -> Tally {
-    play(
-        b'J',
-        b"put head 0 1: 4294967294
+trial J: the last stamp is given, then none, and who awaits is told so first
+put head 0 1: 4294967294
 update: 0 0 1 0
 query: 0 0 2 0
 write 1 0 5: 0 0 0 0
@@ -130,16 +125,8 @@ abort 3: 0 0 0 0
 commit 3: 3 0 0 0
 read 5 0: 0 5 0 1
 commit 5: 9 0 0 0
-",
-        tally,
-    )
-}
-
-// An aborted write is never read; a committed one is, by a query that begins later.
-pub fn k(tally: Tally) -> Tally {
-    play(
-        b'K',
-        b"update: 0 0 1 0
+trial K: an aborted write is never read, a committed one is, by a query that begins later
+update: 0 0 1 0
 write 1 3 8: 0 0 0 0
 update: 0 0 2 0
 read 2 3: 1 0 0 0
@@ -162,17 +149,8 @@ read 6 3: 0 9 0 1
 read 4 3: 0 0 0 2
 read 3 3: 0 0 0 2
 see versions 3 0: 2
-",
-        tally,
-    )
-}
-
-// A count of 0 and one of 17, in the first, a middle and the last row; with a count of 1 the tables are
-// good again. One of 16 is in trial I.
-pub fn l(tally: Tally) -> Tally {
-    play(
-        b'L',
-        b"put versions 0 0: 0
+trial L: a count of zero, one of seventeen, and of one again, in three rows
+put versions 0 0: 0
 update: 10 0 0 0
 query: 10 0 0 0
 read 1 0: 10 0 0 0

@@ -6,16 +6,13 @@ use Rattle.trials.proofs.play.play.Statement.{statement}
 use Rattle.trials.proofs.play.play.Tie as tie
 
 abbrev Inv-loop : tie.InvT-loop
-Inv-loop letter text stage₀ line₀ k₀ stage line k = k ≤ length text
+Inv-loop of row text stage₀ line₀ k₀ stage line k = k ≤ length text
 
 abbrev μ-loop : tie.MeasureT-loop
-μ-loop letter text stage₀ line₀ k₀ stage line k = length text - k
+μ-loop of row text stage₀ line₀ k₀ stage line k = length text - k
 
 fresh-requires : tie.Need-fresh-requires Inv-loop μ-loop
 fresh-requires c κs = search needs
-
-begin-requires : tie.Need-begin-requires Inv-loop μ-loop
-begin-requires c κs = search needs
 
 new-requires : tie.Need-new-requires Inv-loop μ-loop
 new-requires c κs = search needs
@@ -57,7 +54,6 @@ play-spec =
     Inv-loop
     μ-loop
     fresh-requires
-    begin-requires
     new-requires
     loop-holds
     shared-slice-read-byte
