@@ -1,0 +1,73 @@
+// Every part of good that speaks of no row, broken alone: the sizes, the last number and the clock.
+use crate::play::play;
+use crate::set::OF_NO_ROW;
+use crate::tally::Tally;
+
+// Beside a limit stands what is still good.
+pub fn heads(tally: Tally) -> Tally {
+    play(
+        OF_NO_ROW,
+        0,
+        b"on 0
+good: the sample
+on 0
+put head 0 0: 4294967296
+damage: the last number is 4294967296
+on 0
+put head 0 0: 18446744073709551615
+damage: the last number is the greatest word
+on 0
+put head 0 0: 49
+damage: the last number is below that of an update
+on 0
+put head 0 0: 4294967295
+good: the last number is 4294967295
+on 0
+put head 0 1: 4294967296
+damage: the clock is 4294967296
+on 0
+put head 0 1: 18446744073709551615
+damage: the clock is the greatest word
+on 0
+put head 0 1: 9
+damage: the clock is below the start of a query
+on 0
+put head 0 1: 4294967295
+good: the clock is 4294967295
+on 0
+lend 0 192 2112
+damage: no words of transactions
+on 0
+lend 81 192 2112
+damage: 81 words of transactions
+on 0
+lend 83 192 2112
+damage: 83 words of transactions
+on 0
+lend 82 0 2112
+damage: no words of locks
+on 0
+lend 82 191 2112
+damage: 191 words of locks
+on 0
+lend 82 193 2112
+damage: 193 words of locks
+on 0
+lend 82 192 0
+damage: no words of versions
+on 0
+lend 82 192 2111
+damage: 2111 words of versions
+on 0
+lend 82 192 2113
+damage: 2113 words of versions
+on 0
+lend 0 0 0
+damage: no words at all
+on 0
+lend 82 192 2112
+good: 82, 192 and 2112 words
+",
+        tally,
+    )
+}

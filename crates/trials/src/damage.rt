@@ -1,0 +1,117 @@
+// Tables tried whole: bad ones by all six calls, which must answer 10, and good ones by those of
+// nobody, which must be refused for that. No call may change a word.
+use crate::say;
+use crate::set::OF_ITEMS;
+use crate::set::OF_SLOTS;
+use crate::set::Rows;
+use crate::tables::ABORT;
+use crate::tables::COMMIT;
+use crate::tables::Call;
+use crate::tables::QUERY;
+use crate::tables::READ;
+use crate::tables::Tables;
+use crate::tables::UPDATE;
+use crate::tables::WRITE;
+use crate::tally::Tally;
+use crate::tally::equal;
+use crate::tally::more;
+use names::Answer;
+ghost use mathlib.Core.Path.{_≡_};
+ghost use Rattle.trials.specs.Counts.{scored as score·scored};
+
+const BAD_TABLES: u64 = 10;
+
+const UNKNOWN_TRANSACTION: u64 = 3;
+
+// The number of an update of the sample.
+const SOMEBODY: u64 = 11;
+
+const NOBODY: u64 = 0;
+
+// How many calls answered as they must, and how many words all of them changed.
+pub struct Score {
+    pub calls: u64,
+    pub changed: u64,
+}
+
+impl Score {
+    // A call more.
+    fn plus(self, ok: bool, changed: u64) -> Score
+        ensures { λ r. ⌜ r ≡ score·scored self ok changed ⌝ }
+    {
+        let calls = if ok { more(self.calls) } else { self.calls };
+        Score {
+            calls,
+            changed: std::num::wrapping_add_u64(self.changed, changed),
+        }
+    }
+}
+
+// A call on the tables as they are.
+fn tried(tables: Tables, kind: u8, number: u64, code: u64, score: Score) -> Score {
+    let called = tables.call(Call {
+        kind,
+        number,
+        item: 0,
+        value: 1,
+    });
+    let wanted = Answer {
+        code,
+        value: 0,
+        number: 0,
+        looked: 0,
+    };
+    let ok = equal(called.answer, wanted);
+    let after = called.tables;
+    let changed = after.changed(tables);
+    score.plus(ok, changed as u64)
+}
+
+fn four(tables: Tables, number: u64, code: u64, score: Score) -> Score {
+    let mut s = tried(tables, READ, number, code, score);
+    s = tried(tables, WRITE, number, code, s);
+    s = tried(tables, COMMIT, number, code, s);
+    tried(tables, ABORT, number, code, s)
+}
+
+fn scored(tables: Tables, bad: bool) -> Score {
+    let none = Score {
+        calls: 0,
+        changed: 0,
+    };
+    if bad {
+        let s = tried(tables, UPDATE, 0, BAD_TABLES, none);
+        let six = tried(tables, QUERY, 0, BAD_TABLES, s);
+        return four(tables, SOMEBODY, BAD_TABLES, six);
+    }
+    four(tables, NOBODY, UNKNOWN_TRANSACTION, none)
+}
+
+fn say_row(rows: Rows) {
+    if rows.of == OF_SLOTS {
+        say::say(b", transaction row ");
+        say::number(rows.row);
+    }
+    if rows.of == OF_ITEMS {
+        say::say(b", item ");
+        say::number(rows.row);
+    }
+}
+
+// The end of a line that has said what is damaged, or is still good.
+pub fn judge(tables: Tables, bad: bool, rows: Rows, tally: Tally) -> Tally {
+    let calls = if bad { 6 } else { 4 };
+    say_row(rows);
+    say::say(b": expected ");
+    say::number(calls);
+    say::say(b" calls with code ");
+    say::number(if bad { BAD_TABLES } else { UNKNOWN_TRANSACTION });
+    say::say(b" and 0 words changed, found ");
+    let found = scored(tables, bad);
+    say::number(found.calls);
+    say::say(b" and ");
+    say::number(found.changed);
+    let ok = (found.calls == calls) & (found.changed == 0);
+    say::end(ok);
+    tally.counted(ok)
+}

@@ -1,0 +1,39 @@
+// The trials of document 01, all of them, on the keeper as it is compiled; then every kind of damage to
+// good tables, one by one.
+//
+// A line for each step says what was expected and what was found, and ends in DIFFERS where the two
+// are not the same; the last line counts. What is expected is written in the texts of the trials,
+// from document 01 and not from what the keeper answers.
+mod bad_heads;
+mod bad_items;
+mod bad_slots;
+mod damage;
+mod limits;
+mod line;
+mod locks;
+mod play;
+mod sample;
+mod say;
+mod set;
+mod tables;
+mod tally;
+mod versions;
+mod words;
+
+use tally::Tally;
+
+fn trials(tally: Tally) -> Tally {
+    limits::m_to_p(versions::i_to_l(locks::a_to_h(tally)))
+}
+
+fn damages(tally: Tally) -> Tally {
+    bad_items::items(bad_slots::slots(bad_heads::heads(tally)))
+}
+
+fn main() {
+    let t = damages(trials(Tally::new()));
+    say::number(t.tried);
+    say::say(b" tried, ");
+    say::number(t.right);
+    say::say(b" as expected\n");
+}
