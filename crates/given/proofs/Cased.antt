@@ -1,14 +1,14 @@
 -- What the numbers of a case give: its call, its tables and their lengths. Assumes nothing.
 use Prim.Native.Nat.{ℕ, _+_, _-_, _*_, _<_, _≤_}
-use mathlib.Core.Path.{_≡_, refl, sym, ap, _∙_}
+use mathlib.Core.Path.{_≡_, refl, ap}
 use mathlib.Core.Bool.{Bool, true, false, _&&_}
-use mathlib.Core.List.{List, [], _∷_, _++_}
+use mathlib.Core.List.{List, [], _∷_}
 use native.Mathlib.Omega.{arith}
 use lib.Dec.{eqb, leb}
 use lib.ListN.{length, take, drop, getD}
 use borrow.Author.Tests.{leb-true, eqb-true, le-leb, lt-leb, ne-eqb}
-use Rattle.rules.specs.Tables.{Tables, tables}
-use Rattle.rules.specs.Answers.{Call, beginUpdate, beginQuery, read, write, commit, abort}
+use Rattle.rules.specs.Tables.{tables}
+use Rattle.rules.specs.Answers.{beginUpdate, beginQuery, read, write, commit, abort}
 use Rattle.script.proofs.Scans.{and-left, and-right}
 use Rattle.given.specs.Cases.{headNumbers, txnsRoom, locksRoom, versionsRoom, longestAnswer, callBy, tablesOf, txnsLength, locksLength, versionsLength, isCase, Fits}
 

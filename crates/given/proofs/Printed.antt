@@ -1,14 +1,12 @@
 -- Numbers written with a space before each, one after the other. Assumes nothing.
-use Prim.Native.Nat.{ℕ, _+_, _*_, _<_, _≤_}
-use mathlib.Core.Path.{_≡_, refl, sym, ap, subst, _∙_}
+use Prim.Native.Nat.{ℕ, _+_, _<_, _≤_}
+use mathlib.Core.Path.{_≡_, refl, sym, ap, _∙_}
 use mathlib.Core.List.{List, [], _∷_, _++_, append-nil, append-assoc}
 use native.Mathlib.Numerals.{add-one}
 use native.Mathlib.Omega.{arith}
 use lib.ListN.{length, take, drop, getD, length-append, length-take, length-drop, take-append-drop}
 use lib.Seq.{take-suc}
 use Rattle.script.specs.Print.{decimal, spaced, written, Wrote}
-use Rattle.script.proofs.Decimals.{length-decimal}
-use Rattle.script.proofs.Written.{wrote-more}
 
 pub spaced-one : (n : ℕ) → (32 ∷ []) ++ decimal n ≡ spaced (n ∷ [])
 unfolding spaced

@@ -20,12 +20,11 @@ pub(crate) const HEAD: usize = 7;
 // The longest tables that a case may give: eight words over the right sizes.
 const OVER: usize = 8;
 
-pub(crate) const TXNS: usize = 2 + 5 * (names::SLOTS as usize) + OVER;
+pub(crate) const TXNS: usize = names::TXN_WORDS + OVER;
 
-pub(crate) const LOCKS: usize = 3 * (names::ITEMS as usize) + OVER;
+pub(crate) const LOCKS: usize = names::LOCK_WORDS + OVER;
 
-pub(crate) const VERSIONS: usize = (1 + 2 * (names::PLACES as usize)) * (names::ITEMS as usize)
-    + OVER;
+pub(crate) const VERSIONS: usize = names::VERSION_WORDS + OVER;
 
 // Room for the words of each table. The contracts give only the lengths, which lending a part needs;
 // no word is read before it is set.

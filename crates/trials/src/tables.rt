@@ -5,26 +5,29 @@
 use crate::words;
 use names::Answer;
 use names::ITEMS;
-use names::PLACES;
+use names::LOCK_WORDS;
 use names::SLOTS;
+use names::TXN_WORDS;
+use names::VERSION_WORDS;
 ghost use mathlib.Core.Path.{_≡_};
 ghost use Prim.Native.Nat.{_+_, _≤_};
 ghost use Rattle.trials.specs.Counts.{differing};
 
 // Where the words stand.
-const TXN_HEAD: u64 = 2;
+const TXN_HEAD: u64 = names::TXN_HEAD as u64;
 
-const TXN_ROW: u64 = 5;
+const TXN_ROW: u64 = names::TXN_ROW as u64;
 
-const LOCK_ROW: u64 = 3;
+const LOCK_ROW: u64 = names::LOCK_ROW as u64;
 
-const VERSION_ROW: u64 = 1 + 2 * PLACES;
+const VERSION_ROW: u64 = names::VERSION_ROW as u64;
 
-const TXN_WORDS: usize = (TXN_HEAD + TXN_ROW * SLOTS) as usize;
+// Room for each table, with a word to spare.
+const TXN_ROOM: usize = TXN_WORDS + 1;
 
-const LOCK_WORDS: usize = (LOCK_ROW * ITEMS) as usize;
+const LOCK_ROOM: usize = LOCK_WORDS + 1;
 
-const VERSION_WORDS: usize = (VERSION_ROW * ITEMS) as usize;
+const VERSION_ROOM: usize = VERSION_WORDS + 1;
 
 // How a trial's text calls the tables: by their first letters, and the two words before the
 // transactions' rows are the head.
@@ -65,9 +68,9 @@ pub struct Lent {
 }
 
 pub struct Tables {
-    pub txns: [u64; 83],
-    pub locks: [u64; 193],
-    pub versions: [u64; 2113],
+    pub txns: [u64; TXN_ROOM],
+    pub locks: [u64; LOCK_ROOM],
+    pub versions: [u64; VERSION_ROOM],
     pub lent: Lent,
 }
 
@@ -122,9 +125,9 @@ pub fn place(table: u8, row: u64, word: u64) -> u64 {
 
 impl Tables {
     pub fn fresh() -> Tables {
-        let mut txns = [0u64; 83];
-        let mut locks = [0u64; 193];
-        let mut versions = [0u64; 2113];
+        let mut txns = [0u64; TXN_ROOM];
+        let mut locks = [0u64; LOCK_ROOM];
+        let mut versions = [0u64; VERSION_ROOM];
         fresh::fresh(
             &mut txns[..TXN_WORDS],
             &mut locks[..LOCK_WORDS],

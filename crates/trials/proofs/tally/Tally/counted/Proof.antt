@@ -1,5 +1,5 @@
 -- By whether the step was right. Assumes nothing.
-use mathlib.Core.Path.{_≡_, refl, _∙_, sym, ap}
+use mathlib.Core.Path.{_≡_, _∙_}
 use mathlib.Core.Bool.{cond}
 use mathlib.Core.Logic.{⊎-elim}
 use Rattle.trials.specs.Counts.{more}
