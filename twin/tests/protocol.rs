@@ -77,7 +77,10 @@ fn what_is_no_case() {
     ];
     for line in lines {
         assert_eq!(Case::parse(line), None, "{}", line.escape_ascii());
-        assert_eq!(answered(&[line, b"\n"].concat()), ("bad\n".to_string(), true));
+        assert_eq!(
+            answered(&[line, b"\n"].concat()),
+            ("bad\n".to_string(), true)
+        );
     }
 }
 

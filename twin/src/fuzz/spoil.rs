@@ -112,7 +112,11 @@ pub(super) fn swap_space(rng: &mut Rng, line: &[u8], bytes: &[u8]) -> Vec<u8> {
 }
 
 /// Puts something in place of one of the numbers; a line without any gets one.
-pub(super) fn change_number(rng: &mut Rng, line: &[u8], other: fn(&mut Rng, &[u8]) -> Vec<u8>) -> Vec<u8> {
+pub(super) fn change_number(
+    rng: &mut Rng,
+    line: &[u8],
+    other: fn(&mut Rng, &[u8]) -> Vec<u8>,
+) -> Vec<u8> {
     let mut parts: Vec<Vec<u8>> = line
         .split(|&byte| byte == b' ')
         .map(<[u8]>::to_vec)
