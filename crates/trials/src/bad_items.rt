@@ -82,8 +82,8 @@ damage: a working value, and a shared holder
     )
 }
 
-// Counts, unused pairs, stamps, and versions that nobody reads.
-fn stamps(row: u64, tally: Tally) -> Tally {
+// Counts and unused pairs.
+fn counts(row: u64, tally: Tally) -> Tally {
     play(
         OF_ITEMS,
         row,
@@ -119,7 +119,17 @@ put versions 0 3: 3
 put versions 0 4: 2
 put versions 0 5: 1
 damage: the first unused stamp after two versions is 1
-on 0
+",
+        tally,
+    )
+}
+
+// Stamps, and versions that nobody reads.
+fn stamps(row: u64, tally: Tally) -> Tally {
+    play(
+        OF_ITEMS,
+        row,
+        b"on 0
 put versions 0 0: 2
 put versions 0 1: 3
 put versions 0 2: 1
@@ -239,9 +249,12 @@ good: the only stamp is the start of a query
 // In the first row, a middle one and the last.
 pub fn items(tally: Tally) -> Tally {
     let mut t = holders(0, tally);
+    t = counts(0, t);
     t = stamps(0, t);
     t = holders(31, t);
+    t = counts(31, t);
     t = stamps(31, t);
     t = holders(63, t);
+    t = counts(63, t);
     stamps(63, t)
 }

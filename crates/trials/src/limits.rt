@@ -1,11 +1,11 @@
-// Trials M to O, and words up to the greatest.
+// Trials M to O, and words up to the greatest: document 01 has no trial P. In the transactions' head
+// word 0 is the last number.
 use crate::play::TRIALS;
 use crate::play::play;
 use crate::tally::Tally;
 
-// Document 01 has no trial P: it tries that every word that is no number is answered 3, and every one
-// that is no item 4.
-pub fn m_to_p(tally: Tally) -> Tally {
+// Numbers and sizes.
+pub fn m_and_n(tally: Tally) -> Tally {
     play(
         TRIALS,
         0,
@@ -62,7 +62,17 @@ read 1 0: 0 0 0 1
 write 1 0 5: 0 0 0 0
 commit 1: 0 0 1 0
 abort 2: 0 0 0 0
-trial O: three updates in a circle, one outside that waits for them, then sixteen in a circle
+",
+        tally,
+    )
+}
+
+// Circles.
+pub fn o(tally: Tally) -> Tally {
+    play(
+        TRIALS,
+        0,
+        b"trial O: three updates in a circle, one outside that waits for them, then sixteen in a circle
 update: 0 0 1 0
 update: 0 0 2 0
 update: 0 0 3 0
@@ -136,7 +146,17 @@ write 16 1 1: 2 0 0 0
 read 16 0: 0 0 0 1
 abort 16: 0 0 0 0
 read 15 16: 0 0 0 1
-trial P: numbers, items and values up to the greatest word, on good tables
+",
+        tally,
+    )
+}
+
+// Every word that is no number is answered 3, and every one that is no item 4.
+pub fn p(tally: Tally) -> Tally {
+    play(
+        TRIALS,
+        0,
+        b"trial P: numbers, items and values up to the greatest word, on good tables
 update: 0 0 1 0
 query: 0 0 2 0
 read 0 0: 3 0 0 0

@@ -1,10 +1,11 @@
-// Trials A to H: what is granted, who waits, and what is refused.
+// Trials A to H: what is granted, who waits, and what is refused. Of the items that document 01 calls x
+// and y any two are taken; T1 and T2 are the transactions 1 and 2.
 use crate::play::TRIALS;
 use crate::play::play;
 use crate::tally::Tally;
 
-// Items that document 01 calls x and y are any two; T1 and T2 are the transactions 1 and 2.
-pub fn a_to_h(tally: Tally) -> Tally {
+// Reads, writes, and waits.
+pub fn a_to_e(tally: Tally) -> Tally {
     play(
         TRIALS,
         0,
@@ -66,7 +67,17 @@ abort 2: 0 0 0 0
 write 1 3 8: 0 0 0 0
 read 1 3: 0 8 0 0
 commit 1: 0 0 1 0
-trial F: who awaits may only repeat its call or abort, first a read, then a write
+",
+        tally,
+    )
+}
+
+// What is refused.
+pub fn f_to_h(tally: Tally) -> Tally {
+    play(
+        TRIALS,
+        0,
+        b"trial F: who awaits may only repeat its call or abort, first a read, then a write
 update: 0 0 1 0
 update: 0 0 2 0
 write 1 3 8: 0 0 0 0

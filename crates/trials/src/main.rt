@@ -23,7 +23,9 @@ mod words;
 use tally::Tally;
 
 fn trials(tally: Tally) -> Tally {
-    limits::m_to_p(versions::i_to_l(locks::a_to_h(tally)))
+    let mut t = locks::f_to_h(locks::a_to_e(tally));
+    t = versions::j_to_l(versions::i(t));
+    limits::p(limits::o(limits::m_and_n(t)))
 }
 
 fn damages(tally: Tally) -> Tally {

@@ -1,11 +1,11 @@
-// Trials I to L: versions, the clock, aborted writes and counts.
+// Trials I to L: versions, the clock, aborted writes and counts. In the transactions' head word 1 is the
+// clock; in a row of versions word 0 is the count.
 use crate::play::TRIALS;
 use crate::play::play;
 use crate::tally::Tally;
 
-// In the transactions' head word 0 is the last number and word 1 the clock; in a row of versions word 0
-// is the count.
-pub fn i_to_l(tally: Tally) -> Tally {
+// A full row.
+pub fn i(tally: Tally) -> Tally {
     play(
         TRIALS,
         0,
@@ -101,7 +101,17 @@ read 13 0: 0 105 0 9
 read 17 0: 0 107 0 8
 abort 1: 0 0 0 0
 see versions 0 0: 14
-trial J: the last stamp is given, then none, and who awaits is told so first
+",
+        tally,
+    )
+}
+
+// The clock, aborted writes, and counts.
+pub fn j_to_l(tally: Tally) -> Tally {
+    play(
+        TRIALS,
+        0,
+        b"trial J: the last stamp is given, then none, and who awaits is told so first
 put head 0 1: 4294967294
 update: 0 0 1 0
 query: 0 0 2 0
