@@ -4,20 +4,18 @@ use crate::say;
 use crate::set::OF_ITEMS;
 use crate::set::OF_SLOTS;
 use crate::set::Rows;
-use crate::tables::ABORT;
-use crate::tables::COMMIT;
-use crate::tables::Call;
-use crate::tables::QUERY;
-use crate::tables::READ;
-use crate::tables::Tables;
-use crate::tables::UPDATE;
-use crate::tables::WRITE;
-use crate::tally::Tally;
-use crate::tally::equal;
-use crate::tally::more;
+use crate::state::ABORT;
+use crate::state::COMMIT;
+use crate::state::Call;
+use crate::state::QUERY;
+use crate::state::READ;
+use crate::state::Tables;
+use crate::state::UPDATE;
+use crate::state::WRITE;
+use counting::Score;
+use counting::Tally;
+use counting::equal;
 use names::Answer;
-ghost use mathlib.Core.Path.{_≡_};
-ghost use Rattle.trials.specs.Counts.{scored as score·scored};
 
 const BAD_TABLES: u64 = 10;
 
@@ -27,25 +25,6 @@ const UNKNOWN_TRANSACTION: u64 = 3;
 const SOMEBODY: u64 = 11;
 
 const NOBODY: u64 = 0;
-
-// How many calls answered as they must, and how many words all of them changed.
-pub struct Score {
-    pub calls: u64,
-    pub changed: u64,
-}
-
-impl Score {
-    // A call more.
-    fn plus(self, ok: bool, changed: u64) -> Score
-        ensures { λ r. ⌜ r ≡ score·scored self ok changed ⌝ }
-    {
-        let calls = if ok { more(self.calls) } else { self.calls };
-        Score {
-            calls,
-            changed: std::num::wrapping_add_u64(self.changed, changed),
-        }
-    }
-}
 
 // A call on the tables as they are.
 fn tried(tables: Tables, kind: u8, number: u64, code: u64, score: Score) -> Score {

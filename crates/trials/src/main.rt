@@ -15,16 +15,15 @@ mod play;
 mod sample;
 mod say;
 mod set;
-mod tables;
-mod tally;
-mod versions;
-mod words;
+mod stamps;
+mod state;
+mod steps;
 
-use tally::Tally;
+use counting::Tally;
 
 fn trials(tally: Tally) -> Tally {
     let mut t = locks::f_to_h(locks::a_to_e(tally));
-    t = versions::j_to_l(versions::i(t));
+    t = stamps::j_to_l(stamps::i(t));
     limits::p(limits::o(limits::m_and_n(t)))
 }
 

@@ -18,16 +18,18 @@ use crate::sample::sample;
 use crate::say;
 use crate::set::Rows;
 use crate::set::set;
-use crate::tables::ABORT;
-use crate::tables::COMMIT;
-use crate::tables::Call;
-use crate::tables::QUERY;
-use crate::tables::READ;
-use crate::tables::Tables;
-use crate::tables::UPDATE;
-use crate::tables::WRITE;
-use crate::tables::place;
-use crate::tally::Tally;
+use crate::state::ABORT;
+use crate::state::COMMIT;
+use crate::state::Call;
+use crate::state::QUERY;
+use crate::state::READ;
+use crate::state::Tables;
+use crate::state::UPDATE;
+use crate::state::WRITE;
+use crate::state::place;
+use crate::steps::expect;
+use crate::steps::head;
+use counting::Tally;
 use names::Answer;
 
 const TRIAL: u8 = b't';
@@ -67,7 +69,7 @@ fn echo(stage: Stage, line: Line, byte: u8) {
     let tally = stage.tally;
     if (rows.of == TRIALS) | damages {
         if (line.kind == 0) & tries {
-            tally.head();
+            head(tally);
         }
         say::byte(byte);
         if (byte == b':') & tries {
@@ -94,7 +96,7 @@ fn call(stage: Stage, line: Line) -> Stage {
     let after = called.tables;
     let changed = after.changed(before);
     let tally = stage.tally;
-    let counted = tally.expect(called.answer, changed as u64, wanted);
+    let counted = expect(tally, called.answer, changed as u64, wanted);
     let rows = stage.rows;
     Stage {
         tables: after,

@@ -18,7 +18,7 @@ use crate::set::OF_NO_ROW;
 use crate::set::OF_SLOTS;
 use crate::set::Rows;
 use crate::set::set;
-use crate::tables::Tables;
+use crate::state::Tables;
 use names::SLOTS;
 
 // The slot from which a text counts, so that what it calls a row is the row that is damaged.

@@ -6,10 +6,10 @@
 //     lend 81 192 2112          so many words of each table are lent from now on
 //     fresh                     the tables are fresh again
 use crate::line::Line;
-use crate::tables::HEAD;
-use crate::tables::TXNS;
-use crate::tables::Tables;
-use crate::tables::place;
+use crate::state::HEAD;
+use crate::state::TXNS;
+use crate::state::Tables;
+use crate::state::place;
 use names::ITEMS;
 use names::SLOTS;
 ghost use Prim.Native.Nat.{_<_};

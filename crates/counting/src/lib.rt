@@ -1,0 +1,17 @@
+// What the test program counts: the steps tried and those that were as expected, and the words of
+// tables that differ.
+//
+// Every function is proved against a definition of specs/, and none has a `requires`.
+mod score;
+mod tally;
+mod words;
+
+pub use score::Score;
+pub use tally::REFUSED;
+pub use tally::Tally;
+pub use tally::as_expected;
+pub use tally::equal;
+pub use words::changed;
+pub use words::differing;
+pub use words::put;
+pub use words::word;
