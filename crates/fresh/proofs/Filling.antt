@@ -11,12 +11,12 @@ use lib.Dec.{T, eqb, eqb→eq}
 use borrow.Author.Tests.{not-true, not-false}
 use Rattle.names.specs.Sizes.{base}
 use Rattle.rules.specs.Words.{row}
-use Rattle.rules.specs.Tables.{Tables, tables, txnWords, lockWords, versionRow, versionWords, fresh}
+use Rattle.rules.specs.Tables.{withCounts, Tables, tables, txnWords, lockWords, versionRow, versionWords, fresh}
 use Rattle.rules.specs.Tested.{sizesExact}
 use Rattle.rules.proofs.Tests.{same?, and-left, and-right, true-is}
 use Rattle.rules.proofs.Rows.{row-word}
-use Rattle.rules.proofs.Fresh.{zeros, withCounts, length-withCounts, row-withCounts}
-use Rattle.fresh.specs.Made.{counted, freshened}
+use Rattle.rules.proofs.Fresh.{zeros, length-withCounts, row-withCounts}
+use Rattle.fresh.specs.Made.{freshened}
 
 -- ---- the words below k are 0
 pub record Zeroed (before after : List ℕ) (k : ℕ) : Type 0 where
@@ -80,30 +80,29 @@ one-counted before after x i r =
     go y b (inr d) = getD-set-other after (rowWords * x) (rowWords * y) 1 0 (λ q. d (omega arith)) ∙ r .done y (omega arith)
 
 pub all-counted :
-    (before after : List ℕ) (x : ℕ) → length before ≡ versionWords base → base .items ≤ x → Counted before after x → after ≡ counted base before
-unfolding counted
+    (before after : List ℕ) (x : ℕ) → length before ≡ versionWords base → base .items ≤ x → Counted before after x → after ≡ withCounts base before
 all-counted before after x e b r =
-    ext-getD 0 after (counted base before) (r .size ∙ sym (length-withCounts base before e))
+    ext-getD 0 after (withCounts base before) (r .size ∙ sym (length-withCounts base before e))
     (λ j i. word j (let s = r .size in omega arith) (j % rowWords) refl)
   where
     new :
         (j : ℕ) → j < versionWords base → (k : ℕ) → k < rowWords
-        → getD (counted base before) (rowWords * (j / rowWords) + k) 0 ≡ getD (1 ∷ drop 1 (row rowWords (j / rowWords) before)) k 0
+        → getD (withCounts base before) (rowWords * (j / rowWords) + k) 0 ≡ getD (1 ∷ drop 1 (row rowWords (j / rowWords) before)) k 0
     new j i k h =
-        sym (row-word rowWords (j / rowWords) k (counted base before) h)
+        sym (row-word rowWords (j / rowWords) k (withCounts base before) h)
         ∙ ap (λ (m : List ℕ). getD m k 0) (row-withCounts base before e (j / rowWords) (omega arith))
 
-    word : (j : ℕ) → j < versionWords base → (k : ℕ) → j % rowWords ≡ k → getD after j 0 ≡ getD (counted base before) j 0
+    word : (j : ℕ) → j < versionWords base → (k : ℕ) → j % rowWords ≡ k → getD after j 0 ≡ getD (withCounts base before) j 0
     word j i zero q =
         let p : rowWords * (j / rowWords) ≡ j = omega arith in
         let n : rowWords * (j / rowWords) + 0 ≡ j = omega arith in
         subst (λ (m : ℕ). getD after m 0 ≡ 1) p (r .done (j / rowWords) (omega arith))
-        ∙ sym (subst (λ (m : ℕ). getD (counted base before) m 0 ≡ 1) n (new j i 0 (omega arith)))
+        ∙ sym (subst (λ (m : ℕ). getD (withCounts base before) m 0 ≡ 1) n (new j i 0 (omega arith)))
     word j i (suc k) q =
         let h : k < behind = omega arith in
         let p : rowWords * (j / rowWords) + suc k ≡ j = omega arith in
         let n : 1 + k ≡ suc k = omega arith in
-        subst (λ (m : ℕ). getD after m 0 ≡ getD (counted base before) m 0) p
+        subst (λ (m : ℕ). getD after m 0 ≡ getD (withCounts base before) m 0) p
         (r .rest (j / rowWords) k h
         ∙ sym (row-word rowWords (j / rowWords) (suc k) before (omega arith))
         ∙ sym (getD-drop 1 (row rowWords (j / rowWords) before) k 0 ∙ ap (λ (m : ℕ). getD (row rowWords (j / rowWords) before) m 0) n)
@@ -135,9 +134,9 @@ exact G r e h =
 
 pub filled :
     (G : Tables) (r : Bool) → r ≡ sizesExact base G → not r ≡ false → (t l z v : List ℕ)
-    → t ≡ replicate (length (G .txns)) 0 → l ≡ replicate (length (G .locks)) 0 → z ≡ replicate (length (G .versions)) 0 → v ≡ counted base z
+    → t ≡ replicate (length (G .txns)) 0 → l ≡ replicate (length (G .locks)) 0 → z ≡ replicate (length (G .versions)) 0 → v ≡ withCounts base z
     → (true ≡ sizesExact base G) × (tables t l v ≡ freshened base G)
-unfolding freshened fresh counted
+unfolding freshened fresh
 filled G r e h t l z v p q a c = (
   sym y,
   (λ i. tables (tx i) (lo i) (ve i)) ∙ sym (ap (λ (b : Bool). cond b (fresh base) G) y),

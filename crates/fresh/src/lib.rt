@@ -9,9 +9,9 @@ use names::VERSION_WORDS;
 ghost use mathlib.Core.Path.{_≡_};
 ghost use lib.ListN.{length, replicate};
 ghost use Rattle.names.specs.Sizes.{base};
-ghost use Rattle.rules.specs.Tables.{tables, versionWords};
+ghost use Rattle.rules.specs.Tables.{tables, versionWords, withCounts};
 ghost use Rattle.rules.specs.Tested.{sizesExact};
-ghost use Rattle.fresh.specs.Made.{counted, freshened};
+ghost use Rattle.fresh.specs.Made.{freshened};
 
 // Whether the three tables have their sizes.
 fn sizes_exact(txns: &[u64], locks: &[u64], versions: &[u64]) -> bool
@@ -34,7 +34,7 @@ fn zero(words: &mut [u64])
 // The count of every version row becomes 1.
 fn count(versions: &mut [u64])
     requires { ⌜ length (now versions) ≡ versionWords base ⌝ }
-    ensures { λ _. ⌜ now (versions .exit) ≡ counted base (now (versions .entry)) ⌝ }
+    ensures { λ _. ⌜ now (versions .exit) ≡ withCounts base (now (versions .entry)) ⌝ }
 {
     let mut x: usize = 0;
     while x < ITEMS as usize {

@@ -11,8 +11,8 @@ use lib.Seq.{getD-drop, getD-take}
 use lib.Dec.{T, eqb, ltb, eqb·zero-suc}
 use borrow.Author.Tests.{ltb-true, ltb-false}
 use Rattle.names.specs.declared.Sizes.{Sizes}
-use Rattle.rules.specs.Words.{row, mapRows, bit}
-use Rattle.rules.specs.Tables.{txnAt, txnWords, lockWords, lockRow, versionWords, versionRow, Txn, txn, noTxn, live, liveQuery}
+use Rattle.rules.specs.Words.{row, bit}
+use Rattle.rules.specs.Tables.{withCounts, txnAt, txnWords, lockWords, lockRow, versionWords, versionRow, Txn, txn, noTxn, live, liveQuery}
 use Rattle.rules.specs.Tables.{Lock, lock, holds, holdsShared, holdsExclusive, fresh}
 use Rattle.rules.specs.Versions.{versionsIn, pairs, stampAt}
 use Rattle.rules.specs.Waits.{waitsFor, Walk, one, more}
@@ -41,10 +41,6 @@ zero-row w x l z j = go (ltb j w) refl
     go : (b : Bool) → ltb j w ≡ b → getD (take w (drop (w * x) l)) j 0 ≡ 0
     go true e = let h = ltb-true j w e in rw (getD-take, getD-drop) (z (w * x + j))
     go false e = List·getD-eq-default (take w (drop (w * x) l)) 0 (let h = ltb-false j w e in let a = length-take w (drop (w * x) l) in omega arith)
-
--- ---- a version table whose every row gets the count 1
-abbrev pub withCounts : Sizes → List ℕ → List ℕ
-withCounts S v = mapRows (S .items) (versionRow S) (λ x r. 1 ∷ drop 1 r) 0 v
 
 module _ (S : Sizes) (v : List ℕ) (size : length v ≡ versionWords S) where
   long : (x : ℕ) (r : List ℕ) → length r ≡ versionRow S → length (1 ∷ drop 1 r) ≡ versionRow S

@@ -169,10 +169,15 @@ abbrev pub versionWords : Sizes → ℕ
 versionWords S = versionRow S * S .items
 
 -- ---- "Fresh tables hold zeros, but each version row has count 1 with the pair (0, 0)."
+
+-- a version table with the count 1 in every row
+abbrev pub withCounts : Sizes → List ℕ → List ℕ
+withCounts S v = mapRows (S .items) (versionRow S) (λ x r. 1 ∷ drop 1 r) 0 v
+
 unfoldable pub fresh : Sizes → Tables
 fresh S =
     record {
       txns = replicate (txnWords S) 0;
       locks = replicate (lockWords S) 0;
-      versions = mapRows (S .items) (versionRow S) (λ x r. 1 ∷ drop 1 r) 0 (replicate (versionWords S) 0);
+      versions = withCounts S (replicate (versionWords S) 0);
     }
