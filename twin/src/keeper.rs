@@ -43,6 +43,45 @@ impl Call {
         }
     }
 
+    /// Call kind, number, item and value; what the call does not have is 0.
+    pub fn words(self) -> [u64; 4] {
+        match self {
+            Call::Update => [1, 0, 0, 0],
+            Call::Query => [2, 0, 0, 0],
+            Call::Read { number, item } => [3, number, item, 0],
+            Call::Write {
+                number,
+                item,
+                value,
+            } => [4, number, item, value],
+            Call::Commit { number } => [5, number, 0, 0],
+            Call::Abort { number } => [6, number, 0, 0],
+        }
+    }
+
+    /// The call of these words, whatever stands where it has none; none for
+    /// another kind.
+    pub fn of_words([kind, number, item, value]: [u64; 4]) -> Option<Call> {
+        let at = usize::try_from(kind).ok()?.checked_sub(1)?;
+        Call::each(number, item, value).get(at).copied()
+    }
+
+    /// Each of the six calls with these numbers, in the order of their kinds.
+    pub fn each(number: u64, item: u64, value: u64) -> [Call; 6] {
+        [
+            Call::Update,
+            Call::Query,
+            Call::Read { number, item },
+            Call::Write {
+                number,
+                item,
+                value,
+            },
+            Call::Commit { number },
+            Call::Abort { number },
+        ]
+    }
+
     /// The same call by another transaction; a begin stays as it is.
     pub fn with_number(self, number: u64) -> Call {
         match self {

@@ -17,6 +17,7 @@ mod view;
 pub mod clauses;
 pub mod decimal;
 pub mod fuzz;
+pub mod journal;
 pub mod protocol;
 pub mod rng;
 pub mod script;

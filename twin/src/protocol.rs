@@ -82,7 +82,7 @@ impl Case {
             return None;
         }
         let (head, mut words) = numbers.split_at(7);
-        let call = call_of([head[0], head[1], head[2], head[3]])?;
+        let call = Call::of_words([head[0], head[1], head[2], head[3]])?;
         let mut cut = |len: u64| {
             let len = usize::try_from(len).ok()?;
             if len > words.len() {
@@ -106,7 +106,7 @@ impl Case {
 
     /// Appends the case as a line with its end.
     pub fn push(&self, out: &mut Vec<u8>) {
-        let [kind, rest @ ..] = words_of(self.call);
+        let [kind, rest @ ..] = self.call.words();
         decimal::push(out, kind);
         for word in rest {
             out.push(b' ');
@@ -127,38 +127,6 @@ pub fn push_outcome(out: &mut Vec<u8>, answer: Answer, after: &Tables) {
     }
     after.push(out);
     out.push(b'\n');
-}
-
-fn call_of([kind, number, item, value]: [u64; 4]) -> Option<Call> {
-    match kind {
-        1 => Some(Call::Update),
-        2 => Some(Call::Query),
-        3 => Some(Call::Read { number, item }),
-        4 => Some(Call::Write {
-            number,
-            item,
-            value,
-        }),
-        5 => Some(Call::Commit { number }),
-        6 => Some(Call::Abort { number }),
-        _ => None,
-    }
-}
-
-/// Call kind, number, item and value; what the call does not have is 0.
-fn words_of(call: Call) -> [u64; 4] {
-    match call {
-        Call::Update => [1, 0, 0, 0],
-        Call::Query => [2, 0, 0, 0],
-        Call::Read { number, item } => [3, number, item, 0],
-        Call::Write {
-            number,
-            item,
-            value,
-        } => [4, number, item, value],
-        Call::Commit { number } => [5, number, 0, 0],
-        Call::Abort { number } => [6, number, 0, 0],
-    }
 }
 
 /// Answers every line of the input.

@@ -4,11 +4,13 @@
 use std::process::{Command, Output};
 use std::time::Instant;
 
-use twin::wrong::{WrongRunner, WrongTables};
+use twin::wrong::{WrongJudge, WrongRunner, WrongTables};
 
 const FUZZ: &str = env!("CARGO_BIN_EXE_fuzz");
 const RUNNER: &str = env!("CARGO_BIN_EXE_twin-run");
 const TABLES: &str = env!("CARGO_BIN_EXE_twin-tables");
+const RECORD: &str = env!("CARGO_BIN_EXE_twin-record");
+const VERDICT: &str = env!("CARGO_BIN_EXE_twin-verdict");
 
 fn fuzz(arguments: &[&str]) -> Output {
     let mut command = Command::new(FUZZ);
@@ -28,24 +30,29 @@ fn smallest(report: &str) -> usize {
     word.parse().expect("the number of its lines")
 }
 
+/// What the fuzzer reports of a program that is wrong in one way.
+fn report_of([option, path, next]: [&str; 3], kind: &str) -> String {
+    let output = fuzz(&[
+        option,
+        path,
+        next,
+        "--wrong",
+        next,
+        kind,
+        "--seed",
+        "1",
+        "--seconds",
+        "60",
+    ]);
+    assert_eq!(output.status.code(), Some(1), "{} is not caught", kind);
+    text(&output)
+}
+
 #[test]
 fn wrong_runners_are_caught() {
     for kind in WrongRunner::names() {
         let begin = Instant::now();
-        let output = fuzz(&[
-            "--runner",
-            RUNNER,
-            "--runner-arg",
-            "--wrong",
-            "--runner-arg",
-            kind,
-            "--seed",
-            "1",
-            "--seconds",
-            "60",
-        ]);
-        let report = text(&output);
-        assert_eq!(output.status.code(), Some(1), "{} is not caught", kind);
+        let report = report_of(["--runner", RUNNER, "--runner-arg"], kind);
         assert!(report.contains("difference at seed 1 round "), "{}", kind);
         assert!(report.contains("first differing line: "), "{}", kind);
         let lines = smallest(&report);
@@ -58,29 +65,45 @@ fn wrong_runners_are_caught() {
 fn wrong_tables_are_caught() {
     for kind in WrongTables::names() {
         let begin = Instant::now();
-        let output = fuzz(&[
-            "--tables",
-            TABLES,
-            "--tables-arg",
-            "--wrong",
-            "--tables-arg",
-            kind,
-            "--seed",
-            "1",
-            "--seconds",
-            "60",
-        ]);
-        let report = text(&output);
-        assert_eq!(output.status.code(), Some(1), "{} is not caught", kind);
+        let report = report_of(["--tables", TABLES, "--tables-arg"], kind);
         assert!(report.contains("smallest case found"), "{}", kind);
         println!("{}: {:?}", kind, begin.elapsed());
     }
 }
 
 #[test]
+fn wrong_judges_are_caught() {
+    for kind in WrongJudge::names() {
+        let begin = Instant::now();
+        let report = report_of(["--verdict", VERDICT, "--verdict-arg"], kind);
+        assert!(report.contains("the twin says "), "{}", kind);
+        println!("{}: {:?}", kind, begin.elapsed());
+    }
+}
+
+#[test]
+fn a_wrong_record_is_caught() {
+    // It writes no file at all.
+    let output = fuzz(&["--record", "true", "--seed", "1", "--rounds", "3"]);
+    assert_eq!(output.status.code(), Some(1));
+    assert!(text(&output).contains("the journal differs"));
+}
+
+#[test]
 fn the_right_ones_are_not() {
     let output = fuzz(&[
-        "--runner", RUNNER, "--tables", TABLES, "--seed", "2", "--rounds", "12",
+        "--runner",
+        RUNNER,
+        "--tables",
+        TABLES,
+        "--record",
+        RECORD,
+        "--verdict",
+        VERDICT,
+        "--seed",
+        "2",
+        "--rounds",
+        "12",
     ]);
     let report = text(&output);
     assert_eq!(output.status.code(), Some(0), "{}", report);

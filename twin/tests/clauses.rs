@@ -64,22 +64,9 @@ fn breaks(clause: Clause, damage: impl Fn(&mut Keeper)) {
     let list = broken(&keeper.txns, &keeper.locks, &keeper.versions);
     assert_eq!(list, [clause]);
     assert!(!keeper.is_good(), "{:?}", clause);
-    let (number, item, value) = (11, 0, 1);
-    let calls = [
-        Call::Update,
-        Call::Query,
-        Call::Read { number, item },
-        Call::Write {
-            number,
-            item,
-            value,
-        },
-        Call::Commit { number },
-        Call::Abort { number },
-        Call::Abort { number: 99 },
-        Call::Read { number, item: 64 },
-    ];
-    for call in calls {
+    let number = 11;
+    let others = [Call::Abort { number: 99 }, Call::Read { number, item: 64 }];
+    for call in Call::each(number, 0, 1).into_iter().chain(others) {
         let before = keeper.clone();
         let bad = Answer {
             code: 10,

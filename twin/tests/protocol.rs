@@ -38,20 +38,7 @@ fn answered(input: &[u8]) -> (String, bool) {
 
 #[test]
 fn cases_are_read_as_they_are_written() {
-    let (number, item, value) = (u64::MAX, 64, 3);
-    let calls = [
-        Call::Update,
-        Call::Query,
-        Call::Read { number, item },
-        Call::Write {
-            number,
-            item,
-            value,
-        },
-        Call::Commit { number },
-        Call::Abort { number },
-    ];
-    for call in calls {
+    for call in Call::each(u64::MAX, 64, 3) {
         let mut case = fresh_case(call);
         assert_eq!(Case::parse(&line(&case)), Some(case.clone()));
         case.tables.locks.push(u64::MAX);

@@ -252,27 +252,12 @@ fn k_an_aborted_write_is_never_read() {
     assert_eq!(t.read(4, X), [0, 0, 0, 1]);
 }
 
-fn every_call() -> Vec<Call> {
-    vec![
-        Call::Update,
-        Call::Query,
-        Call::Read { number: 1, item: 0 },
-        Call::Write {
-            number: 1,
-            item: 0,
-            value: 1,
-        },
-        Call::Commit { number: 1 },
-        Call::Abort { number: 1 },
-    ]
-}
-
 #[test]
 fn l_a_version_count_of_zero() {
     for item in 0..ITEMS {
         let mut t = Trial::with_updates(1);
         t.0.versions[item * VERSION_ROW] = 0;
-        for call in every_call() {
+        for call in Call::each(1, 0, 1) {
             assert_eq!(t.call(call), BAD_TABLES);
         }
     }
@@ -301,7 +286,7 @@ fn n_tables_of_other_sizes() {
     let good = Trial::with_updates(1).0;
     for (short, long, table) in [(81, 83, 0), (191, 193, 1), (2111, 2113, 2)] {
         for len in [0, 1, short, long, 2 * long] {
-            for call in every_call() {
+            for call in Call::each(1, 0, 1) {
                 let mut tables = [
                     good.txns.to_vec(),
                     good.locks.to_vec(),

@@ -1,4 +1,4 @@
--- What the numbers of a case give: its call, its tables and their lengths. Assumes nothing.
+-- What the numbers of a case give: its tables and their lengths. Assumes nothing.
 use Prim.Native.Nat.{ℕ, _+_, _-_, _*_, _<_, _≤_}
 use mathlib.Core.Path.{_≡_, refl, ap}
 use mathlib.Core.Bool.{Bool, true, false, _&&_}
@@ -6,42 +6,14 @@ use mathlib.Core.List.{List, [], _∷_}
 use native.Mathlib.Omega.{arith}
 use lib.Dec.{eqb, leb}
 use lib.ListN.{length, take, drop, getD}
-use borrow.Author.Tests.{leb-true, eqb-true, le-leb, lt-leb, ne-eqb}
+use borrow.Author.Tests.{leb-true, eqb-true, le-leb, lt-leb}
 use Rattle.rules.specs.Tables.{tables}
-use Rattle.rules.specs.Answers.{beginUpdate, beginQuery, read, write, commit, abort}
 use Rattle.script.proofs.Scans.{and-left, and-right}
-use Rattle.given.specs.Cases.{headNumbers, txnsRoom, locksRoom, versionsRoom, longestAnswer, callBy, tablesOf, txnsLength, locksLength, versionsLength, isCase, Fits}
+use Rattle.given.specs.Cases.{headNumbers, txnsRoom, locksRoom, versionsRoom, longestAnswer, tablesOf, txnsLength, locksLength, versionsLength, isCase, Fits}
 
 pub take-all : (l : List ℕ) → take (length l) l ≡ l
 take-all [] = refl
 take-all (x ∷ l) = ap (λ (m : List ℕ). x ∷ m) (take-all l)
-
--- ---- the call
-
-module _ (k n x v : ℕ) where
-  pub by-update : k ≡ 1 → callBy k n x v ≡ beginUpdate
-  unfolding callBy
-  by-update e = rw e
-
-  pub by-query : k ≡ 2 → callBy k n x v ≡ beginQuery
-  unfolding callBy
-  by-query e = rw e
-
-  pub by-read : k ≡ 3 → callBy k n x v ≡ read n x
-  unfolding callBy
-  by-read e = rw e
-
-  pub by-write : k ≡ 4 → callBy k n x v ≡ write n x v
-  unfolding callBy
-  by-write e = rw e
-
-  pub by-commit : k ≡ 5 → callBy k n x v ≡ commit n
-  unfolding callBy
-  by-commit e = rw e
-
-  pub by-abort : (k ≡ 1 → ⊥) → (k ≡ 2 → ⊥) → (k ≡ 3 → ⊥) → (k ≡ 4 → ⊥) → (k ≡ 5 → ⊥) → callBy k n x v ≡ abort n
-  unfolding callBy
-  by-abort a b c d e = rw (ne-eqb k 1 a, ne-eqb k 2 b, ne-eqb k 3 c, ne-eqb k 4 d, ne-eqb k 5 e)
 
 -- ---- the test
 

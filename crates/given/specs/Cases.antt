@@ -7,8 +7,9 @@ use lib.Dec.{eqb, leb}
 use lib.ListN.{length, getD, take, drop}
 use Rattle.names.specs.Sizes.{base}
 use Rattle.rules.specs.Tables.{Tables, tables, txnWords, lockWords, versionWords}
-use Rattle.rules.specs.Answers.{Call, Outcome, beginUpdate, beginQuery, read, write, commit, abort}
+use Rattle.rules.specs.Answers.{Call, Outcome}
 use Rattle.rules.specs.Step.{step}
+use Rattle.kinds.specs.Kinds.{fields, callIn}
 use Rattle.script.specs.Print.{decimal, spaced, badLine}
 use Rattle.given.specs.Lines.{Held, reads, spoilt}
 
@@ -34,19 +35,9 @@ longestAnswer = 21 * (headNumbers + txnsRoom + locksRoom + versionsRoom)
 
 -- ---- what the numbers give
 
--- 1 update, 2 query, 3 read, 4 write, 5 commit, 6 abort
-unfoldable pub callBy : ℕ → ℕ → ℕ → ℕ → Call
-callBy kind n x v =
-    cond (eqb kind 1) beginUpdate
-    (cond (eqb kind 2) beginQuery
-    (cond (eqb kind 3) (read n x)
-    (cond (eqb kind 4) (write n x v)
-    (cond (eqb kind 5) (commit n)
-    (abort n)))))
-
 -- kind, number, item, value
 unfoldable pub callOf : List ℕ → Call
-callOf ns = callBy (getD ns 0 0) (getD ns 1 0) (getD ns 2 0) (getD ns 3 0)
+callOf ns = callIn (fields (getD ns 0 0) (getD ns 1 0) (getD ns 2 0) (getD ns 3 0))
 
 -- the three lengths
 abbrev pub txnsLength : List ℕ → ℕ

@@ -1,6 +1,7 @@
 // A line's numbers as a case: the call, made on the tables that they give.
 use crate::outcomes::print_outcome;
 use crate::scan::Scan;
+use kinds::Fields;
 use names::Answer;
 ghost use mathlib.Core.Path.{_≡_};
 ghost use mathlib.Core.Bool.{true};
@@ -12,7 +13,7 @@ ghost use Rattle.rules.specs.Answers.{outcome};
 ghost use Rattle.rules.specs.Step.{step};
 ghost use Rattle.script.specs.Print.{Wrote};
 ghost use Rattle.given.specs.Lines.{heldBy};
-ghost use Rattle.given.specs.Cases.{txnsRoom, locksRoom, versionsRoom, longestAnswer, callBy, callOf, tablesOf, isCase, caseLine, answerTo, answerAt, Fits};
+ghost use Rattle.given.specs.Cases.{txnsRoom, locksRoom, versionsRoom, longestAnswer, callOf, tablesOf, isCase, caseLine, answerTo, answerAt, Fits};
 
 // The numbers before the words: kind, number, item and value of the call, and three lengths.
 pub(crate) const HEAD: usize = 7;
@@ -44,28 +45,6 @@ fn versions_room() -> [u64; VERSIONS]
     ensures { λ r. ⌜ versionsRoom ≡ length r ⌝ }
 {
     [0; VERSIONS]
-}
-
-// The call of a kind, made.
-fn call(
-    kind: u64,
-    number: u64,
-    item: u64,
-    value: u64,
-    txns: &mut [u64],
-    locks: &mut [u64],
-    versions: &mut [u64],
-) -> Answer
-    ensures { λ r. ⌜ outcome r (now (txns .exit)) (now (locks .exit)) (now (versions .exit)) ≡ step base (callBy kind number item value) (tables (now (txns .entry)) (now (locks .entry)) (now (versions .entry))) ⌝ }
-{
-    match kind {
-        1 => keeper::begin_update(txns, locks, versions),
-        2 => keeper::begin_query(txns, locks, versions),
-        3 => keeper::read(txns, locks, versions, number, item),
-        4 => keeper::write(txns, locks, versions, number, item, value),
-        5 => keeper::commit(txns, locks, versions, number),
-        _ => keeper::abort(txns, locks, versions, number),
-    }
 }
 
 fn copy(from: &[u64], to: &mut [u64])
@@ -112,15 +91,17 @@ fn made(numbers: &[u64], txns: &mut [u64], locks: &mut [u64], versions: &mut [u6
     copy(&numbers[HEAD..b], txns);
     copy(&numbers[b..c], locks);
     copy(&numbers[c..], versions);
-    call(
-        numbers[0],
-        numbers[1],
-        numbers[2],
-        numbers[3],
-        txns,
-        locks,
-        versions,
-    )
+    let kind = numbers[0];
+    let number = numbers[1];
+    let item = numbers[2];
+    let value = numbers[3];
+    let fields = Fields {
+        kind,
+        number,
+        item,
+        value,
+    };
+    calls::make(fields, txns, locks, versions)
 }
 
 // A case's answer line, from an index on.

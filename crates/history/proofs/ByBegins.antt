@@ -25,8 +25,8 @@ use Rattle.history.specs.Numbers.{placeByBegin, begunUpdates, orderByBeg
 use Rattle.history.proofs.Tables.{SameRow, awaited-row, awaited-last, begun-here, begun-there, begun-last}
 use Rattle.history.proofs.Theorem.{nobody}
 use Rattle.history.proofs.Seen.{free-dead}
-use Rattle.history.proofs.Ways.{refusal-code, Way, refused, waited, beganUpdate, beganQuery, readOwn, readNewest, readShared, readQuery}
-use Rattle.history.proofs.Ways.{wroteOwn, wroteTaken, committedUpdate, committedQuery, abortedUpdate, abortedQuery}
+use Rattle.rules.proofs.Ways.{refusal-code, Way, refused, waited, beganUpdate, beganQuery, readOwn, readNewest, readShared, readQuery}
+use Rattle.rules.proofs.Ways.{wroteOwn, wroteTaken, committedUpdate, committedQuery, abortedUpdate, abortedQuery}
 use Rattle.history.proofs.Changes.{Gone, committed-gone, ended-gone, aborted-gone}
 use Rattle.history.proofs.Ended.{step-way}
 

@@ -13,8 +13,8 @@ use Rattle.rules.proofs.Callers.{Caller, Free}
 use Rattle.history.proofs.Tables.{SameRow, same-row, awaited-row, awaited-last, begun-here, begun-there, begun-last, readAt}
 use Rattle.history.proofs.Tables.{aborted-here, aborted-there, aborted-last, ended-here, ended-there, ended-last, ended-reads}
 use Rattle.history.proofs.Tables.{committed-here, committed-there, committed-last, committed-reads}
-use Rattle.history.proofs.Ways.{Way, refused, waited, beganUpdate, beganQuery, readOwn, readNewest, readShared, readQuery}
-use Rattle.history.proofs.Ways.{wroteOwn, wroteTaken, committedUpdate, committedQuery, abortedUpdate, abortedQuery}
+use Rattle.rules.proofs.Ways.{Way, refused, waited, beganUpdate, beganQuery, readOwn, readNewest, readShared, readQuery}
+use Rattle.rules.proofs.Ways.{wroteOwn, wroteTaken, committedUpdate, committedQuery, abortedUpdate, abortedQuery}
 
 -- the row of slot s is free, the others are as they were, and no number was given
 pub record Gone (G G′ : Tables) (s : ℕ) : Type 0 where

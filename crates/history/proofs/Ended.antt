@@ -23,7 +23,7 @@ use Rattle.history.specs.Runs.{run, endOf, names, Every}
 use Rattle.history.specs.Ended.{EndedForEver}
 use Rattle.history.proofs.Tables.{SameRow}
 use Rattle.history.proofs.Seen.{free-dead}
-use Rattle.history.proofs.Ways.{refusal-code, Way, way, way-code, refused, waited, committedUpdate, committedQuery, abortedUpdate, abortedQuery}
+use Rattle.rules.proofs.Ways.{refusal-code, Way, way, way-code, refused, waited, committedUpdate, committedQuery, abortedUpdate, abortedQuery}
 use Rattle.history.proofs.Changes.{Gone, Rows, same, new, gone, rows, committed-gone, ended-gone, aborted-gone}
 
 -- ---- no live row has the number n, and it was given (or a later one was)

@@ -6,7 +6,6 @@ pub mod Invariant
 pub mod Preserved
 pub mod Tables
 pub mod Seen
-pub mod Ways
 pub mod Moves
 pub mod Theorem
 pub mod Changes

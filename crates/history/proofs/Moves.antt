@@ -29,7 +29,7 @@ use Rattle.history.proofs.Tables.{SameHold, same-hold, shared-hold, rep
 use Rattle.history.proofs.Tables.{aborted-here, aborted-there, aborted-last, ended-here, ended-there, ended-last}
 use Rattle.history.proofs.Tables.{ended-newest, ended-reads, committed-here, committed-there, committed-last, committed-newest, committed-reads}
 use Rattle.history.proofs.Seen.{seen, seen-fair, kept-by, kept-gone, free-dead}
-use Rattle.history.proofs.Ways.{Updater}
+use Rattle.rules.proofs.Ways.{Updater}
 
 le-of-eq : {a b : ℕ} → b ≡ a → a ≤ b
 le-of-eq e = omega arith

@@ -20,8 +20,8 @@ use Rattle.history.specs.Runs.{run}
 use Rattle.history.specs.Numbers.{numberOf, stampOf, allOf, CountsFrom, Upward}
 use Rattle.history.proofs.Tables.{awaited-last, begun-last}
 use Rattle.history.proofs.Tables.{fresh-last, fresh-clock, aborted-last, ended-last, committed-last}
-use Rattle.history.proofs.Ways.{refusal-code, Way, refused, waited, beganUpdate, beganQuery, readOwn, readNewest, readShared, readQuery}
-use Rattle.history.proofs.Ways.{wroteOwn, wroteTaken, committedUpdate, committedQuery, abortedUpdate, abortedQuery}
+use Rattle.rules.proofs.Ways.{refusal-code, Way, refused, waited, beganUpdate, beganQuery, readOwn, readNewest, readShared, readQuery}
+use Rattle.rules.proofs.Ways.{wroteOwn, wroteTaken, committedUpdate, committedQuery, abortedUpdate, abortedQuery}
 use Rattle.history.proofs.Ended.{step-way}
 
 -- ---- a count k that gives the numbers l becomes k′: nothing was given, or the next number

@@ -20,7 +20,7 @@ use Rattle.rules.proofs.Keeps.{keeps}
 use Rattle.history.specs.Runs.{Event, run, endOf, names}
 use Rattle.history.specs.Undisturbed.{callsOf, said, heard, Undisturbed}
 use Rattle.history.proofs.Tables.{SameRow, begun-here, readAt, reads-newest}
-use Rattle.history.proofs.Ways.{refusal-code, Way, refused, waited, beganQuery}
+use Rattle.rules.proofs.Ways.{refusal-code, Way, refused, waited, beganQuery}
 use Rattle.history.proofs.Changes.{Rows, same, new, gone, rows, reads-on}
 use Rattle.history.proofs.Ended.{Unknown, unknown-on, unknown-answer, acts, step-way, commit-ended, abort-ended, run-good}
 

@@ -28,8 +28,8 @@ use Rattle.history.proofs.Replay.{added, within-none, within-all}
 use Rattle.history.proofs.Invariant.{Inv}
 use Rattle.history.proofs.Tables.{readAt, fresh-last, fresh-newest}
 use Rattle.history.proofs.Seen.{seen}
-use Rattle.history.proofs.Ways.{refusal-code, Way, way, refused, waited, beganUpdate, beganQuery, readOwn, readNewest, readShared, readQuery}
-use Rattle.history.proofs.Ways.{wroteOwn, wroteTaken, committedUpdate, committedQuery, abortedUpdate, abortedQuery}
+use Rattle.rules.proofs.Ways.{refusal-code, Way, way, refused, waited, beganUpdate, beganQuery, readOwn, readNewest, readShared, readQuery}
+use Rattle.rules.proofs.Ways.{wroteOwn, wroteTaken, committedUpdate, committedQuery, abortedUpdate, abortedQuery}
 use Rattle.history.proofs.Moves.{wait-move, own-move, newest-move, shared-move, query-read-move, own-write-move, taken-move}
 use Rattle.history.proofs.Moves.{begin-update-move, begin-query-move, abort-move, end-move, commit-move}
 

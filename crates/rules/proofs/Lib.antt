@@ -36,3 +36,5 @@ pub mod ChangedVersions
 pub mod Outcomes
 pub mod Calls
 pub mod Queries
+pub mod Ways
+pub mod Bounded

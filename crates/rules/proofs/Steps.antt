@@ -20,8 +20,8 @@ pub one-outcome :
     (S : Sizes) (c : Call) (G : Tables) → (o : Outcome) × (o ≡ step S c G) × ((p : Outcome) → p ≡ step S c G → p ≡ o)
 one-outcome S c G = (step S c G, refl, λ p e. e)
 
--- a test in a call: what both ways have, the outcome has. One line for each branch of nested tests
+-- a test: what both ways have, the choice has. One line for each branch of nested tests
 pub cond-case :
-    (P : Outcome → Type 0) (z : Bool) (o o′ : Outcome) → (z ≡ true → P o) → (z ≡ false → P o′) → P (cond z o o′)
+    {A : Type 0} (P : A → Type 0) (z : Bool) (o o′ : A) → (z ≡ true → P o) → (z ≡ false → P o′) → P (cond z o o′)
 cond-case P true o o′ f h = f refl
 cond-case P false o o′ f h = h refl

@@ -1,10 +1,9 @@
 -- A call's reply and the tables after it; a chunk's lines one by one. Assumes nothing.
 use Prim.Native.Nat.{ℕ, _-_, _≤_, _<_}
-use mathlib.Core.Path.{_≡_, refl, sym, ap, _∙_}
+use mathlib.Core.Path.{_≡_, refl, sym, ap}
 use mathlib.Core.Bool.{true, false}
 use mathlib.Core.List.{List, []}
-use native.Mathlib.Omega.{arith}
-use lib.ListN.{length, drop, drop-of-length-le}
+use lib.ListN.{length}
 use borrow.Author.Tests.{lt-ltb, le-ltb}
 use Rattle.names.specs.declared.Answer.{Answer}
 use Rattle.names.specs.Sizes.{base}
@@ -13,12 +12,12 @@ use Rattle.rules.specs.Answers.{Outcome, outcome}
 use Rattle.rules.specs.Step.{step}
 use Rattle.script.specs.Parse.{callOf}
 use Rattle.script.specs.Print.{answerLine, badLine, Wrote}
-use Rattle.script.specs.Lines.{Held, short, readAs, heldBy, gather, ends, unended, foundBy, Goes, reads, left}
+use Rattle.script.specs.Lines.{Held, short, readAs, heldBy, Goes}
 use Rattle.script.specs.declared.calls.Command.{Command}
 use Rattle.script.specs.declared.calls.Parsed.{Parsed}
 use Rattle.script.specs.declared.calls.Parsed.the-variants.{Call, Bad}
 use Rattle.script.specs.declared.input.Next.{Next}
-use Rattle.script.proofs.Chunks.{gather-reads, gather-left}
+use Rattle.script.proofs.Turns.{readsFrom, line-reads, end-reads, none-reads}
 use Rattle.runner.specs.Replies.{replyTo, afterLine, afterAll, place}
 
 -- ---- one line
@@ -61,43 +60,18 @@ some-room size used h = rw (le-ltb (size - used) 84 h)
 
 -- ---- a chunk from an index on
 
-abbrev pub leftFrom : Held → List ℕ → ℕ → Held
-leftFrom h chunk at = left h (drop at chunk)
-
 abbrev pub afterFrom : Held → List ℕ → ℕ → Tables → Tables
-afterFrom h chunk at G = afterAll (reads h (drop at chunk)) G
-
-ended : {h : Held} {chunk : List ℕ} {from : ℕ} (r : Next) → Goes h chunk from r → r .ended ≡ true → gather h (drop from chunk) ≡ ends (heldBy (r .lines)) (drop (r .at) chunk)
-unfolding foundBy
-ended r g e = sym (g .found) ∙ rw e refl
-
-pub line-left :
-    {h k : Held} {chunk : List ℕ} {from : ℕ} (r : Next) → k ≡ short [] → Goes h chunk from r → r .ended ≡ true → leftFrom k chunk (r .at) ≡ leftFrom h chunk from
-line-left {h} {k} {chunk} {from} r n g e =
-    rw n (sym (gather-reads (drop from chunk) h (heldBy (r .lines)) (drop (r .at) chunk) (ended r g e) .1))
+afterFrom h chunk at G = afterAll (readsFrom h chunk at) G
 
 pub line-after :
     {h k : Held} {chunk : List ℕ} {from : ℕ} (r : Next) (G H : Tables) → k ≡ short [] → H ≡ afterLine (readAs (heldBy (r .lines))) G → Goes h chunk from r → r .ended ≡ true → afterFrom k chunk (r .at) H ≡ afterFrom h chunk from G
 unfolding afterAll
-line-after {h} {k} {chunk} {from} r G H n a g e =
-    rw (n, a) (ap (λ (ps : List Parsed). afterAll ps G) (sym (gather-reads (drop from chunk) h (heldBy (r .lines)) (drop (r .at) chunk) (ended r g e) .0)))
-
-unended′ : {h : Held} {chunk : List ℕ} {from : ℕ} (r : Next) → Goes h chunk from r → r .ended ≡ false → gather h (drop from chunk) ≡ unended (heldBy (r .lines))
-unfolding foundBy
-unended′ r g e = sym (g .found) ∙ rw e refl
+line-after r G H n a g e = rw a (ap (λ (ps : List Parsed). afterAll ps G) (sym (line-reads r n g e)))
 
 -- nothing is left at the end of a chunk
-pub end-left : (h : Held) (chunk : List ℕ) (at : ℕ) → length chunk ≤ at → leftFrom h chunk at ≡ h
-unfolding left
-end-left h chunk at k = rw (drop-of-length-le chunk k)
-
 pub end-after : (h : Held) (chunk : List ℕ) (at : ℕ) (G : Tables) → length chunk ≤ at → afterFrom h chunk at G ≡ G
-unfolding reads afterAll
-end-after h chunk at G k = rw (drop-of-length-le chunk k)
-
-pub none-left : {h : Held} {chunk : List ℕ} {from : ℕ} (r : Next) → Goes h chunk from r → r .ended ≡ false → leftFrom (heldBy (r .lines)) chunk (length chunk) ≡ leftFrom h chunk from
-none-left {h} {chunk} {from} r g e = end-left (heldBy (r .lines)) chunk (length chunk) (omega arith) ∙ sym (gather-left (drop from chunk) h (heldBy (r .lines)) (unended′ r g e) .1)
+unfolding afterAll
+end-after h chunk at G k = rw (end-reads h chunk at k)
 
 pub none-after : {h : Held} {chunk : List ℕ} {from : ℕ} (r : Next) (G : Tables) → Goes h chunk from r → r .ended ≡ false → afterFrom (heldBy (r .lines)) chunk (length chunk) G ≡ afterFrom h chunk from G
-unfolding afterAll
-none-after {h} {chunk} {from} r G g e = end-after (heldBy (r .lines)) chunk (length chunk) G (omega arith) ∙ sym (ap (λ (ps : List Parsed). afterAll ps G) (gather-left (drop from chunk) h (heldBy (r .lines)) (unended′ r g e) .0))
+none-after r G g e = ap (λ (ps : List Parsed). afterAll ps G) (none-reads r g e)

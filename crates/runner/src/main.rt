@@ -31,16 +31,7 @@ const ANSWER: usize = 84;
 fn call(command: Command, txns: &mut [u64], locks: &mut [u64], versions: &mut [u64]) -> Answer
     ensures { λ r. ⌜ outcome r (now (txns .exit)) (now (locks .exit)) (now (versions .exit)) ≡ step base (callOf command) (tables (now (txns .entry)) (now (locks .entry)) (now (versions .entry))) ⌝ }
 {
-    match command {
-        Command::Update => keeper::begin_update(txns, locks, versions),
-        Command::Query => keeper::begin_query(txns, locks, versions),
-        Command::Read(number, item) => keeper::read(txns, locks, versions, number, item),
-        Command::Write(number, item, value) => {
-            keeper::write(txns, locks, versions, number, item, value)
-        }
-        Command::Commit(number) => keeper::commit(txns, locks, versions, number),
-        Command::Abort(number) => keeper::abort(txns, locks, versions, number),
-    }
+    calls::make(script::fields(command), txns, locks, versions)
 }
 
 // A line's answer, written behind `used` bytes of the output; how many are used then.

@@ -7,5 +7,6 @@ pub mod Written
 pub mod RoundTrip
 pub mod Holding
 pub mod Chunks
+pub mod Turns
 pub mod Cutting
 pub mod Examples

@@ -4,6 +4,7 @@
 // lines has a `requires`: every line, of any bytes and any length, has its answer.
 mod answers;
 mod calls;
+mod commands;
 mod input;
 mod numbers;
 mod words;
@@ -15,5 +16,6 @@ pub use answers::put;
 pub use calls::Command;
 pub use calls::Parsed;
 pub use calls::parse;
+pub use commands::fields;
 pub use input::Lines;
 pub use input::Next;

@@ -1,6 +1,7 @@
-//! Holds the twin against another runner on random scripts, and against another
-//! program on tables set beforehand. Exit status 0: no difference; 1: a
-//! difference; 2: it could not be tried.
+//! Holds the twin against another runner on random scripts, against another
+//! program on tables set beforehand, and against others that write and judge
+//! journals. Exit status 0: no difference; 1: a difference; 2: it could not be
+//! tried.
 
 use std::io::{stdout, Write};
 use std::process::exit;
@@ -13,8 +14,10 @@ use twin::fuzz::{run, Ending, Options};
 const USAGE: &str = "\
 usage: fuzz [--runner PATH [--runner-arg WORD]...]
             [--tables PATH [--tables-arg WORD]...]
+            [--record PATH [--record-arg WORD]...]
+            [--verdict PATH [--verdict-arg WORD]...]
             [--seed N] [--first-round N] (--seconds N | --rounds N)
-at least one of --runner and --tables, and --seconds or --rounds, are needed";
+at least one program, and --seconds or --rounds, are needed";
 
 fn main() {
     let options = match parse(std::env::args().skip(1)) {
@@ -35,12 +38,13 @@ fn main() {
         }
     };
     let summary = format!(
-        "seed {}, {} rounds, {} lines, {} calls, {} cases, {:.1} seconds",
+        "seed {}, {} rounds, {} lines, {} calls, {} cases, {} journals, {:.1} seconds",
         options.seed,
         stats.rounds,
         stats.lines,
         stats.calls,
         stats.cases,
+        stats.journals.judged(),
         begin.elapsed().as_secs_f64()
     );
     // Nobody may be left to read it; the status stays the same.
@@ -60,8 +64,12 @@ fn parse(mut words: impl Iterator<Item = String>) -> Result<Options, String> {
         match &word[..] {
             "--runner" => options.runner = Some(program(value)),
             "--tables" => options.tables = Some(program(value)),
+            "--record" => options.record = Some(program(value)),
+            "--verdict" => options.verdict = Some(program(value)),
             "--runner-arg" => add_argument(&mut options.runner, &word, value)?,
             "--tables-arg" => add_argument(&mut options.tables, &word, value)?,
+            "--record-arg" => add_argument(&mut options.record, &word, value)?,
+            "--verdict-arg" => add_argument(&mut options.verdict, &word, value)?,
             "--seed" => options.seed = number(&word, &value)?,
             "--first-round" => options.first_round = number(&word, &value)?,
             "--seconds" => options.seconds = Some(number(&word, &value)?),
@@ -69,7 +77,13 @@ fn parse(mut words: impl Iterator<Item = String>) -> Result<Options, String> {
             _ => return Err(format!("what is {}?", word)),
         }
     }
-    if options.runner.is_none() && options.tables.is_none() {
+    let programs = [
+        &options.runner,
+        &options.tables,
+        &options.record,
+        &options.verdict,
+    ];
+    if programs.iter().all(|program| program.is_none()) {
         return Err("no program to compare with".to_string());
     }
     if options.seconds.is_none() && options.rounds.is_none() {

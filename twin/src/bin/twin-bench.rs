@@ -39,13 +39,7 @@ fn full() -> Keeper {
         granted(&mut keeper, Call::Query);
         let number = granted(&mut keeper, Call::Update).number;
         for item in 0..ITEMS as u64 {
-            let value = stamp;
-            let call = Call::Write {
-                number,
-                item,
-                value,
-            };
-            granted(&mut keeper, call);
+            write(&mut keeper, number, item, stamp);
         }
         granted(&mut keeper, Call::Commit { number });
     }
@@ -72,13 +66,7 @@ fn measure(start: &Keeper, spend: Duration) {
         let item = item(turn);
         let number = granted(&mut keeper, Call::Update).number;
         granted(&mut keeper, Call::Read { number, item });
-        let value = turn;
-        let call = Call::Write {
-            number,
-            item,
-            value,
-        };
-        granted(&mut keeper, call);
+        write(&mut keeper, number, item, turn);
         granted(&mut keeper, Call::Commit { number });
     });
 
@@ -124,4 +112,13 @@ fn granted(keeper: &mut Keeper, call: Call) -> Answer {
     let answer = keeper.call(call);
     assert_eq!(answer.code, code::GRANTED, "{:?}", call);
     answer
+}
+
+fn write(keeper: &mut Keeper, number: u64, item: u64, value: u64) {
+    let call = Call::Write {
+        number,
+        item,
+        value,
+    };
+    granted(keeper, call);
 }

@@ -1,9 +1,10 @@
-//! The fuzzer: the twin against another runner, and against another program for
-//! tables set beforehand.
+//! The fuzzer: the twin against another runner, against another program for
+//! tables set beforehand, and against programs that write and judge journals.
 
 pub mod cases;
 pub mod damage;
 pub mod director;
+pub mod journals;
 pub mod made;
 pub mod moods;
 pub mod odd_cases;
@@ -25,6 +26,8 @@ use crate::rng::Rng;
 pub struct Options {
     pub runner: Option<Program>,
     pub tables: Option<Program>,
+    pub record: Option<Program>,
+    pub verdict: Option<Program>,
     pub seed: u64,
     pub first_round: u64,
     pub rounds: Option<u64>,
@@ -64,11 +67,12 @@ pub fn run(options: &Options, stats: &mut Stats) -> Result<Ending, String> {
         if told.elapsed() >= Duration::from_secs(5) {
             told = Instant::now();
             eprintln!(
-                "fuzz: {} s, {} rounds, {} lines, {} cases, no difference",
+                "fuzz: {} s, {} rounds, {} lines, {} cases, {} journals, no difference",
                 begin.elapsed().as_secs(),
                 stats.rounds,
                 stats.lines,
-                stats.cases
+                stats.cases,
+                stats.journals.judged()
             );
         }
     }
@@ -87,8 +91,15 @@ fn one_round(options: &Options, round: u64, stats: &mut Stats) -> Result<Option<
             return Ok(Some(scripts::report(runner, &script.input, &run)));
         }
     }
-    match &options.tables {
-        Some(tables) => cases::round(&mut rng, &script.samples, tables, stats),
-        None => Ok(None),
+    if let Some(tables) = &options.tables {
+        let difference = cases::round(&mut rng, &script.samples, tables, stats)?;
+        if difference.is_some() {
+            return Ok(difference);
+        }
     }
+    let (record, verdict) = (options.record.as_ref(), options.verdict.as_ref());
+    if record.is_some() || verdict.is_some() {
+        return journals::round(&mut rng, &script.input, record, verdict, stats);
+    }
+    Ok(None)
 }

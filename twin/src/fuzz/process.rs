@@ -25,6 +25,13 @@ pub struct Run {
 const LIMIT: Duration = Duration::from_secs(120);
 
 impl Program {
+    /// The same with one more argument.
+    pub fn with(&self, argument: &str) -> Program {
+        let mut program = self.clone();
+        program.arguments.push(argument.to_string());
+        program
+    }
+
     /// Runs the program on an input. Both pipes are served by threads of their
     /// own, so neither side ever waits for the other. An error means that the
     /// program cannot be started.

@@ -3,7 +3,7 @@
 use std::fmt;
 
 use super::scene::{Held, Scene, Txn};
-use super::{damage, odd_cases, spoil};
+use super::{damage, journals, odd_cases, spoil};
 use crate::answer::{code, Answer};
 use crate::clauses::Clause;
 use crate::keeper::{Call, Keeper};
@@ -124,6 +124,7 @@ pub struct Stats {
     pub damages: [(u64, u64); damage::KINDS.len()],
     /// For each clause: in how many cases broken, and broken alone.
     pub clauses: [(u64, u64); Clause::ALL.len()],
+    pub journals: journals::Counts,
     waited_value: [u64; SLOTS],
 }
 
@@ -146,6 +147,7 @@ impl Stats {
             odd_cases: [(0, 0); odd_cases::KINDS.len()],
             damages: [(0, 0); damage::KINDS.len()],
             clauses: [(0, 0); Clause::ALL.len()],
+            journals: journals::Counts::default(),
             waited_value: [0; SLOTS],
         }
     }
@@ -290,7 +292,7 @@ impl fmt::Display for Stats {
         if self.cases > 0 {
             self.show_cases(out)?;
         }
-        Ok(())
+        write!(out, "{}", self.journals)
     }
 }
 

@@ -4,10 +4,12 @@
 //! calls without the test of the tables and goes wrong around them.
 
 mod calls;
+mod judges;
 mod lines;
 mod tables;
 
 pub use calls::{WrongCall, WrongKeeper};
+pub use judges::WrongJudge;
 pub use lines::{run, WrongLine};
 pub use tables::WrongTables;
 

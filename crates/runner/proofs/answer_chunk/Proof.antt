@@ -7,7 +7,8 @@ use lib.Seq.{length-take-le}
 use borrow.Author.Needs.{needs}
 use Rattle.rules.specs.Tables.{Tables, tables}
 use Rattle.script.specs.Lines.{heldBy}
-use Rattle.runner.proofs.Replied.{leftFrom, afterFrom, line-left, line-after, none-left, none-after, end-left, end-after}
+use Rattle.script.proofs.Turns.{leftFrom, line-left, none-left, end-left}
+use Rattle.runner.proofs.Replied.{afterFrom, line-after, none-after, end-after}
 use Rattle.runner.proofs.answer_chunk.Statement.{statement}
 use Rattle.runner.proofs.answer_chunk.Tie as tie
 

@@ -57,20 +57,20 @@ part-copy-end-3 c = search needs
 copy-requires-3 : tie.Need-copy-requires-3
 copy-requires-3 c κs = search needs
 
-shared-slice-read-call : tie.Need-shared-slice-read-call
-shared-slice-read-call c = search needs
+shared-slice-read-kind : tie.Need-shared-slice-read-kind
+shared-slice-read-kind c = search needs
 
-shared-slice-read-call-2 : tie.Need-shared-slice-read-call-2
-shared-slice-read-call-2 c = search needs
+shared-slice-read-number : tie.Need-shared-slice-read-number
+shared-slice-read-number c = search needs
 
-shared-slice-read-call-3 : tie.Need-shared-slice-read-call-3
-shared-slice-read-call-3 c = search needs
+shared-slice-read-item : tie.Need-shared-slice-read-item
+shared-slice-read-item c = search needs
 
-shared-slice-read-call-4 : tie.Need-shared-slice-read-call-4
-shared-slice-read-call-4 c = search needs
+shared-slice-read-value : tie.Need-shared-slice-read-value
+shared-slice-read-value c = search needs
 
-call-requires : tie.Need-call-requires
-call-requires c κs = search needs
+make-requires : tie.Need-make-requires
+make-requires c κs = search needs
 
 same-length : tie.Need-same-length
 same-length c = search needs
@@ -86,7 +86,7 @@ unfolding callOf
 returns c =
     let a = c .before .before .before .before .before .before .before .before .before .before .before .before .before .before .before .before .before .before .before .before .before .before .before .before .before .before .before .before .before .before .before .before .before .args in
     let f = filled (a .numbers .now) (a .txns .now) (a .locks .now) (a .versions .now) (c .before .before .before .before .before .before .before .before .before .before .before .before .before .before .before .before .before .before .before .before .before .before .before .before .before .before .before .before .before .before .before .before .before .pre) (c .before .before .before .before .before .before .before .before .before .before .before .before .before .before .before .before .before .before .before .before .before .before .before .before .before .before .copy .ensures) (c .before .before .before .before .before .before .before .before .before .before .before .before .before .before .before .before .before .before .before .before .before .copy2 .ensures) (c .before .before .before .before .before .before .before .before .before .before .before .before .before .before .before .before .copy3 .ensures) in
-    c .before .before .before .before .before .before .call .ensures ∙ ap (λ (G : Tables). step base (callOf (a .numbers .now)) G) f
+    c .before .before .before .before .before .before .make .ensures ∙ ap (λ (G : Tables). step base (callOf (a .numbers .now)) G) f
 
 pub made-spec : {M : Type 1} → statement M
 made-spec =
@@ -108,11 +108,11 @@ made-spec =
     part-copy-start-3
     part-copy-end-3
     copy-requires-3
-    shared-slice-read-call
-    shared-slice-read-call-2
-    shared-slice-read-call-3
-    shared-slice-read-call-4
-    call-requires
+    shared-slice-read-kind
+    shared-slice-read-number
+    shared-slice-read-item
+    shared-slice-read-value
+    make-requires
     same-length
     same-length-2
     same-length-3

@@ -1,5 +1,5 @@
 -- Every way that a call can go on good tables, with what is known then: one constructor for each answer and change of the tables. Each
--- theorem about runs is then a case for each way. (It belongs to the crate `rules`.) Assumes nothing.
+-- theorem about runs is then a case for each way. Assumes nothing.
 use Prim.Native.Nat.{ℕ, _+_, _<_}
 use mathlib.Core.Path.{_≡_}
 use mathlib.Core.Logic.{_≢_}

@@ -6,9 +6,9 @@ use Rattle.names.specs.Sizes.{base}
 use Rattle.rules.specs.Tables.{Tables, tables}
 use Rattle.rules.specs.Answers.{Call}
 use Rattle.rules.specs.Step.{step}
-use Rattle.given.proofs.Cased.{by-update, by-query, by-read, by-write, by-commit, by-abort}
-use Rattle.given.proofs.cases.call.Statement.{statement}
-use Rattle.given.proofs.cases.call.Tie as tie
+use Rattle.kinds.proofs.Words.{says-update, says-query, says-read, says-write, says-commit, says-abort}
+use Rattle.calls.proofs.make.Statement.{statement}
+use Rattle.calls.proofs.make.Tie as tie
 
 begin-update-requires : tie.Need-begin-update-requires
 begin-update-requires c κs = search needs
@@ -41,7 +41,7 @@ returns : tie.Need-returns
 returns c =
     let a = c .before .before .before .before .before .before .before .before .before .before .before .before .before .before .args in
     let G : Tables = tables (a .txns .now) (a .locks .now) (a .versions .now) in
-    c .before .before .before .before .before .before .begin-update .ensures ∙ ap (λ (m : Call). step base m G) (sym (by-update (a .kind) (a .number) (a .item) (a .value) (c .before .before .before .before .before .before .before .before .before .before .match .keys1)))
+    c .before .before .before .before .before .before .begin-update .ensures ∙ ap (λ (m : Call). step base m G) (sym (says-update (a .fields) (c .before .before .before .before .before .before .before .before .before .before .match .keys1)))
 
 same-length-4 : tie.Need-same-length-4
 same-length-4 c = search needs
@@ -56,7 +56,7 @@ returns-2 : tie.Need-returns-2
 returns-2 c =
     let a = c .before .before .before .before .before .before .before .before .before .before .before .before .before .before .args in
     let G : Tables = tables (a .txns .now) (a .locks .now) (a .versions .now) in
-    c .before .before .before .before .before .before .begin-query .ensures ∙ ap (λ (m : Call). step base m G) (sym (by-query (a .kind) (a .number) (a .item) (a .value) (c .before .before .before .before .before .before .before .before .before .before .match .keys2)))
+    c .before .before .before .before .before .before .begin-query .ensures ∙ ap (λ (m : Call). step base m G) (sym (says-query (a .fields) (c .before .before .before .before .before .before .before .before .before .before .match .keys2)))
 
 same-length-7 : tie.Need-same-length-7
 same-length-7 c = search needs
@@ -71,7 +71,7 @@ returns-3 : tie.Need-returns-3
 returns-3 c =
     let a = c .before .before .before .before .before .before .before .before .before .before .before .before .before .before .args in
     let G : Tables = tables (a .txns .now) (a .locks .now) (a .versions .now) in
-    c .before .before .before .before .before .before .read .ensures ∙ ap (λ (m : Call). step base m G) (sym (by-read (a .kind) (a .number) (a .item) (a .value) (c .before .before .before .before .before .before .before .before .before .before .match .keys3)))
+    c .before .before .before .before .before .before .read .ensures ∙ ap (λ (m : Call). step base m G) (sym (says-read (a .fields) (c .before .before .before .before .before .before .before .before .before .before .match .keys3)))
 
 same-length-10 : tie.Need-same-length-10
 same-length-10 c = search needs
@@ -86,7 +86,7 @@ returns-4 : tie.Need-returns-4
 returns-4 c =
     let a = c .before .before .before .before .before .before .before .before .before .before .before .before .before .before .args in
     let G : Tables = tables (a .txns .now) (a .locks .now) (a .versions .now) in
-    c .before .before .before .before .before .before .write .ensures ∙ ap (λ (m : Call). step base m G) (sym (by-write (a .kind) (a .number) (a .item) (a .value) (c .before .before .before .before .before .before .before .before .before .before .match .keys4)))
+    c .before .before .before .before .before .before .write .ensures ∙ ap (λ (m : Call). step base m G) (sym (says-write (a .fields) (c .before .before .before .before .before .before .before .before .before .before .match .keys4)))
 
 same-length-13 : tie.Need-same-length-13
 same-length-13 c = search needs
@@ -101,7 +101,7 @@ returns-5 : tie.Need-returns-5
 returns-5 c =
     let a = c .before .before .before .before .before .before .before .before .before .before .before .before .before .before .args in
     let G : Tables = tables (a .txns .now) (a .locks .now) (a .versions .now) in
-    c .before .before .before .before .before .before .commit .ensures ∙ ap (λ (m : Call). step base m G) (sym (by-commit (a .kind) (a .number) (a .item) (a .value) (c .before .before .before .before .before .before .before .before .before .before .match .keys5)))
+    c .before .before .before .before .before .before .commit .ensures ∙ ap (λ (m : Call). step base m G) (sym (says-commit (a .fields) (c .before .before .before .before .before .before .before .before .before .before .match .keys5)))
 
 same-length-16 : tie.Need-same-length-16
 same-length-16 c = search needs
@@ -116,10 +116,10 @@ returns-6 : tie.Need-returns-6
 returns-6 c =
     let a = c .before .before .before .before .before .before .before .before .before .before .before .before .before .before .args in
     let G : Tables = tables (a .txns .now) (a .locks .now) (a .versions .now) in
-    c .before .before .before .before .before .before .abort .ensures ∙ ap (λ (m : Call). step base m G) (sym (by-abort (a .kind) (a .number) (a .item) (a .value) (λ e. omega arith) (λ e. omega arith) (λ e. omega arith) (λ e. omega arith) (λ e. omega arith)))
+    c .before .before .before .before .before .before .abort .ensures ∙ ap (λ (m : Call). step base m G) (sym (says-abort (a .fields) (λ e. omega arith) (λ e. omega arith) (λ e. omega arith) (λ e. omega arith) (λ e. omega arith)))
 
-pub call-spec : {M : Type 1} → statement M
-call-spec =
+pub make-spec : {M : Type 1} → statement M
+make-spec =
     tie.close
     (tie.spec
     begin-update-requires

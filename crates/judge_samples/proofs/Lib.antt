@@ -1,0 +1,2 @@
+-- What the definition of a verdict says of small files.
+pub mod Samples

@@ -1,0 +1,2 @@
+-- Small files and the verdict on each.
+pub mod Samples

@@ -1,0 +1,3 @@
+-- What is recorded of a script.
+pub mod Records
+pub mod Files

@@ -1,0 +1,183 @@
+-- Numbers stay within a bound: where the values of writes are at most B, so are the values in the tables and every number of an
+-- answer. With the greatest word for B: what the keeper answers can be written in words. Assumes nothing.
+use Prim.Native.Nat.{ℕ, zero, suc, _+_, _*_, _≤_, _<_}
+use mathlib.Core.Path.{sym, ap, _∙_, subst}
+use mathlib.Core.Logic.{_⊎_, ⊎-elim}
+use mathlib.Core.Bool.{true, _||_}
+use mathlib.Core.List.{List, [], _∷_}
+use native.Mathlib.Omega.{arith}
+use lib.Dec.{T, eqb}
+use lib.ListN.{getD}
+use Rattle.names.specs.declared.Sizes.{Sizes}
+use Rattle.names.specs.declared.Answer.{Answer}
+use Rattle.names.specs.Sizes.{lastWord}
+use Rattle.rules.specs.Words.{row}
+use Rattle.rules.specs.Tables.{Tables, lastNumber, clock, txn, liveUpdate, Lock, lockRow, lockWords, lock, setLock, holdsExclusive, released, release, starts, versionRow, fresh}
+use Rattle.rules.specs.Versions.{Version, noVersion, pairs, versionsIn, versionsOf, newest, place, choice, readBySome, keptFrom, kept}
+use Rattle.rules.specs.Good.{Good}
+use Rattle.rules.specs.Tested.{good}
+use Rattle.rules.specs.Answers.{Call, beginUpdate, beginQuery, read, write, commit, abort, Outcome, Refusal, code}
+use Rattle.rules.specs.Answers.{wait}
+use Rattle.rules.specs.Step.{locked, replaced, sharedToo, taken, withNew, committed, ended, aborted, begun, queryRead, act, step}
+use Rattle.rules.proofs.Tests.{is-true, same?}
+use Rattle.rules.proofs.Choice.{length-versionsIn, place-le}
+use Rattle.rules.proofs.Views.{lock-setLock, lock-setLock-other, lock-release}
+use Rattle.rules.proofs.Equal.{Good→good}
+use Rattle.rules.proofs.Steps.{step-good, cond-case}
+use Rattle.rules.proofs.Fresh.{zeros, fresh-row, fresh-row-zero}
+use Rattle.rules.proofs.ChangedVersions.{ended-versions, committed-versions}
+use Rattle.rules.proofs.Ways.{Way, way, refused, waited, beganUpdate, beganQuery, readOwn, readNewest, readShared, readQuery}
+use Rattle.rules.proofs.Ways.{wroteOwn, wroteTaken, committedUpdate, committedQuery, abortedUpdate, abortedQuery}
+
+-- the value of a write, if it is one, is at most B
+unfoldable pub Asks : ℕ → Call → Type 0
+Asks B (write n x v) = v ≤ B
+Asks B beginUpdate = T true
+Asks B beginQuery = T true
+Asks B (read n x) = T true
+Asks B (commit n) = T true
+Asks B (abort n) = T true
+
+pub record Within (B : ℕ) (a : Answer) : Type 0 where
+  pub code : a .code ≤ B
+  pub value : a .value ≤ B
+  pub number : a .number ≤ B
+  pub looked : a .looked ≤ B
+
+-- the values of versions
+pub data Values (B : ℕ) : List Version → Type 0 where
+  none : Values B []
+  more : {w : Version} {ws : List Version} → w .value ≤ B → Values B ws → Values B (w ∷ ws)
+
+pub record Bounded (B : ℕ) (S : Sizes) (G : Tables) : Type 0 where
+  pub working : (x : ℕ) → x < S .items → (lock (G .locks) x) .working ≤ B
+  pub values : (x : ℕ) → x < S .items → Values B (versionsOf S (G .versions) x)
+
+module _ (B : ℕ) where
+  -- ---- versions
+  value-at : (vs : List Version) → Values B vs → (k : ℕ) → (getD vs k noVersion) .value ≤ B
+  value-at [] none k = omega arith
+  value-at (w ∷ ws) (more h r) zero = h
+  value-at (w ∷ ws) (more h r) (suc k) = value-at ws r k
+
+  keptFrom-values : (qs : List ℕ) (vs : List Version) (k : ℕ) (ws : List Version) → Values B ws → Values B (keptFrom qs vs k ws)
+  unfolding keptFrom
+  keptFrom-values qs vs k [] none = none
+  keptFrom-values qs vs k (w ∷ ws) (more h r) =
+      cond-case (Values B) (eqb k 0 || readBySome qs vs k) _ _
+      (λ e. more h (keptFrom-values qs vs (suc k) ws r)) (λ e. keptFrom-values qs vs (suc k) ws r)
+
+  kept-values : (qs : List ℕ) (vs : List Version) → Values B vs → Values B (kept qs vs)
+  unfolding kept
+  kept-values qs vs b = keptFrom-values qs vs 0 vs b
+
+  new-values : (l : List ℕ) (s c x : ℕ) (vs : List Version) → (lock l x) .working ≤ B → Values B vs → Values B (withNew l s c x vs)
+  unfolding withNew
+  new-values l s c x vs h b = cond-case (Values B) (holdsExclusive (lock l x) s) _ _ (λ e. more h b) (λ e. b)
+
+  -- ---- locks
+  released-working : (s : ℕ) (h : Lock) → h .working ≤ B → (released s h) .working ≤ B
+  unfolding released
+  released-working s h b = cond-case (λ (k : Lock). k .working ≤ B) (holdsExclusive h s) _ _ (λ e. omega arith) (λ e. b)
+
+  module _ (S : Sizes) (G : Tables) (g : Good S G) (b : Bounded B S G) where
+    locked-bounded : (s x : ℕ) → x < S .items → (h : Lock) → h .working ≤ B → Bounded B S (locked s x h G)
+    unfolding locked
+    locked-bounded s x i h w =
+        record {
+          working = λ y j. ⊎-elim
+              (λ e. subst (λ (k : Lock). k .working ≤ B) (sym (ap (λ (m : ℕ). lock (setLock (G .locks) x h) m) e ∙ lock-setLock (G .locks) x h S (g .locksExact) i)) w)
+              (λ d. subst (λ (k : Lock). k .working ≤ B) (sym (lock-setLock-other (G .locks) x h y d)) (b .working y j))
+              (same? y x);
+          values = b .values;
+        }
+
+    released-all : (s x : ℕ) → x < S .items → (lock (release S s (G .locks)) x) .working ≤ B
+    released-all s x i =
+        subst (λ (k : Lock). k .working ≤ B) (sym (lock-release S s (G .locks) (g .locksExact) x i)) (released-working s (lock (G .locks) x) (b .working x i))
+
+    aborted-bounded : (s : ℕ) → Bounded B S (aborted S s G)
+    unfolding aborted
+    aborted-bounded s = record { working = released-all s; values = b .values }
+
+    module _ (enough : S .slots ≤ S .places) where
+      ended-bounded : (s : ℕ) → s < S .slots → Bounded B S (ended S s G)
+      ended-bounded s i =
+          record {
+            working = unfold ended in (b .working);
+            values = λ x j. subst (Values B) (sym (ended-versions S G g enough s i x j)) (kept-values (starts S ((ended S s G) .txns)) (versionsOf S (G .versions) x) (b .values x j));
+          }
+
+      committed-bounded : (s : ℕ) → s < S .slots → T (liveUpdate (txn (G .txns) s)) → Bounded B S (committed S s G)
+      committed-bounded s i u =
+          record {
+            working = unfold committed in (released-all s);
+            values = λ x j.
+                subst (Values B) (sym (committed-versions S G g enough s i u x j))
+                (kept-values (starts S (G .txns)) (withNew (G .locks) s (clock (G .txns) + 1) x (versionsOf S (G .versions) x))
+                (new-values (G .locks) s (clock (G .txns) + 1) x (versionsOf S (G .versions) x) (b .working x j) (b .values x j)));
+          }
+
+      -- ---- each way that a call can go
+      module _ (words : lastWord + 1 ≤ B) (places : S .places + 1 ≤ B) where
+        abbrev Both : Outcome → Type 0
+        Both o = Within B (o .answer) × Bounded B S (o .after)
+
+        bare : (n : ℕ) → n ≤ lastWord + 1 → Within B (record { code = 0; value = 0; number = n; looked = 0 })
+        bare n h = record { code = omega arith; value = omega arith; number = omega arith; looked = omega arith }
+
+        found : (n k : ℕ) → n ≤ B → k ≤ B → Within B (record { code = 0; value = n; number = 0; looked = k })
+        found n k h m = record { code = omega arith; value = h; number = omega arith; looked = m }
+
+        no : (r : Refusal) → code r ≤ 10 → Within B (record { code = code r; value = 0; number = 0; looked = 0 })
+        no r h = record { code = omega arith; value = omega arith; number = omega arith; looked = omega arith }
+
+        newest-bound : (x : ℕ) → x < S .items → newest S (G .versions) x ≤ B
+        unfolding newest
+        newest-bound x i = value-at (versionsOf S (G .versions) x) (b .values x i) 0
+
+        place-bound : (q x : ℕ) → x < S .items → suc (place q (versionsOf S (G .versions) x)) ≤ B
+        unfolding versionsOf
+        place-bound q x i =
+            let r = row (versionRow S) x (G .versions) in
+            let m = g .versionsGood x i .countMost in
+            let e = length-versionsIn r in
+            let p = place-le q (versionsIn r) in
+            omega arith
+
+        way-bounded : (c : Call) (o : Outcome) → Asks B c → Way S G c o → Both o
+        unfolding queryRead choice begun Asks
+        way-bounded c o a (refused r l) = (no r (omega arith), b)
+        way-bounded c o a (waited s k x i u) = (no wait (omega arith), record { working = b .working; values = b .values })
+        way-bounded c o a (beganUpdate s free) = (bare (lastNumber (G .txns) + 1) (let m = g .lastMost in omega arith), record { working = b .working; values = b .values })
+        way-bounded c o a (beganQuery s free) = (bare (lastNumber (G .txns) + 1) (let m = g .lastMost in omega arith), record { working = b .working; values = b .values })
+        way-bounded c o a (readOwn n s x u h) = (found _ 0 (b .working x (u .known)) (omega arith), record { working = b .working; values = b .values })
+        way-bounded c o a (readNewest n s x u h) = (found _ 1 (newest-bound x (u .known)) (omega arith), record { working = b .working; values = b .values })
+        way-bounded c o a (readShared n s x u h) =
+            (found _ 1 (newest-bound x (u .known)) (omega arith), locked-bounded s x (u .known) (sharedToo (lock (G .locks) x) s) (b .working x (u .known)))
+        way-bounded c o a (readQuery n s x d q i) =
+            let start = (txn (G .txns) s) .start in
+            let vs = versionsOf S (G .versions) x in
+            (found _ _ (value-at vs (b .values x i) (place start vs)) (place-bound start x i), b)
+        way-bounded c o a (wroteOwn n s x v u h) = (bare 0 (omega arith), locked-bounded s x (u .known) (replaced (lock (G .locks) x) v) a)
+        way-bounded c o a (wroteTaken n s x v u h) = (bare 0 (omega arith), locked-bounded s x (u .known) (taken (lock (G .locks) x) s v) a)
+        way-bounded c o a (committedUpdate n s d u) = (bare (clock (G .txns) + 1) (let m = g .clockMost in omega arith), committed-bounded s (d .inside) u)
+        way-bounded c o a (committedQuery n s d q) = (bare 0 (omega arith), ended-bounded s (d .inside))
+        way-bounded c o a (abortedUpdate n s d u) = (bare 0 (omega arith), aborted-bounded s)
+        way-bounded c o a (abortedQuery n s d q) = (bare 0 (omega arith), ended-bounded s (d .inside))
+
+        -- a call whose value is within the bound is answered so, and leaves the tables so
+        pub step-bounded : (c : Call) → Asks B c → Both (step S c G)
+        step-bounded c a =
+            subst Both (sym (step-good S c G (is-true (good S G) (Good→good S G g)))) (way-bounded c (act S c G) a (way S G g c))
+
+-- fresh tables hold zeros
+pub fresh-bounded : (B : ℕ) (S : Sizes) → Bounded B S (fresh S)
+unfolding fresh lock versionsOf versionsIn pairs
+fresh-bounded B S =
+    record {
+      working = λ x i. let z = zeros (lockWords S) (lockRow * x + 2) in omega arith;
+      values = λ x i.
+          subst (λ (r : List ℕ). Values B (versionsIn r)) (sym (fresh-row S x i))
+          (more (let z = fresh-row-zero S x 1 in omega arith) none);
+    }

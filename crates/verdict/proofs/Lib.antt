@@ -1,0 +1,2 @@
+-- The line of each verdict.
+pub mod Said
