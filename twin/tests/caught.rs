@@ -61,24 +61,26 @@ fn wrong_runners_are_caught() {
     }
 }
 
-#[test]
-fn wrong_tables_are_caught() {
-    for kind in WrongTables::names() {
+/// Every program that is wrong in one of these ways is caught, and said to be so.
+fn all_caught(program: [&str; 3], kinds: Vec<&str>, said: &str) {
+    for kind in kinds {
         let begin = Instant::now();
-        let report = report_of(["--tables", TABLES, "--tables-arg"], kind);
-        assert!(report.contains("smallest case found"), "{}", kind);
+        let report = report_of(program, kind);
+        assert!(report.contains(said), "{}", kind);
         println!("{}: {:?}", kind, begin.elapsed());
     }
 }
 
 #[test]
+fn wrong_tables_are_caught() {
+    let program = ["--tables", TABLES, "--tables-arg"];
+    all_caught(program, WrongTables::names(), "smallest case found");
+}
+
+#[test]
 fn wrong_judges_are_caught() {
-    for kind in WrongJudge::names() {
-        let begin = Instant::now();
-        let report = report_of(["--verdict", VERDICT, "--verdict-arg"], kind);
-        assert!(report.contains("the twin says "), "{}", kind);
-        println!("{}: {:?}", kind, begin.elapsed());
-    }
+    let program = ["--verdict", VERDICT, "--verdict-arg"];
+    all_caught(program, WrongJudge::names(), "the twin says ");
 }
 
 #[test]

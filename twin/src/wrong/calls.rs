@@ -45,11 +45,6 @@ impl WrongCall {
         ("number-again", WrongCall::NumberAgain),
         ("first-value", WrongCall::FirstValue),
     ];
-
-    pub fn named(name: &str) -> Option<WrongCall> {
-        let mut all = WrongCall::ALL.iter();
-        all.find(|(known, _)| *known == name).map(|(_, kind)| *kind)
-    }
 }
 
 /// A keeper of fresh tables with one wrong rule.

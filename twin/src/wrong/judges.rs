@@ -37,12 +37,11 @@ impl WrongJudge {
     ];
 
     pub fn named(name: &str) -> Option<WrongJudge> {
-        let mut all = WrongJudge::ALL.iter();
-        all.find(|(known, _)| *known == name).map(|(_, kind)| *kind)
+        super::named(&WrongJudge::ALL, name)
     }
 
     pub fn names() -> Vec<&'static str> {
-        WrongJudge::ALL.iter().map(|(name, _)| *name).collect()
+        super::names(&WrongJudge::ALL)
     }
 
     pub fn judge(self, bytes: &[u8]) -> Verdict {

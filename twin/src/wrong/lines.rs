@@ -54,11 +54,6 @@ impl WrongLine {
         ("last-line", WrongLine::LastLine),
     ];
 
-    pub fn named(name: &str) -> Option<WrongLine> {
-        let mut all = WrongLine::ALL.iter();
-        all.find(|(known, _)| *known == name).map(|(_, kind)| *kind)
-    }
-
     /// The lines that the right reading is given in place of this one.
     fn reread(self, line: &[u8]) -> Vec<Vec<u8>> {
         let other = |keep: bool| if keep { line.to_vec() } else { b"no".to_vec() };

@@ -18,6 +18,17 @@ use std::io::{self, BufRead, Write};
 use crate::keeper::Keeper;
 use crate::script;
 
+/// The one of this name.
+fn named<T: Copy>(all: &[(&'static str, T)], name: &str) -> Option<T> {
+    let known = all.iter().find(|(known, _)| *known == name);
+    known.map(|(_, kind)| *kind)
+}
+
+/// All names.
+fn names<T>(all: &[(&'static str, T)]) -> Vec<&'static str> {
+    all.iter().map(|(name, _)| *name).collect()
+}
+
 /// A way for a runner to be wrong.
 #[derive(Clone, Copy, Debug, PartialEq, Eq)]
 pub enum WrongRunner {
@@ -27,15 +38,13 @@ pub enum WrongRunner {
 
 impl WrongRunner {
     pub fn named(name: &str) -> Option<WrongRunner> {
-        WrongCall::named(name)
+        named(&WrongCall::ALL, name)
             .map(WrongRunner::Call)
-            .or_else(|| WrongLine::named(name).map(WrongRunner::Line))
+            .or_else(|| named(&WrongLine::ALL, name).map(WrongRunner::Line))
     }
 
     pub fn names() -> Vec<&'static str> {
-        let calls = WrongCall::ALL.iter().map(|(name, _)| *name);
-        let lines = WrongLine::ALL.iter().map(|(name, _)| *name);
-        calls.chain(lines).collect()
+        [names(&WrongCall::ALL), names(&WrongLine::ALL)].concat()
     }
 
     /// Runs a script wrongly.

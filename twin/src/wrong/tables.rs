@@ -30,16 +30,13 @@ impl WrongTables {
     ];
 
     pub fn named(name: &str) -> Option<WrongTables> {
-        let mut others = WrongTables::OTHERS.iter();
-        let other = others.find(|(known, _)| *known == name);
-        other
-            .map(|(_, kind)| *kind)
+        super::named(&WrongTables::OTHERS, name)
             .or_else(|| Clause::named(name).map(WrongTables::Blind))
     }
 
     pub fn names() -> Vec<&'static str> {
         let clauses = Clause::ALL.iter().map(|clause| clause.name());
-        let others = WrongTables::OTHERS.iter().map(|(name, _)| *name);
+        let others = super::names(&WrongTables::OTHERS);
         clauses.chain(others).collect()
     }
 

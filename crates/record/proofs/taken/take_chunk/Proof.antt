@@ -53,7 +53,7 @@ loop-again c =
     let said = c .before .before .before .before .before .parsed .ensures in
     let w = c .before .before .before .take-line .ensures in
     let room : used + recordSize * (length (c .before .before .before .before .before .before .before .before .before .before .before .before .before .args .chunk .now) - c .before .before .before .before .before .before .before .before .before .before .loop .at) ≤ length out = omega (arith, i .0, i .1, i .2, pre) in
-    (o .1, omega (arith, i .1, o .0, take-next (next .result) none g e said out used w room), c .before .before .out .given ∙ i .2, line-left (next .result) none g e ∙ i .3, take-turn (next .result) none g e said out used w room ∙ i .4)
+    (omega (arith, o .1), omega (arith, i .1, o .0, o .1, take-next (next .result) none g e said out used w room), c .before .before .out .given ∙ i .2, line-left (next .result) none g e ∙ i .3, take-turn (next .result) none g e said out used w room ∙ i .4)
 
 loop-less-2 : tie.Need-loop-less-2 Inv-loop μ-loop
 loop-less-2 c = omega arith
