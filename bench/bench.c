@@ -2,7 +2,8 @@
  *
  * An abort of transaction 0 pays the test of all tables alone; every other call pays it too. Each
  * call is timed on fresh tables, and on full ones: 15 live queries, and an item row with 16
- * versions for each item that was written between their begins (all 64). */
+ * versions for each item that was written between their begins (all 64). Then the test and a write
+ * are timed where two updates hold 32 items each. */
 #define _POSIX_C_SOURCE 199309L
 #include "keeper.h"
 
@@ -35,15 +36,22 @@ static struct keeper_answer granted(struct keeper_answer a)
     return a;
 }
 
-/* 15 queries, one at each stamp from 0 to 14, and an update of all items after each. */
+/* An update that holds as many items as one may, from item x on, exclusively. */
+static uint64_t full_job(uint64_t x, uint64_t value)
+{
+    uint64_t n = granted(keeper_begin_update(TABLES)).number;
+    for (uint64_t end = x + KEEPER_QUOTA; x < end; x++)
+        granted(keeper_write(TABLES, n, x, value + x));
+    return n;
+}
+
+/* 15 queries, and after each begin two updates that write all items between them. */
 static void fill(void)
 {
     for (int q = 0; q < KEEPER_SLOTS - 1; q++) {
         granted(keeper_begin_query(TABLES));
-        uint64_t n = granted(keeper_begin_update(TABLES)).number;
-        for (uint64_t x = 0; x < KEEPER_ITEMS; x++)
-            granted(keeper_write(TABLES, n, x, 100 * (uint64_t)q + x));
-        granted(keeper_commit(TABLES, n));
+        for (uint64_t x = 0; x < KEEPER_ITEMS; x += KEEPER_QUOTA)
+            granted(keeper_commit(TABLES, full_job(x, 100 * (uint64_t)q)));
     }
 }
 
@@ -53,6 +61,9 @@ static const char *const names[KINDS] = {
     "abort of 0 (test of all tables)", "begin update", "read by an update",
     "write",                           "commit of one write", "read by a query",
 };
+
+/* The time of one of CALLS calls, if their sum is less than the best so far. */
+static double better(double best, double sum) { return sum / CALLS < best ? sum / CALLS : best; }
 
 /* One round times each kind once on the same tables; the update of the round is committed. */
 static void measure(const char *on, uint64_t query)
@@ -86,13 +97,45 @@ static void measure(const char *on, uint64_t query)
             sum[QUERY_READ] += t6 - t5;
         }
         for (int k = 0; k < KINDS; k++)
-            if (sum[k] / CALLS < best[k])
-                best[k] = sum[k] / CALLS;
+            best[k] = better(best[k], sum[k]);
     }
     printf("%s\n", on);
     for (int k = 0; k < KINDS; k++)
         if (k != QUERY_READ || query)
             printf("  %-34s %8.0f ns\n", names[k], best[k]);
+}
+
+/* Two updates hold all items between them; the first writes one of its own, and one of the other's. */
+static void measure_full_jobs(void)
+{
+    uint64_t n = full_job(0, 0);
+    full_job(KEEPER_QUOTA, 0);
+    double test = 1e18, again = 1e18, further = 1e18;
+    for (int run = 0; run < RUNS; run++) {
+        double sum[3] = {0};
+        for (int i = 0; i < CALLS; i++) {
+            uint64_t item = (uint64_t)i % KEEPER_QUOTA;
+            double t0 = now();
+            keeper_abort(TABLES, 0);
+            double t1 = now();
+            keeper_write(TABLES, n, item, (uint64_t)i);
+            double t2 = now();
+            uint64_t code = keeper_write(TABLES, n, item + KEEPER_QUOTA, 0).code;
+            double t3 = now();
+            if (code != KEEPER_QUOTA_SPENT)
+                exit(1);
+            sum[0] += t1 - t0;
+            sum[1] += t2 - t1;
+            sum[2] += t3 - t2;
+        }
+        test = better(test, sum[0]);
+        again = better(again, sum[1]);
+        further = better(further, sum[2]);
+    }
+    printf("two updates with %d items each\n", KEEPER_QUOTA);
+    printf("  %-34s %8.0f ns\n", names[TEST], test);
+    printf("  %-34s %8.0f ns\n", "write of an item that it holds", again);
+    printf("  %-34s %8.0f ns\n", "write of a further item, refused", further);
 }
 
 int main(void)
@@ -110,5 +153,7 @@ int main(void)
     keeper_fresh(TABLES);
     fill();
     measure("full tables: 15 live queries, 16 versions of each item", 1);
+    keeper_fresh(TABLES);
+    measure_full_jobs();
     return 0;
 }

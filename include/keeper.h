@@ -28,9 +28,11 @@
 extern "C" {
 #endif
 
-/* Items 0 to 63, live transactions at most, and the lengths of the tables in words. */
+/* Items 0 to 63, live transactions at most, items that one update may hold exclusively at most, and
+ * the lengths of the tables in words. */
 #define KEEPER_ITEMS 64
 #define KEEPER_SLOTS 16
+#define KEEPER_QUOTA 32
 #define KEEPER_TXN_WORDS 82
 #define KEEPER_LOCK_WORDS 192
 #define KEEPER_VERSION_WORDS 2112
@@ -47,7 +49,8 @@ enum keeper_code {
     KEEPER_NO_SLOT = 7,             /* 16 transactions are live */
     KEEPER_NUMBERS_SPENT = 8,       /* the last transaction number is given */
     KEEPER_CLOCK_SPENT = 9,         /* the last stamp is given */
-    KEEPER_BAD_TABLES = 10
+    KEEPER_BAD_TABLES = 10,
+    KEEPER_QUOTA_SPENT = 11         /* an update that holds 32 items exclusively writes a further one */
 };
 
 /* The four numbers of an answer; what a call does not name is 0. */
@@ -82,7 +85,7 @@ struct keeper_answer keeper_read(uint64_t *txns, size_t txns_len, uint64_t *lock
                                  uint64_t number, uint64_t item);
 
 /* Writes an item; others read the value once the update has committed. Codes 0, 1, 2, 3, 4, 5, 6,
- * 10; 1 changes the caller's awaited words alone, the others but 0 none. */
+ * 10, 11; 1 changes the caller's awaited words alone, the others but 0 none. */
 struct keeper_answer keeper_write(uint64_t *txns, size_t txns_len, uint64_t *locks,
                                   size_t locks_len, uint64_t *versions, size_t versions_len,
                                   uint64_t number, uint64_t item, uint64_t value);

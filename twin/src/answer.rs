@@ -13,9 +13,10 @@ pub mod code {
     pub const NUMBERS_SPENT: u64 = 8;
     pub const CLOCK_SPENT: u64 = 9;
     pub const BAD_TABLES: u64 = 10;
+    pub const QUOTA_SPENT: u64 = 11;
 
     /// The codes in words, by number.
-    pub const NAMES: [&str; 11] = [
+    pub const NAMES: [&str; 12] = [
         "granted",
         "wait",
         "deadlock",
@@ -27,6 +28,7 @@ pub mod code {
         "numbers spent",
         "clock spent",
         "bad tables",
+        "quota spent",
     ];
 }
 

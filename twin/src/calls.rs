@@ -87,7 +87,7 @@ pub(crate) enum Access {
 }
 
 impl Access {
-    fn wants(self) -> Lock {
+    pub(crate) fn wants(self) -> Lock {
         match self {
             Access::Read => Lock::Shared,
             Access::Write(_) => Lock::Exclusive,
@@ -146,6 +146,22 @@ impl View<'_> {
             Some(awaited) if awaited != (lock, item) => return Answer::bare(code::STILL_WAITING),
             _ => {}
         }
+        if lock == Lock::Exclusive && self.is_further(slot, item) && self.exclusives(slot) >= QUOTA
+        {
+            return Answer::bare(code::QUOTA_SPENT);
+        }
+        self.ask(slot, item, access)
+    }
+
+    /// Whether a write of this item would add to what the slot holds
+    /// exclusively; what it holds shared does.
+    pub(crate) fn is_further(&self, slot: Slot, item: Item) -> bool {
+        Holders::of(self.lock(item)).held_by(slot) != Some(Lock::Exclusive)
+    }
+
+    /// An update that may ask for this asks, and the locks decide.
+    pub(crate) fn ask(&mut self, slot: Slot, item: Item, access: Access) -> Answer {
+        let lock = access.wants();
         let holders = Holders::of(self.lock(item));
         let against = holders.against(slot, lock);
         if !against.is_empty() {

@@ -27,6 +27,8 @@ pub enum Clause {
     ExclusiveHolder,
     BothHolders,
     WorkingValue,
+    Quota,
+    FullAwaitsExclusive,
     Count,
     UnusedPairs,
     StampsFall,
@@ -37,7 +39,7 @@ pub enum Clause {
 }
 
 impl Clause {
-    pub const ALL: [Clause; 26] = [
+    pub const ALL: [Clause; 28] = [
         Clause::Sizes,
         Clause::LastNumber,
         Clause::Clock,
@@ -57,6 +59,8 @@ impl Clause {
         Clause::ExclusiveHolder,
         Clause::BothHolders,
         Clause::WorkingValue,
+        Clause::Quota,
+        Clause::FullAwaitsExclusive,
         Clause::Count,
         Clause::UnusedPairs,
         Clause::StampsFall,
@@ -88,6 +92,8 @@ impl Clause {
             Clause::ExclusiveHolder => "exclusive-holder",
             Clause::BothHolders => "both-holders",
             Clause::WorkingValue => "working-value",
+            Clause::Quota => "quota",
+            Clause::FullAwaitsExclusive => "full-awaits-exclusive",
             Clause::Count => "count",
             Clause::UnusedPairs => "unused-pairs",
             Clause::StampsFall => "stamps-fall",
@@ -178,6 +184,13 @@ impl Tables<'_> {
                 let loose = |row: &&[u64]| row[EXCLUSIVE] == 0 && row[WORKING] != 0;
                 !self.locks.iter().any(loose)
             }
+            // "Good tables show at most 32 for each update,
+            Clause::Quota => self.updates(|slot| self.exclusives(slot) <= QUOTA),
+            // and one with 32 awaits no exclusive lock."
+            Clause::FullAwaitsExclusive => self.updates(|slot| match self.awaited(slot) {
+                Some((AWAITS_EXCLUSIVE, _)) => self.exclusives(slot) != QUOTA,
+                _ => true,
+            }),
             Clause::Count => self
                 .versions
                 .iter()
@@ -228,6 +241,11 @@ impl Tables<'_> {
         })
     }
 
+    fn updates(&self, holds: impl Fn(usize) -> bool) -> bool {
+        let mut updates = (0..SLOTS).filter(|&slot| self.is_live_update(slot));
+        updates.all(holds)
+    }
+
     fn starts(&self) -> Vec<u64> {
         let queries = self
             .txns
@@ -259,6 +277,12 @@ impl Tables<'_> {
 
     fn holds_exclusive(&self, slot: usize, item: usize) -> bool {
         self.locks[item][EXCLUSIVE] == slot as u64 + 1
+    }
+
+    /// How many items a slot holds exclusively.
+    fn exclusives(&self, slot: usize) -> usize {
+        let is_held = |item: &usize| self.holds_exclusive(slot, *item);
+        (0..ITEMS).filter(is_held).count()
     }
 
     fn waits_for(&self, slot: usize, other: usize) -> bool {

@@ -1,4 +1,4 @@
-//! The exact condition of code 10: one pass over the words of each table.
+//! The exact condition of code 10: a pass or two over the words of each table.
 
 use crate::ids::{Item, Number, Slot, SlotSet, Stamp};
 use crate::row::{self, Starts};
@@ -22,6 +22,7 @@ pub(crate) fn holds(
     match Crowd::of(txns) {
         Some(crowd) => {
             locks_are_good(locks, crowd.updates)
+                && crowd.quotas_are_kept(locks)
                 && crowd.waits_are_good(locks)
                 && versions_are_good(versions, txns[CLOCK], &crowd.starts)
         }
@@ -85,6 +86,20 @@ impl Crowd {
             }
         }
         Some(crowd)
+    }
+
+    /// Nobody holds more than 32 items exclusively, and who holds 32 awaits no
+    /// exclusive lock. Whom the exclusive holders' words name is known to live.
+    fn quotas_are_kept(&self, locks: &[u64; LOCK_WORDS]) -> bool {
+        let mut held = [0; SLOTS + 1];
+        for row in locks.chunks_exact(LOCK_ROW) {
+            held[row[EXCLUSIVE] as usize] += 1;
+        }
+        Slot::all().all(|slot| {
+            let awaits_further =
+                self.waiting.contains(slot) && self.awaited[slot.index()].0 == Lock::Exclusive;
+            held[slot.as_holder() as usize] + usize::from(awaits_further) <= QUOTA
+        })
     }
 
     /// Nobody awaits what it holds, and no circle of waits exists.

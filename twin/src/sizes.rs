@@ -6,6 +6,8 @@ pub const ITEMS: usize = 64;
 pub const SLOTS: usize = 16;
 /// Versions an item may have.
 pub const PLACES: usize = 16;
+/// Items that one update may hold exclusively at most (request E2).
+pub const QUOTA: usize = 32;
 
 /// The last stamp, and the last transaction number.
 pub const LAST: u64 = 4_294_967_295;

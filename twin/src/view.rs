@@ -158,6 +158,12 @@ impl<'a> View<'a> {
         self.txn_mut(slot)[AWAITED_LOCK..].fill(0);
     }
 
+    /// How many items this slot holds exclusively.
+    pub fn exclusives(&self, slot: Slot) -> usize {
+        let is_held = |row: &&[u64]| row[EXCLUSIVE] == slot.as_holder();
+        self.locks.chunks_exact(LOCK_ROW).filter(is_held).count()
+    }
+
     /// Whom this slot waits for, read off the present holders.
     pub fn waits_for(&self, slot: Slot) -> SlotSet {
         match self.awaited(slot) {

@@ -1,5 +1,5 @@
-//! The fuzzer catches every keeper that is wrong on purpose, within seconds,
-//! and leaves the right one alone.
+//! The fuzzer catches every keeper that is wrong on purpose, within the fixed
+//! rounds of `./keeper test`, and leaves the right one alone.
 
 use std::process::{Command, Output};
 use std::time::Instant;
@@ -30,19 +30,16 @@ fn smallest(report: &str) -> usize {
     word.parse().expect("the number of its lines")
 }
 
-/// What the fuzzer reports of a program that is wrong in one way.
+/// What the fuzzer reports of a program that is wrong in one way: seed 1, and as
+/// many rounds as `./keeper test` has for such a program.
 fn report_of([option, path, next]: [&str; 3], kind: &str) -> String {
+    let rounds = match option {
+        "--runner" => "250",
+        "--tables" => "50",
+        _ => "60",
+    };
     let output = fuzz(&[
-        option,
-        path,
-        next,
-        "--wrong",
-        next,
-        kind,
-        "--seed",
-        "1",
-        "--seconds",
-        "60",
+        option, path, next, "--wrong", next, kind, "--seed", "1", "--rounds", rounds,
     ]);
     assert_eq!(output.status.code(), Some(1), "{} is not caught", kind);
     text(&output)
@@ -111,6 +108,9 @@ fn the_right_ones_are_not() {
     assert_eq!(output.status.code(), Some(0), "{}", report);
     assert!(report.ends_with("no difference\n"));
     assert!(report.contains("seed 2, 12 rounds, "));
+    assert!(report.contains(", code 11 in "));
+    assert!(!report.contains(", code 11 in 0 calls"));
+    assert!(!report.contains(" calls and 0 cases, "));
 }
 
 #[test]

@@ -231,6 +231,75 @@ fn holders() {
     });
 }
 
+/// Gives an update more items, from item 20, until it has so many.
+fn fill(keeper: &mut Keeper, slot: usize, count: usize) {
+    let holder = slot as u64 + 1;
+    let rows = keeper.locks.chunks(LOCK_ROW);
+    let held = rows.filter(|row| row[EXCLUSIVE] == holder).count();
+    for item in 20..20 + count - held {
+        set_lock(keeper, item, [0, holder, item as u64]);
+    }
+}
+
+#[test]
+fn quotas() {
+    for slot in [LIVE_UPDATE, HOLDER, WAITER] {
+        keeps(|k| fill(k, slot, 31));
+        keeps(|k| fill(k, slot, 32));
+        breaks(Clause::Quota, |k| fill(k, slot, 33));
+        breaks(Clause::Quota, |k| fill(k, slot, 40));
+    }
+    // Shared locks do not count, nor do other updates' exclusive ones.
+    keeps(|k| {
+        fill(k, HOLDER, 32);
+        for item in [5, 6, 7, 8] {
+            set_lock(k, item, [1 << HOLDER, 0, 0]);
+            set_lock(k, item + 5, [0, LIVE_UPDATE as u64 + 1, 0]);
+        }
+    });
+    // Two full ones hold all items.
+    let halves = |k: &mut Keeper| {
+        *txn(k, WAITER, AWAITED_ITEM) = 63;
+        for item in 0..64 {
+            set_lock(k, item, [0, 1 + item as u64 / 32, 0]);
+        }
+    };
+    keeps(halves);
+    breaks(Clause::Quota, |k| {
+        halves(k);
+        set_lock(k, 63, [0, 1, 0]);
+    });
+}
+
+#[test]
+fn who_is_full_awaits_no_exclusive_lock() {
+    let waiting = |count: usize, lock: u64, item: u64| {
+        move |k: &mut Keeper| {
+            fill(k, WAITER, count);
+            *txn(k, WAITER, AWAITED_LOCK) = lock;
+            *txn(k, WAITER, AWAITED_ITEM) = item;
+        }
+    };
+    // Item 1 is the holder's, item 2 is shared by the waiter, item 60 is free.
+    for item in [1, 2, 60] {
+        keeps(waiting(31, AWAITS_EXCLUSIVE, item));
+        breaks(
+            Clause::FullAwaitsExclusive,
+            waiting(32, AWAITS_EXCLUSIVE, item),
+        );
+        breaks(Clause::Quota, waiting(33, AWAITS_EXCLUSIVE, item));
+    }
+    for item in [1, 60] {
+        keeps(waiting(32, AWAITS_SHARED, item));
+        breaks(Clause::Quota, waiting(33, AWAITS_SHARED, item));
+    }
+    // Another's wait is no harm.
+    keeps(|k| {
+        fill(k, HOLDER, 32);
+        waiting(1, AWAITS_EXCLUSIVE, 20)(k);
+    });
+}
+
 #[test]
 fn counts_and_unused_pairs() {
     for count in [0, 17, 1 << 63, u64::MAX, (1 << 32) + 1] {

@@ -84,6 +84,25 @@ fn each_field_wrong() {
     }
 }
 
+/// Code 11 in a journal: right where it is due, and nowhere else.
+#[test]
+fn the_thirty_third_write() {
+    let script: Vec<String> = (0..33).map(|item| format!("write 1 {} 7", item)).collect();
+    let lines = ["update"]
+        .into_iter()
+        .chain(script.iter().map(|line| &line[..]));
+    let right = Journal::of_run(lines.filter_map(|line| script::parse(line.as_bytes())));
+    assert_eq!(right.answers[32], [0, 0, 0, 0]);
+    assert_eq!(right.answers[33], [11, 0, 0, 0]);
+    assert_eq!(judge(&right.bytes()), Verdict::Accepted);
+    for (record, code) in [(32, 11), (33, 0), (33, 1), (33, 10), (33, 12)] {
+        let mut wrong = right.clone();
+        wrong.answers[record][0] = code;
+        let at = Verdict::Wrong(record as u64 + 1);
+        assert_eq!(judge(&wrong.bytes()), at, "{} at {}", code, record);
+    }
+}
+
 #[test]
 fn points_in_their_order() {
     let mut wrong = sample();

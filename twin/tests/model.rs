@@ -97,6 +97,11 @@ impl Model {
             (None, Some(awaited)) if awaited != (is_write, item) => return [6, 0, 0, 0],
             _ => {}
         }
+        // Writing it would make more than 32 written items.
+        let mut written: BTreeSet<u64> = txn.written.keys().copied().collect();
+        if is_write && written.insert(item) && written.len() > 32 {
+            return [11, 0, 0, 0];
+        }
         if !self.against(number, is_write, item).is_empty() {
             let txn = self.live.get_mut(&number).unwrap();
             let before = txn.awaits.replace((is_write, item));
@@ -193,7 +198,8 @@ impl Model {
     }
 }
 
-fn random_call(rng: &mut Rng, model: &Model, items: u64) -> Call {
+/// A greedy run has few transactions that do little but write.
+fn random_call(rng: &mut Rng, model: &Model, items: u64, greedy: bool) -> Call {
     let live: Vec<u64> = model.live.keys().copied().collect();
     let number = match rng.below(30) {
         0 => rng.below(model.last + 2),
@@ -215,6 +221,16 @@ fn random_call(rng: &mut Rng, model: &Model, items: u64) -> Call {
         0 => 64,
         _ => rng.below(items),
     };
+    if greedy && live.len() >= 2 && rng.percent(92) {
+        return match rng.percent(85) {
+            true => Call::Write {
+                number,
+                item,
+                value,
+            },
+            false => Call::Read { number, item },
+        };
+    }
     match rng.below(20) {
         0..=2 => Call::Update,
         3..=4 => Call::Query,
@@ -231,14 +247,15 @@ fn random_call(rng: &mut Rng, model: &Model, items: u64) -> Call {
 
 #[test]
 fn every_answer_and_every_word() {
-    let mut codes = [0; 11];
+    let mut codes = [0; 12];
     for seed in 0..40 {
         let mut rng = Rng::new(seed);
         let items = rng.one_of(&[1, 2, 4, 12, 64]);
+        let greedy = items == 64 && rng.percent(70);
         let mut model = Model::default();
         let mut keeper = Keeper::fresh();
         for _ in 0..2_000 {
-            let call = random_call(&mut rng, &model, items);
+            let call = random_call(&mut rng, &model, items, greedy);
             let expected = model.call(call);
             let answer = keeper.call(call);
             assert_eq!(answer.words(), expected, "seed {}, {:?}", seed, call);
@@ -255,5 +272,6 @@ fn every_answer_and_every_word() {
         }
     }
     assert!(codes[..8].iter().all(|&count| count > 50), "{:?}", codes);
-    assert_eq!(codes[8..], [0, 0, 0]);
+    assert_eq!(codes[8..11], [0, 0, 0]);
+    assert!(codes[11] > 50, "{:?}", codes);
 }

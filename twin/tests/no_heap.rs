@@ -74,6 +74,15 @@ fn no_call_asks_for_heap() {
             assert_eq!(keeper.call(call).code, code);
         }
     }
+    let number = keeper.call(Call::Update).number;
+    for item in 0..33 {
+        let write = Call::Write {
+            number,
+            item,
+            value: item,
+        };
+        assert_eq!(keeper.call(write).code, if item < 32 { 0 } else { 11 });
+    }
     keeper.txns[1] = u64::MAX;
     assert_eq!(keeper.call(Call::Query).code, 10);
     assert_eq!(ASKED.with(Cell::get), before);

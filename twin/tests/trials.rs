@@ -1,75 +1,13 @@
 //! The trials A to O of document 01, on both sides of each limit.
 
+mod trial;
+
+use trial::*;
 use twin::sizes::*;
-use twin::{Answer, Call, Keeper};
+use twin::{Answer, Call};
 
 const X: u64 = 7;
 const Y: u64 = 8;
-
-struct Trial(Keeper);
-
-impl Trial {
-    fn fresh() -> Trial {
-        Trial(Keeper::fresh())
-    }
-
-    /// Fresh tables on which so many updates have begun, from number 1.
-    fn with_updates(count: u64) -> Trial {
-        let mut trial = Trial::fresh();
-        for number in 1..=count {
-            assert_eq!(trial.call(Call::Update), [0, 0, number, 0]);
-        }
-        trial
-    }
-
-    /// Makes a call; any code but 0 and 1 leaves every word, all leave good
-    /// tables good.
-    fn call(&mut self, call: Call) -> [u64; 4] {
-        let before = self.0.clone();
-        let answer = self.0.call(call);
-        if answer.code > 1 {
-            assert_eq!(self.0, before, "{:?} changed the tables", call);
-        }
-        assert_eq!(self.0.is_good(), before.is_good());
-        answer.words()
-    }
-
-    fn read(&mut self, number: u64, item: u64) -> [u64; 4] {
-        self.call(Call::Read { number, item })
-    }
-
-    fn write(&mut self, number: u64, item: u64, value: u64) -> [u64; 4] {
-        self.call(Call::Write {
-            number,
-            item,
-            value,
-        })
-    }
-
-    fn commit(&mut self, number: u64) -> [u64; 4] {
-        self.call(Call::Commit { number })
-    }
-
-    fn abort(&mut self, number: u64) -> [u64; 4] {
-        self.call(Call::Abort { number })
-    }
-
-    fn count(&self, item: usize) -> u64 {
-        self.0.versions[item * VERSION_ROW]
-    }
-}
-
-const GRANTED: [u64; 4] = [0, 0, 0, 0];
-const WAIT: [u64; 4] = [1, 0, 0, 0];
-const DEADLOCK: [u64; 4] = [2, 0, 0, 0];
-const UNKNOWN_TRANSACTION: [u64; 4] = [3, 0, 0, 0];
-const UNKNOWN_ITEM: [u64; 4] = [4, 0, 0, 0];
-const QUERY_MAY_NOT_WRITE: [u64; 4] = [5, 0, 0, 0];
-const STILL_WAITING: [u64; 4] = [6, 0, 0, 0];
-const NO_SLOT: [u64; 4] = [7, 0, 0, 0];
-const NUMBERS_SPENT: [u64; 4] = [8, 0, 0, 0];
-const CLOCK_SPENT: [u64; 4] = [9, 0, 0, 0];
-const BAD_TABLES: [u64; 4] = [10, 0, 0, 0];
 
 #[test]
 fn a_the_run_of_the_document() {

@@ -14,8 +14,9 @@ use Rattle.rules.specs.Tables.{Tables, tables, txnWords, lastNumber, txn, setTx
 use Rattle.rules.specs.Versions.{rewritten}
 use Rattle.rules.specs.Waits.{circleAt}
 use Rattle.rules.specs.Good.{Good}
-use Rattle.rules.specs.Answers.{Refusal, code, granted, wait, deadlock, noSlot, numbersSpent}
-use Rattle.rules.specs.Step.{awaitsOther, withNew}
+use Rattle.rules.specs.Locks.{toWrite}
+use Rattle.rules.specs.Answers.{Refusal, code, granted, wait, deadlock, noSlot, numbersSpent, quotaSpent, Outcome, refuses}
+use Rattle.rules.specs.Step.{awaitsOther, writesFurther, access, withNew}
 use Rattle.acts.specs.declared.judge.Begin.{Begin}
 use Rattle.acts.specs.declared.judge.Begin.the-variants.{NoSlot, Spent, Give}
 use Rattle.acts.specs.declared.judge.Caller.{Caller}
@@ -77,6 +78,10 @@ pub record Ready (t l : List ℕ) (s k x : ℕ) : Type 0 where
 unfoldable pub conflictBy : List ℕ → List ℕ → ℕ → ℕ → ℕ → Done
 conflictBy t l s k x =
     cond (circleAt base (setAwaited t s k x) l s) (done (refused deadlock) t) (done (refused wait) (setAwaited t s k x))
+
+-- request E2, an update's write: 11 before the conflict
+unfoldable pub writtenBy : ℕ → ℕ → ℕ → Tables → Outcome
+writtenBy s x v G = cond (writesFurther base (G .locks) s x) (refuses quotaSpent G) (access base toWrite s x v G)
 
 -- ---- commit and abort
 unfoldable pub quitterOf : List ℕ → ℕ → Leaver

@@ -4,14 +4,15 @@ use names::ItemOf;
 use names::LAST_WORD;
 use names::Number;
 use names::NumberOf;
+use names::QUOTA;
 use names::Slot;
 use rows::Found;
 ghost use mathlib.Core.Path.{_≡_};
 ghost use lib.ListN.{length};
 ghost use Prim.Native.Nat.{_<_};
 ghost use Rattle.names.specs.Sizes.{base};
-ghost use Rattle.rules.specs.Tables.{txnWords, slotOf};
-ghost use Rattle.rules.specs.Step.{awaitsOther};
+ghost use Rattle.rules.specs.Tables.{txnWords, lockWords, slotOf};
+ghost use Rattle.rules.specs.Step.{awaitsOther, writesFurther};
 ghost use Rattle.rows.specs.Founds.{foundAt};
 ghost use Rattle.acts.specs.Verdicts.{Rows, beginOf, callerOf, leaverOf, quitterOf};
 use super::NO_LOCK;
@@ -99,6 +100,19 @@ pub fn who_calls(txns: &[u64], number: u64, item: u64, lock: u64) -> Caller
         return Caller::Waiting;
     }
     Caller::Update(slot, x)
+}
+
+// Whether the slot holds as many items exclusively as it may, and this one not.
+pub fn writes_further(locks: &[u64], slot: Slot, item: Item) -> bool
+    requires { ⌜ (length (now locks) ≡ lockWords base) × (slot .0 < base .slots) × (item .0 < base .items) ⌝ }
+    ensures { λ r. ⌜ r ≡ writesFurther base (now (locks .entry)) (slot .0) (item .0) ⌝ }
+{
+    let row = rows::lock_at(locks, item);
+    let s = slot.0;
+    if row.exclusive == s + 1 {
+        return false;
+    }
+    rows::exclusives_of(locks, slot) == QUOTA
 }
 
 // Who commits.

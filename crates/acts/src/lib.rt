@@ -18,6 +18,7 @@ pub use judge::who_aborts;
 pub use judge::who_calls;
 pub use judge::who_commits;
 pub use locking::access;
+pub use locking::update_writes;
 use names::Answer;
 ghost use mathlib.Core.Path.{_≡_};
 
@@ -43,6 +44,8 @@ pub const NUMBERS_SPENT: u64 = 8;
 pub const CLOCK_SPENT: u64 = 9;
 
 pub const BAD_TABLES: u64 = 10;
+
+pub const QUOTA_SPENT: u64 = 11;
 
 // Kinds of transactions and of locks, as the tables have them.
 pub const UPDATE: u64 = 0;

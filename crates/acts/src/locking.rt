@@ -12,14 +12,17 @@ ghost use Rattle.rules.specs.Good.{Good};
 ghost use Rattle.rules.specs.Answers.{outcome};
 ghost use Rattle.rules.specs.Step.{access as Step·access, sharedToo as Step·sharedToo, taken as Step·taken};
 ghost use Rattle.rows.specs.Founds.{lockOf};
-ghost use Rattle.acts.specs.Verdicts.{done, Ready, conflictBy};
+ghost use Rattle.acts.specs.Verdicts.{done, Ready, conflictBy, writtenBy};
 ghost use Rattle.acts.specs.Cells.{askedOf};
 use super::DEADLOCK;
 use super::GRANTED;
 use super::NO_LOCK;
+use super::QUOTA_SPENT;
+use super::TO_WRITE;
 use super::WAIT;
 use super::cells;
 use super::cells::Cell;
+use super::judge::writes_further;
 use super::refusal;
 
 // A wait, or a deadlock where the wait would close a circle.
@@ -74,6 +77,24 @@ fn granted(value: u64, looked: u64) -> Answer
         number: 0,
         looked,
     }
+}
+
+// An update's write, refused where it holds as many items exclusively as it may and this one not.
+pub fn update_writes(
+    txns: &mut [u64],
+    locks: &mut [u64],
+    versions: &[u64],
+    slot: Slot,
+    item: Item,
+    value: u64,
+) -> Answer
+    requires { ⌜ Good base (tables (now txns) (now locks) (now versions)) × (slot .0 < base .slots) × (item .0 < base .items) ⌝ }
+    ensures { λ r. ⌜ outcome r (now (txns .exit)) (now (locks .exit)) (now (versions .entry)) ≡ writtenBy (slot .0) (item .0) value (tables (now (txns .entry)) (now (locks .entry)) (now (versions .entry))) ⌝ }
+{
+    if writes_further(&locks[..], slot, item) {
+        return refusal(QUOTA_SPENT);
+    }
+    access(txns, locks, versions, slot, item, TO_WRITE, value)
 }
 
 // What the lock decision's cell says: asked is 0 to read, 1 to write this value.

@@ -16,7 +16,7 @@ use Rattle.rules.specs.Versions.{rewritten}
 use Rattle.rules.specs.Tables.{Tables, tables, setTxn, noTxn, starts, release, lastNumber, clock, txn, slotOf, freeSlot, liveUpdate, liveQuery, noLock, sharedLock, exclusiveLock, aQuery}
 use Rattle.rules.specs.Good.{Good}
 use Rattle.rules.specs.Tested.{good}
-use Rattle.rules.specs.Locks.{toRead, toWrite}
+use Rattle.rules.specs.Locks.{toRead}
 use Rattle.rules.specs.Answers.{Outcome, outcome, says, granted, refuses, unknownTransaction, unknownItem, queryMayNotWrite, stillWaiting, clockSpent}
 use Rattle.rules.specs.Answers.{read, write, commit, abort}
 use Rattle.rules.specs.Step.{step, act, begin, begun, readBy, writeBy, commitBy, abortBy, queryRead, access, awaitsOther, committed, ended, aborted, withNew}
@@ -24,7 +24,7 @@ use Rattle.rules.proofs.Tests.{true-is, is-true}
 use Rattle.rules.proofs.Equal.{good→Good, Good→good}
 use Rattle.rules.proofs.Steps.{step-good}
 use Rattle.rules.proofs.Callers.{caller-in, is-query, is-update}
-use Rattle.acts.specs.Verdicts.{Rows, Ended, Committed, beginOf, begunBy, callerOf, leaverOf, quitterOf}
+use Rattle.acts.specs.Verdicts.{Rows, Ended, Committed, beginOf, begunBy, callerOf, writtenBy, leaverOf, quitterOf}
 use Rattle.acts.specs.declared.judge.Caller.{Caller}
 use Rattle.acts.specs.declared.judge.Caller.the-variants as callers
 use Rattle.acts.specs.declared.judge.Leaver.{Leaver}
@@ -151,10 +151,10 @@ module _ (G : Tables) (g : Good base G) where
   writeOut v callers.NoItem = refuses unknownItem G
   writeOut v callers.Waiting = refuses stillWaiting G
   writeOut v (callers.Query s y) = refuses queryMayNotWrite G
-  writeOut v (callers.Update s y) = access base toWrite (s .0) (y .0) v G
+  writeOut v (callers.Update s y) = writtenBy (s .0) (y .0) v G
 
   pub write-is : (n x v : ℕ) → step base (write n x v) G ≡ writeOut v (callerOf (G .txns) n x exclusiveLock)
-  unfolding act writeBy callerOf
+  unfolding act writeBy callerOf writtenBy
   write-is n x v =
       step-good base (write n x v) G passed
       ∙ go (eqb (slotOf base t n) (base .slots)) refl (leb (base .items) x) refl (eqb ((txn t (slotOf base t n)) .kind) aQuery) refl (awaitsOther t (slotOf base t n) exclusiveLock x) refl

@@ -14,7 +14,6 @@ use acts::QUERY_MAY_NOT_WRITE;
 use acts::SHARED;
 use acts::STILL_WAITING;
 use acts::TO_READ;
-use acts::TO_WRITE;
 use acts::UNKNOWN_ITEM;
 use acts::UNKNOWN_TRANSACTION;
 use acts::UPDATE;
@@ -103,7 +102,7 @@ pub fn write(
         Caller::Waiting => refusal(STILL_WAITING),
         Caller::Query(_, _) => refusal(QUERY_MAY_NOT_WRITE),
         Caller::Update(slot, x) => {
-            acts::access(txns, locks, &versions[..], slot, x, TO_WRITE, value)
+            acts::update_writes(txns, locks, &versions[..], slot, x, value)
         }
     }
 }

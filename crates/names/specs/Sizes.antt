@@ -3,9 +3,9 @@
 use Prim.Native.Nat.{ℕ}
 use Rattle.names.specs.declared.Sizes.{Sizes}
 
--- the appliance's sizes
+-- the appliance's sizes. Request E2, "an update that holds 32 items exclusively": the quota is what one update may hold so at most
 abbrev pub base : Sizes
-base = record { slots = 16; items = 64; places = 16 }
+base = record { slots = 16; items = 64; places = 16; quota = 32 }
 
 -- "The first stamp is 0 and the last is 4,294,967,295. Transaction numbers run from 1 to 4,294,967,295"
 abbrev pub firstStamp : ℕ

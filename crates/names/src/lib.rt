@@ -23,6 +23,9 @@ pub const ITEMS: u64 = 64;
 
 pub const PLACES: u64 = 16;
 
+// Items that one update may hold exclusively at most.
+pub const QUOTA: u64 = 32;
+
 // The greatest transaction number and the greatest stamp.
 pub const LAST_WORD: u64 = 4294967295;
 
@@ -31,6 +34,7 @@ pub struct Sizes {
     pub slots: u64,
     pub items: u64,
     pub places: u64,
+    pub quota: u64,
 }
 
 impl Sizes {
@@ -42,6 +46,7 @@ impl Sizes {
             slots: SLOTS,
             items: ITEMS,
             places: PLACES,
+            quota: QUOTA,
         }
     }
 }

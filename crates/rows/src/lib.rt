@@ -4,6 +4,7 @@ mod locks;
 mod txns;
 
 pub use locks::LockRow;
+pub use locks::exclusives_of;
 pub use locks::lock_at;
 pub use locks::release;
 pub use locks::set_lock;

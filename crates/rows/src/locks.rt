@@ -7,7 +7,7 @@ ghost use mathlib.Core.Path.{_≡_};
 ghost use Prim.Native.Nat.{_<_};
 ghost use lib.ListN.{length};
 ghost use Rattle.names.specs.Sizes.{base};
-ghost use Rattle.rules.specs.Tables.{lockWords, lock, setLock, released, release};
+ghost use Rattle.rules.specs.Tables.{lockWords, lock, setLock, exclusivesOf, released, release};
 ghost use Rattle.rows.specs.Founds.{lockOf};
 
 // The words of a lock: shared holders (bit i for slot i), exclusive holder (slot plus 1, 0 for
@@ -42,6 +42,24 @@ pub fn set_lock(locks: &mut [u64], item: Item, row: LockRow)
     locks[at] = row.shared;
     locks[at + 1] = row.exclusive;
     locks[at + 2] = row.working;
+}
+
+// How many items a slot holds exclusively.
+pub fn exclusives_of(locks: &[u64], slot: Slot) -> u64
+    requires { ⌜ (length (now locks) ≡ lockWords base) × (slot .0 < base .slots) ⌝ }
+    ensures { λ r. ⌜ r ≡ exclusivesOf base (now (locks .entry)) (slot .0) ⌝ }
+{
+    let holder = slot.0 + 1;
+    let mut held: u64 = 0;
+    let mut item: u64 = 0;
+    while item < ITEMS {
+        let row = lock_at(locks, Item(item));
+        if row.exclusive == holder {
+            held += 1;
+        }
+        item += 1;
+    }
+    held
 }
 
 // A lock without a slot.

@@ -10,18 +10,19 @@ use borrow.Author.Tests.{eqb-true, eqb-false, leb-true, leb-false}
 use Rattle.names.specs.declared.Sizes.{Sizes}
 use Rattle.names.specs.Sizes.{lastWord}
 use Rattle.rules.specs.Tables.{Tables, lastNumber, clock, txn, setAwaited, noLock, sharedLock, exclusiveLock, anUpdate, aQuery}
-use Rattle.rules.specs.Tables.{liveUpdate, liveQuery, lock, slotOf, freeSlot}
+use Rattle.rules.specs.Tables.{liveUpdate, liveQuery, lock, holdsExclusive, exclusivesOf, slotOf, freeSlot}
 use Rattle.rules.specs.Waits.{blocks, blocked, circleAt}
 use Rattle.rules.specs.Good.{Good}
 use Rattle.rules.specs.Tested.{good}
 use Rattle.rules.specs.Locks.{Asked, toRead, toWrite, wanted}
 use Rattle.rules.specs.Answers.{Call, beginUpdate, beginQuery, read, write, commit, abort, granted, code, Refusal, Outcome, refuses}
 use Rattle.rules.specs.Answers.{wait, deadlock, unknownTransaction, unknownItem, queryMayNotWrite, stillWaiting}
-use Rattle.rules.specs.Answers.{noSlot, numbersSpent, clockSpent, badTables}
-use Rattle.rules.specs.Step.{step, act, begin, readBy, writeBy, commitBy, abortBy, access, conflicted, awaitsOther, queryRead}
+use Rattle.rules.specs.Answers.{noSlot, numbersSpent, clockSpent, badTables, quotaSpent}
+use Rattle.rules.specs.Step.{step, act, begin, readBy, writeBy, commitBy, abortBy, access, conflicted, awaitsOther, writesFurther, queryRead}
 use Rattle.rules.specs.Conditions.{Names, Wants, CallerIn, ConflictIn, Circle, When, order, Answered}
 use Rattle.rules.proofs.Tests.{and-left, and-right, and-both, true-is, false-is, not-make, not-use, ne-make, ne-use, eq-make}
 use Rattle.rules.proofs.Equal.{good→Good, Good→good}
+use Rattle.rules.proofs.Quotas.{has-room, further→}
 use Rattle.rules.proofs.Deadlock.{circle-is}
 use Rattle.rules.proofs.Steps.{step-good, step-bad, cond-case}
 use Rattle.rules.proofs.Callers.{caller-is, caller-none, caller-found, free-found, free-none, is-query, is-update, query-not-update, query-kind}
@@ -178,6 +179,27 @@ module _ (S : Sizes) (G : Tables) (g : Good S G) (c : Call) (n : ℕ) (says-n : 
             let m = at-caller (λ (r : ℕ). Wants c ((txn (G .txns) r) .awaitedLock) ((txn (G .txns) r) .awaitedItem) → ⊥) (w .0) (w .1) (w .3) in
             false-is e (and-both (not (eqb k noLock)) (not same) (ne-make k noLock d) (not-make same (λ t. m (again t))))
 
+    -- an update's write of a further item
+    quota-tests :
+        (rs : List Refusal) (o : Outcome) → wanted a ≡ exclusiveLock → CallerIn c S G s → T (liveUpdate (txn (G .txns) s))
+        → (writesFurther S (G .locks) s x ≡ false → Says S c G rs o)
+        → Says S c G (quotaSpent ∷ rs) (cond (writesFurther S (G .locks) s x) (refuses quotaSpent G) o)
+    unfolding When
+    quota-tests rs o w C up h =
+        tests S c G quotaSpent rs (writesFurther S (G .locks) s x) o
+        (λ e. let f = further→ S (G .locks) s x e in (s, x, C, up, subst (λ (k : ℕ). Wants c k x) w asks, f .0, f .1))
+        (λ e m. no e (m .0) (m .1) (m .2) (m .4) (m .5) (m .6))
+        h
+      where
+        no :
+            writesFurther S (G .locks) s x ≡ false → (r y : ℕ) → CallerIn c S G r → Wants c exclusiveLock y → exclusivesOf S (G .locks) r ≡ S .quota
+            → (T (holdsExclusive (lock (G .locks) y) r) → ⊥) → ⊥
+        no e r y D m q d =
+            has-room S (G .locks) s x e
+            (subst (λ (z : ℕ). T (holdsExclusive (lock (G .locks) z) s) → ⊥) (only-asks exclusiveLock y m .1)
+            (at-caller (λ (i : ℕ). T (holdsExclusive (lock (G .locks) y) i) → ⊥) r D d))
+            (at-caller (λ (i : ℕ). exclusivesOf S (G .locks) i ≡ S .quota) r D q)
+
     -- whoever is in conflict is the caller, with what it asks for
     conflict-here : (r k y : ℕ) → ConflictIn c S G r k y → T (blocked S (lock (G .locks) x) (wanted a) s)
     conflict-here r k y C =
@@ -232,16 +254,17 @@ module _ (S : Sizes) (G : Tables) (g : Good S G) (c : Call) (n : ℕ) (says-n : 
 module _ (S : Sizes) (G : Tables) (g : Good S G) where
   reads :
       (n x : ℕ) → Says S (read n x) G
-      (unknownTransaction ∷ unknownItem ∷ queryMayNotWrite ∷ stillWaiting ∷ deadlock ∷ wait ∷ []) (readBy S n x G)
+      (unknownTransaction ∷ unknownItem ∷ queryMayNotWrite ∷ stillWaiting ∷ quotaSpent ∷ deadlock ∷ wait ∷ []) (readBy S n x G)
   unfolding readBy queryRead When
   reads n x =
       names-tests S G g c n refl only _ _ (λ e. let C = here S G g c n refl only e in
       items-tests S G g c n refl only toRead x (refl, refl) asks _ _ (λ f.
       skips S c G queryMayNotWrite _ _ (λ w. let q = w .4 .0 in omega arith)
       (waits-tests S G g c n refl only toRead x (refl, refl) asks _ _ C (λ h.
-      cond-case (Says S c G (deadlock ∷ wait ∷ [])) (eqb ((txn (G .txns) i) .kind) aQuery) _ _
+      skips S c G quotaSpent _ _ (λ w. let q = w .4 .0 in omega arith)
+      (cond-case (Says S c G (deadlock ∷ wait ∷ [])) (eqb ((txn (G .txns) i) .kind) aQuery) _ _
       (λ q. unblocked S c G granted (λ r k y K. no-update C q r (K .caller) (K .update)) refl)
-      (λ q. accesses S G g c n refl only toRead x (refl, refl) asks 0 C (is-update S G g i (C .inside) (C .alive) q) (leb-false (S .items) x f))))))
+      (λ q. accesses S G g c n refl only toRead x (refl, refl) asks 0 C (is-update S G g i (C .inside) (C .alive) q) (leb-false (S .items) x f)))))))
     where
       c : Call
       c = read n x
@@ -264,7 +287,7 @@ module _ (S : Sizes) (G : Tables) (g : Good S G) where
 
   writes :
       (n x v : ℕ) → Says S (write n x v) G
-      (unknownTransaction ∷ unknownItem ∷ queryMayNotWrite ∷ stillWaiting ∷ deadlock ∷ wait ∷ []) (writeBy S n x v G)
+      (unknownTransaction ∷ unknownItem ∷ queryMayNotWrite ∷ stillWaiting ∷ quotaSpent ∷ deadlock ∷ wait ∷ []) (writeBy S n x v G)
   unfolding writeBy When
   writes n x v =
       names-tests S G g c n refl only _ _ (λ e. let C = here S G g c n refl only e in
@@ -274,7 +297,9 @@ module _ (S : Sizes) (G : Tables) (g : Good S G) where
       (λ q w. eqb-false ((txn (G .txns) i) .kind) aQuery q
       (query-kind (G .txns) i (at-caller S G g c n refl only (λ (r : ℕ). T (liveQuery (txn (G .txns) r))) (w .0) (w .2) (w .3))))
       (λ q. waits-tests S G g c n refl only toWrite x (refl, refl) asks _ _ C (λ h.
-      accesses S G g c n refl only toWrite x (refl, refl) asks v C (is-update S G g i (C .inside) (C .alive) q) (leb-false (S .items) x f)))))
+      let up = is-update S G g i (C .inside) (C .alive) q in
+      quota-tests S G g c n refl only toWrite x (refl, refl) asks _ _ refl C up (λ m.
+      accesses S G g c n refl only toWrite x (refl, refl) asks v C up (leb-false (S .items) x f))))))
     where
       c : Call
       c = write n x v

@@ -8,9 +8,9 @@ use lib.ListN.{length}
 use lib.Dec.{T}
 use Rattle.names.specs.declared.Sizes.{Sizes}
 use Rattle.rules.specs.Tables.{Tables, txnWords, lastNumber, clock, Txn, txn, setAwaited, live, liveUpdate, liveQuery}
-use Rattle.rules.specs.Tables.{noLock, sharedLock, exclusiveLock, lock, holds, holdsExclusive}
+use Rattle.rules.specs.Tables.{noLock, sharedLock, exclusiveLock, lock, holds, holdsExclusive, exclusivesOf}
 use Rattle.rules.specs.Waits.{waitsFor, Walk}
-use Rattle.rules.specs.Good.{Good, GoodTxn}
+use Rattle.rules.specs.Good.{Good, GoodTxn, GoodQuota}
 use Rattle.rules.specs.Conditions.{Circle}
 use Rattle.rules.specs.Step.{withTxns, cleared}
 use Rattle.rules.proofs.Tests.{same?}
@@ -20,13 +20,14 @@ use Rattle.rules.proofs.Carried.{no-more-same, txn-carried, lock-carrie
 use Rattle.rules.proofs.Walks.{waits-for→}
 use Rattle.rules.proofs.Deadlock.{fewer-no-circle, no-new-circle}
 
--- what may be written: nothing awaited, or a lock on a known item that the slot does not hold
+-- what may be written: nothing awaited, or a lock on a known item that the slot does not hold, an exclusive one if it has room for it
 pub record MayAwait (S : Sizes) (G : Tables) (s k x : ℕ) : Type 0 where
   pub listed : k ≤ exclusiveLock
   pub known : k ≢ noLock → x < S .items
   pub none : k ≡ noLock → x ≡ 0
   pub shared : k ≡ sharedLock → T (holds (lock (G .locks) x) s) → ⊥
   pub exclusive : k ≡ exclusiveLock → T (holdsExclusive (lock (G .locks) x) s) → ⊥
+  pub room : k ≡ exclusiveLock → exclusivesOf S (G .locks) s ≢ S .quota
 
 -- the rows afterwards
 module _ (S : Sizes) (t : List ℕ) (size : length t ≡ txnWords S) (s k x : ℕ) (inside : s < S .slots) where
@@ -108,6 +109,16 @@ module _ (S : Sizes) (G : Tables) (g : Good S G) (s k x : ℕ) (inside : s < S .
           subst (λ (w : Txn). GoodTxn S t′ (G .locks) r w) (sym (there r d))
           (txn-carried S t t′ (G .locks) (G .locks) r (txn t r) (let a = last′ in omega arith) (let a = clock′ in omega arith) (λ w. no-more-same r refl) (g .txnGood r i))
 
+  quotas : (r : ℕ) → r < S .slots → GoodQuota S (G .locks) r (txn t′ r)
+  quotas r i = go (same? r s)
+    where
+      new : GoodQuota S (G .locks) s R
+      new = record { most = λ u. g .quotaGood s inside .most update; fullIdle = λ u e d. may .room d e }
+
+      go : (r ≡ s) ⊎ (r ≢ s) → GoodQuota S (G .locks) r (txn t′ r)
+      go (inl e) = subst (λ (m : ℕ). GoodQuota S (G .locks) m (txn t′ m)) (sym e) (subst (λ (w : Txn). GoodQuota S (G .locks) s w) (sym here) new)
+      go (inr d) = subst (λ (w : Txn). GoodQuota S (G .locks) r w) (sym (there r d)) (g .quotaGood r i)
+
   -- a query's row is not that of the update in slot s
   query-there : (r : ℕ) → T (liveQuery (txn t r)) → txn t′ r ≡ txn t r
   query-there r h = there r (λ e. let a = query-live (txn t r) h .1 in let b = update-live (txn t s) update .1 in let c : (txn t r) .kind ≡ (txn t s) .kind = ap (λ (m : ℕ). (txn t m) .kind) e in absurd (omega arith))
@@ -124,6 +135,7 @@ module _ (S : Sizes) (G : Tables) (g : Good S G) (s k x : ℕ) (inside : s < S .
         txnGood = rows;
         distinct = λ a b i j d h e. g .distinct a b i j d (subst T (same live (λ w k x. refl) b) h) (sym (number′ a) ∙ e ∙ number′ b);
         lockGood = λ y i. lock-carried S t t′ (lock (G .locks) y) (λ r h u. subst T (sym (awaiting-update S t (g .txnsExact) s k x inside r)) u) (g .lockGood y i);
+        quotaGood = quotas;
         versionsGood = λ x i. versions-carried S t t′ _ (let a = clock′ in omega arith) (λ r j h. query-there r h)
             (λ r j h. inl (query-there r (subst T (same liveQuery (λ w k x. refl) r) h))) (g .versionsGood x i);
         noCircle = uncircled;
@@ -140,7 +152,7 @@ module _ (S : Sizes) (G : Tables) (g : Good S G) (s : ℕ) (inside : s < S .slot
   unfolding cleared waitsFor
   cleared-good =
       awaiting-good S G g s noLock 0 inside update
-      (record { listed = omega arith; known = λ d. absurd (d refl); none = λ e. refl; shared = λ e. absurd (omega arith); exclusive = λ e. absurd (omega arith) })
+      (record { listed = omega arith; known = λ d. absurd (d refl); none = λ e. refl; shared = λ e. absurd (omega arith); exclusive = λ e. absurd (omega arith); room = λ e. absurd (omega arith) })
       (fewer-no-circle S G g (setAwaited (G .txns) s noLock 0) (G .locks) links)
     where
       t′ : List ℕ

@@ -12,11 +12,12 @@ use Rattle.names.specs.Sizes.{lastWord}
 use Rattle.rules.specs.Tables.{Tables, txnWords, lastNumber, clock, Txn, txn, setTxn, live, liveQuery}
 use Rattle.rules.specs.Tables.{anUpdate, aQuery, noLock, lock}
 use Rattle.rules.specs.Waits.{waitsFor}
-use Rattle.rules.specs.Good.{Good, GoodTxn}
+use Rattle.rules.specs.Good.{Good, GoodTxn, GoodQuota}
 use Rattle.rules.specs.Step.{begun}
 use Rattle.rules.proofs.Tests.{same?}
 use Rattle.rules.proofs.Views.{length-setTxn, lastNumber-setTxn, clock-setTxn, txn-setTxn, txn-setTxn-other, txn-top}
 use Rattle.rules.proofs.EqualRows.{update-live, query-live}
+use Rattle.rules.proofs.Quotas.{exclusives-none}
 use Rattle.rules.proofs.Carried.{no-more-same, txn-carried, lock-carried, versions-carried}
 use Rattle.rules.proofs.Walks.{waits-for→}
 use Rattle.rules.proofs.Deadlock.{fewer-no-circle}
@@ -88,6 +89,21 @@ module _ (S : Sizes) (G : Tables) (g : Good S G) (k q s : ℕ) (inside : s < S .
           subst (λ (w : Txn). GoodTxn S t′ (G .locks) r w) (sym (there r d))
           (txn-carried S t t′ (G .locks) (G .locks) r (txn t r) (let a = last′ in omega arith) (let a = clock′ in omega arith) (λ w. no-more-same r refl) (g .txnGood r i))
 
+  -- who was not there holds nothing
+  new-quota : GoodQuota S (G .locks) s R
+  new-quota =
+      record {
+        most = λ u. let a = exclusives-none S t (G .locks) (g .lockGood) s (λ h. unused (update-live (txn t s) h .0)) in omega arith;
+        fullIdle = λ u e d. absurd (omega arith);
+      }
+
+  quotas : (r : ℕ) → r < S .slots → GoodQuota S (G .locks) r (txn t′ r)
+  quotas r i = go (same? r s)
+    where
+      go : (r ≡ s) ⊎ (r ≢ s) → GoodQuota S (G .locks) r (txn t′ r)
+      go (inl e) = subst (λ (m : ℕ). GoodQuota S (G .locks) m (txn t′ m)) (sym e) (subst (λ (w : Txn). GoodQuota S (G .locks) s w) (sym here) new-quota)
+      go (inr d) = subst (λ (w : Txn). GoodQuota S (G .locks) r w) (sym (there r d)) (g .quotaGood r i)
+
   apart : (a b : ℕ) → a < S .slots → b < S .slots → a ≢ b → T (live (txn t′ b)) → (txn t′ a) .number ≢ (txn t′ b) .number
   apart a b i j d = go (same? a s) (same? b s)
     where
@@ -142,6 +158,7 @@ module _ (S : Sizes) (G : Tables) (g : Good S G) (k q s : ℕ) (inside : s < S .
         txnGood = rows;
         distinct = apart;
         lockGood = λ x i. lock-carried S t t′ (lock (G .locks) x) (λ r h u. rw (alive r (update-live (txn t r) u .0)) u) (g .lockGood x i);
+        quotaGood = quotas;
         versionsGood = λ x i. versions-carried S t t′ _ (let a = clock′ in omega arith) (λ r j h. alive r (query-live (txn t r) h .0)) (λ r j h. fresh-start r h) (g .versionsGood x i);
         noCircle = fewer-no-circle S G g t′ (G .locks) links;
       }

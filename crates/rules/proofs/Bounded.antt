@@ -26,7 +26,7 @@ use Rattle.rules.proofs.Equal.{Good→good}
 use Rattle.rules.proofs.Steps.{step-good, cond-case}
 use Rattle.rules.proofs.Fresh.{zeros, fresh-row, fresh-row-zero}
 use Rattle.rules.proofs.ChangedVersions.{ended-versions, committed-versions}
-use Rattle.rules.proofs.Ways.{Way, way, refused, waited, beganUpdate, beganQuery, readOwn, readNewest, readShared, readQuery}
+use Rattle.rules.proofs.Ways.{refusal-most, Way, way, refused, waited, beganUpdate, beganQuery, readOwn, readNewest, readShared, readQuery}
 use Rattle.rules.proofs.Ways.{wroteOwn, wroteTaken, committedUpdate, committedQuery, abortedUpdate, abortedQuery}
 
 -- the value of a write, if it is one, is at most B
@@ -129,8 +129,8 @@ module _ (B : ℕ) where
         found : (n k : ℕ) → n ≤ B → k ≤ B → Within B (record { code = 0; value = n; number = 0; looked = k })
         found n k h m = record { code = omega arith; value = h; number = omega arith; looked = m }
 
-        no : (r : Refusal) → code r ≤ 10 → Within B (record { code = code r; value = 0; number = 0; looked = 0 })
-        no r h = record { code = omega arith; value = omega arith; number = omega arith; looked = omega arith }
+        no : (r : Refusal) → Within B (record { code = code r; value = 0; number = 0; looked = 0 })
+        no r = record { code = let m = refusal-most r in omega arith; value = omega arith; number = omega arith; looked = omega arith }
 
         newest-bound : (x : ℕ) → x < S .items → newest S (G .versions) x ≤ B
         unfolding newest
@@ -147,8 +147,8 @@ module _ (B : ℕ) where
 
         way-bounded : (c : Call) (o : Outcome) → Asks B c → Way S G c o → Both o
         unfolding queryRead choice begun Asks
-        way-bounded c o a (refused r l) = (no r (omega arith), b)
-        way-bounded c o a (waited s k x i u) = (no wait (omega arith), record { working = b .working; values = b .values })
+        way-bounded c o a (refused r l) = (no r, b)
+        way-bounded c o a (waited s k x i u) = (no wait, record { working = b .working; values = b .values })
         way-bounded c o a (beganUpdate s free) = (bare (lastNumber (G .txns) + 1) (let m = g .lastMost in omega arith), record { working = b .working; values = b .values })
         way-bounded c o a (beganQuery s free) = (bare (lastNumber (G .txns) + 1) (let m = g .lastMost in omega arith), record { working = b .working; values = b .values })
         way-bounded c o a (readOwn n s x u h) = (found _ 0 (b .working x (u .known)) (omega arith), record { working = b .working; values = b .values })

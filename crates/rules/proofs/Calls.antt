@@ -14,8 +14,8 @@ use Rattle.rules.specs.Versions.{versionsOf, place, choice}
 use Rattle.rules.specs.Good.{Good}
 use Rattle.rules.specs.Tested.{good}
 use Rattle.rules.specs.Locks.{toRead, toWrite, decision}
-use Rattle.rules.specs.Answers.{Call, beginUpdate, beginQuery, read, write, commit, abort, says, granted}
-use Rattle.rules.specs.Step.{step, act, begin, begun, readBy, writeBy, commitBy, abortBy, queryRead, access, carriedOut, awaitsOther}
+use Rattle.rules.specs.Answers.{Call, beginUpdate, beginQuery, read, write, commit, abort, says, granted, refuses, quotaSpent}
+use Rattle.rules.specs.Step.{step, act, begin, begun, readBy, writeBy, commitBy, abortBy, queryRead, access, carriedOut, awaitsOther, writesFurther}
 use Rattle.rules.specs.Step.{committed, ended, aborted}
 use Rattle.rules.proofs.Tests.{is-true}
 use Rattle.rules.proofs.Equal.{Good→good}
@@ -91,10 +91,19 @@ module _ (S : Sizes) (G : Tables) (g : Good S G) where
       update-reads x known free = on-good (read n x) ∙ rw (found, within, lt-leb (S .items) x known, free, no-query)
 
       pub update-writes :
-          (x v : ℕ) → x < S .items → awaitsOther (G .txns) s exclusiveLock x ≡ false
+          (x v : ℕ) → x < S .items → awaitsOther (G .txns) s exclusiveLock x ≡ false → writesFurther S (G .locks) s x ≡ false
           → step S (write n x v) G ≡ carriedOut S s exclusiveLock x v G (decision S toWrite (lock (G .locks) x) s)
       unfolding act writeBy access
-      update-writes x v known free = on-good (write n x v) ∙ rw (found, within, lt-leb (S .items) x known, no-query, free)
+      update-writes x v known free room =
+          on-good (write n x v) ∙ rw (found, within, lt-leb (S .items) x known, no-query, free, room)
+
+      -- request E2: the quota is spent
+      pub update-spent :
+          (x v : ℕ) → x < S .items → awaitsOther (G .txns) s exclusiveLock x ≡ false → writesFurther S (G .locks) s x ≡ true
+          → step S (write n x v) G ≡ refuses quotaSpent G
+      unfolding act writeBy
+      update-spent x v known free full =
+          on-good (write n x v) ∙ rw (found, within, lt-leb (S .items) x known, no-query, free, full)
 
       pub update-commits :
           (txn (G .txns) s) .awaitedLock ≡ noLock → clock (G .txns) ≢ lastWord

@@ -7,9 +7,10 @@ use mathlib.Core.Bool.{Bool, true, false, cond}
 use mathlib.Core.List.{List, [], _∷_, List·Memᴰ, List·Memᴰ·head, List·Memᴰ·tail}
 use native.Mathlib.Omega.{arith}
 use native.Mathlib.Nat.{not-suc-le-zero}
+use native.Mathlib.Numerals.{add-one}
 use lib.Dec.{T, ltb}
 use borrow.Author.Tests.{ltb-true, ltb-false}
-use Rattle.rules.specs.Words.{everyBelow, someBelow, firstFrom, every, some}
+use Rattle.rules.specs.Words.{everyBelow, someBelow, countBelow, firstFrom, every, some}
 use Rattle.rules.proofs.Tests.{and-left, and-right, and-both, or-cases, or-left, or-right, true-is, same?}
 
 -- i ≤ n is i < n or i ≡ n
@@ -53,6 +54,69 @@ unfolding someBelow
     go : (i < n → T (someBelow n p)) → (i < n) ⊎ (i ≡ n) → T (someBelow (suc n) p)
     go f (inl k) = or-right (p n) (someBelow n p) (f k)
     go f (inr e) = or-left (p n) (someBelow n p) (subst (λ (m : ℕ). T (p m)) e t)
+
+-- ---- how many pass
+-- one more number looked at
+pub count-yes : (n : ℕ) (p : ℕ → Bool) → p n ≡ true → countBelow (n + 1) p ≡ countBelow n p + 1
+unfolding countBelow
+count-yes n p e = ap (λ (m : ℕ). countBelow m p) (add-one n) ∙ rw e (sym (add-one (countBelow n p)))
+
+pub count-no : (n : ℕ) (p : ℕ → Bool) → p n ≡ false → countBelow (n + 1) p ≡ countBelow n p
+unfolding countBelow
+count-no n p e = ap (λ (m : ℕ). countBelow m p) (add-one n) ∙ rw e refl
+
+pub count-le : (n : ℕ) (p : ℕ → Bool) → countBelow n p ≤ n
+unfolding countBelow
+count-le zero p = omega arith
+count-le (suc n) p = go (p n) (count-le n p)
+  where
+    go : (b : Bool) → countBelow n p ≤ n → cond b (suc (countBelow n p)) (countBelow n p) ≤ suc n
+    go true h = omega arith
+    go false h = omega arith
+
+-- where fewer pass
+pub count-fewer : (n : ℕ) (p q : ℕ → Bool) → ((i : ℕ) → i < n → T (p i) → T (q i)) → countBelow n p ≤ countBelow n q
+unfolding countBelow
+count-fewer zero p q f = omega arith
+count-fewer (suc n) p q f = go (p n) (q n) (f n (omega arith)) (count-fewer n p q (λ i l. f i (omega arith)))
+  where
+    go : (a b : Bool) → (T a → T b) → countBelow n p ≤ countBelow n q → cond a (suc (countBelow n p)) (countBelow n p) ≤ cond b (suc (countBelow n q)) (countBelow n q)
+    go true true h k = omega arith
+    go true false h k = absurd (h tt)
+    go false true h k = omega arith
+    go false false h k = k
+
+-- where all that pass but perhaps x passed before
+pub count-one-more :
+    (n : ℕ) (p q : ℕ → Bool) (x : ℕ) → ((i : ℕ) → i < n → i ≢ x → T (p i) → T (q i)) → countBelow n p ≤ suc (countBelow n q)
+unfolding countBelow
+count-one-more zero p q x f = omega arith
+count-one-more (suc n) p q x f = go (count-one-more n p q x (λ i l. f i (omega arith))) (same? n x)
+  where
+    step : (a b : Bool) → (T a → T b) → countBelow n p ≤ suc (countBelow n q) → cond a (suc (countBelow n p)) (countBelow n p) ≤ suc (cond b (suc (countBelow n q)) (countBelow n q))
+    step true true h k = omega arith
+    step true false h k = absurd (h tt)
+    step false true h k = omega arith
+    step false false h k = k
+
+    last : (a b : Bool) → countBelow n p ≤ countBelow n q → cond a (suc (countBelow n p)) (countBelow n p) ≤ suc (cond b (suc (countBelow n q)) (countBelow n q))
+    last true true k = omega arith
+    last true false k = omega arith
+    last false true k = omega arith
+    last false false k = omega arith
+
+    go : countBelow n p ≤ suc (countBelow n q) → (n ≡ x) ⊎ (n ≢ x) → countBelow (suc n) p ≤ suc (countBelow (suc n) q)
+    go k (inl e) = last (p n) (q n) (count-fewer n p q (λ i l. f i (omega arith) (λ z. omega arith)))
+    go k (inr d) = step (p n) (q n) (f n (omega arith) d) k
+
+pub count-none : (n : ℕ) (p : ℕ → Bool) → ((i : ℕ) → i < n → T (p i) → ⊥) → countBelow n p ≡ 0
+unfolding countBelow
+count-none zero p f = refl
+count-none (suc n) p f = go (p n) (f n (omega arith)) (count-none n p (λ i l. f i (omega arith)))
+  where
+    go : (a : Bool) → (T a → ⊥) → countBelow n p ≡ 0 → cond a (suc (countBelow n p)) (countBelow n p) ≡ 0
+    go true h k = absurd (h tt)
+    go false h k = k
 
 -- ---- the lowest that passes
 pub first-le : (p : ℕ → Bool) (s n : ℕ) → firstFrom p s n ≤ s + n

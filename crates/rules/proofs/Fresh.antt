@@ -16,11 +16,12 @@ use Rattle.rules.specs.Tables.{withCounts, txnAt, txnWords, lockWords, l
 use Rattle.rules.specs.Tables.{Lock, lock, holds, holdsShared, holdsExclusive, fresh}
 use Rattle.rules.specs.Versions.{versionsIn, pairs, stampAt}
 use Rattle.rules.specs.Waits.{waitsFor, Walk, one, more}
-use Rattle.rules.specs.Good.{Good, GoodTxn, GoodLock, GoodVersions}
+use Rattle.rules.specs.Good.{Good, GoodTxn, GoodLock, GoodQuota, GoodVersions}
 use Rattle.rules.proofs.Tests.{or-cases, false-is}
 use Rattle.rules.proofs.Bits.{bit-none}
 use Rattle.rules.proofs.Rows.{length-mapRows, row-mapRows}
 use Rattle.rules.proofs.EqualRows.{live-number}
+use Rattle.rules.proofs.Quotas.{free-quota}
 use Rattle.rules.proofs.Carried.{free-row}
 use Rattle.rules.proofs.Walks.{waits-for→}
 
@@ -140,6 +141,7 @@ module _ (S : Sizes) (room : 1 ≤ S .places) where
         txnGood = λ s i. subst (λ (r : Txn). GoodTxn S ((fresh S) .txns) ((fresh S) .locks) s r) (sym (txn-free s)) (free-row S ((fresh S) .txns) ((fresh S) .locks) s);
         distinct = λ r s i j d h. absurd (not-live s h);
         lockGood = λ x i. subst (λ (h : Lock). GoodLock S ((fresh S) .txns) h) (sym (lock-free x)) free-lock;
+        quotaGood = λ s i. subst (λ (r : Txn). GoodQuota S ((fresh S) .locks) s r) (sym (txn-free s)) (free-quota S ((fresh S) .locks) s);
         versionsGood = λ x i. subst (λ (r : List ℕ). GoodVersions S ((fresh S) .txns) r) (sym (fresh-row S x i)) (first-row (behindCount S x) (fresh-row-zero S x));
         noCircle = λ a w. no-walk w;
       }

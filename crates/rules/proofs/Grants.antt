@@ -1,21 +1,22 @@
 -- A grant leaves good tables: the awaited fields cleared, then the lock of one item changed for the caller alone. Assumes nothing.
-use Prim.Native.Nat.{ℕ, suc, _<_}
-use mathlib.Core.Path.{_≡_, sym, ap, _∙_, subst}
+use Prim.Native.Nat.{ℕ, suc, _≤_, _<_}
+use mathlib.Core.Path.{_≡_, refl, sym, ap, _∙_, subst}
 use mathlib.Core.Logic.{_≢_, _⊎_, inl, inr}
-use mathlib.Core.Bool.{Bool, false, _&&_, _||_}
+use mathlib.Core.Bool.{Bool, true, false, _&&_, _||_}
 use mathlib.Core.List.{List}
 use native.Mathlib.Omega.{arith}
 use lib.Dec.{T, eqb, eqb→eq}
 use Rattle.names.specs.declared.Sizes.{Sizes}
 use Rattle.rules.specs.Words.{bit, withBit, withoutBit}
-use Rattle.rules.specs.Tables.{Tables, tables, Txn, txn, liveUpdate, noLock, Lock, lock, setLock, holdsShared, holdsExclusive, holds}
+use Rattle.rules.specs.Tables.{Tables, tables, Txn, txn, liveUpdate, noLock, Lock, lock, setLock, holdsShared, holdsExclusive, holds, exclusivesOf}
 use Rattle.rules.specs.Waits.{conflicts, waitsFor}
-use Rattle.rules.specs.Good.{Good, GoodTxn, GoodLock}
+use Rattle.rules.specs.Good.{Good, GoodTxn, GoodLock, GoodQuota}
 use Rattle.rules.specs.Step.{withTxns, cleared, locked, sharedToo, taken, replaced}
-use Rattle.rules.proofs.Tests.{and-left, and-right, and-both, or-cases, or-left, or-right, same?, is-false}
+use Rattle.rules.proofs.Tests.{and-left, and-right, and-both, or-cases, or-left, or-right, same?, is-false, true-is, false-is}
 use Rattle.rules.proofs.Bits.{withBit-there, withoutBit-here, withoutBit-there, no-bits}
 use Rattle.rules.proofs.Views.{lock-setLock, lock-setLock-other, length-setLock}
 use Rattle.rules.proofs.Carried.{NoMore, no-more-same, txn-carried, lock-carried}
+use Rattle.rules.proofs.Quotas.{exclusives-fewer, exclusives-one-more, quota-carried}
 use Rattle.rules.proofs.Walks.{waits-for→, →waits-for}
 use Rattle.rules.proofs.Deadlock.{grant-no-circle}
 use Rattle.rules.proofs.Awaits.{cleared-good, awaiting-here, awaiting-update}
@@ -31,9 +32,15 @@ conflicts-fewer k b h h′ n a = go (or-cases (holdsExclusive h′ b) (eqb k 2 &
         or-right (holdsExclusive h b) _
         (and-both (eqb k 2) _ (and-left (eqb k 2) _ c) (n .shared (and-right (eqb k 2) _ c)))
 
--- ---- the lock of item x becomes h′; slot s awaits nothing, and the other slots hold no more of it than before
+-- slot s holds the item x exclusively, or may take a further one
+abbrev pub Room : Sizes → List ℕ → ℕ → ℕ → Type 0
+Room S l s x = T (holdsExclusive (lock l x) s) ⊎ (exclusivesOf S l s ≢ S .quota)
+
+-- ---- the lock of item x becomes h′; slot s awaits nothing, and has room where it holds the item exclusively now and did not before; the
+-- other slots hold no more of it than before
 module _ (S : Sizes) (G : Tables) (g : Good S G) (s x : ℕ) (known : x < S .items) (idle : (txn (G .txns) s) .awaitedLock ≡ noLock)
-    (h′ : Lock) (good′ : GoodLock S (G .txns) h′) (others : (r : ℕ) → r ≢ s → NoMore r (lock (G .locks) x) h′) where
+    (h′ : Lock) (good′ : GoodLock S (G .txns) h′) (others : (r : ℕ) → r ≢ s → NoMore r (lock (G .locks) x) h′)
+    (room : T (holdsExclusive h′ s) → Room S (G .locks) s x) where
   abbrev t : List ℕ
   t = G .txns
 
@@ -66,6 +73,38 @@ module _ (S : Sizes) (G : Tables) (g : Good S G) (s x : ℕ) (known : x < S .ite
       go (inl e) = subst (λ (o : Lock). GoodLock S t o) (sym (ap (lock l′) e ∙ here)) good′
       go (inr d) = subst (λ (o : Lock). GoodLock S t o) (sym (there y d)) (g .lockGood y i)
 
+  -- what slot s holds exclusively of an item, it held before, but perhaps of x
+  mine-there : (y : ℕ) → y ≢ x → T (holdsExclusive (lock l′ y) s) → T (holdsExclusive (lock l y) s)
+  mine-there y d h = subst (λ (o : Lock). T (holdsExclusive o s)) (there y d) h
+
+  most : exclusivesOf S l s ≤ S .quota → exclusivesOf S l′ s ≤ S .quota
+  most q = go (holdsExclusive h′ s) refl
+    where
+      no-more : (T (holdsExclusive h′ s) → T (holdsExclusive (lock l x) s)) → exclusivesOf S l′ s ≤ S .quota
+      no-more f = omega (arith, exclusives-fewer S l l′ s (λ y i. pick y (same? y x)))
+        where
+          pick : (y : ℕ) → (y ≡ x) ⊎ (y ≢ x) → T (holdsExclusive (lock l′ y) s) → T (holdsExclusive (lock l y) s)
+          pick y (inl e) h = subst (λ (z : ℕ). T (holdsExclusive (lock l z) s)) (sym e) (f (subst (λ (o : Lock). T (holdsExclusive o s)) (ap (lock l′) e ∙ here) h))
+          pick y (inr d) h = mine-there y d h
+
+      by : T (holdsExclusive (lock l x) s) ⊎ (exclusivesOf S l s ≢ S .quota) → exclusivesOf S l′ s ≤ S .quota
+      by (inl h) = no-more (λ k. h)
+      by (inr d) = omega (arith, exclusives-one-more S l l′ s x (λ y i e. mine-there y e))
+
+      go : (b : Bool) → holdsExclusive h′ s ≡ b → exclusivesOf S l′ s ≤ S .quota
+      go true e = by (room (true-is e))
+      go false e = no-more (λ h. absurd (false-is e h))
+
+  quotas : (r : ℕ) → r < S .slots → GoodQuota S l′ r (txn t r)
+  quotas r i = go (same? r s)
+    where
+      mine : s < S .slots → GoodQuota S l′ s (txn t s)
+      mine j = record { most = λ u. most (g .quotaGood s j .most u); fullIdle = λ u e d. absurd (let z = idle in omega arith) }
+
+      go : (r ≡ s) ⊎ (r ≢ s) → GoodQuota S l′ r (txn t r)
+      go (inl e) = subst (λ (m : ℕ). GoodQuota S l′ m (txn t m)) (sym e) (mine (omega arith))
+      go (inr d) = quota-carried S l l′ r (txn t r) (exclusives-fewer S l l′ r (λ y k. fewer r d y .exclusive)) (g .quotaGood r i)
+
   links : (a b : ℕ) → b ≢ s → T (waitsFor t l′ a b) → T (waitsFor t l a b)
   links a b d h =
       let w = waits-for→ t l′ a b h in
@@ -82,6 +121,7 @@ module _ (S : Sizes) (G : Tables) (g : Good S G) (s x : ℕ) (known : x < S .ite
         txnGood = rows;
         distinct = g .distinct;
         lockGood = locks;
+        quotaGood = quotas;
         versionsGood = g .versionsGood;
         noCircle = grant-no-circle S G g s t l′ (λ b h. waits-for→ t l′ s b h .0 idle) links;
       }
@@ -154,10 +194,11 @@ module _ (S : Sizes) (t : List ℕ) (h : Lock) (g : GoodLock S t h) (s : ℕ) (i
 -- ---- the whole grant to the update in slot s: the lock h′ on item x
 pub locked-good :
     (S : Sizes) (G : Tables) → Good S G → (s x : ℕ) → s < S .slots → T (liveUpdate (txn (G .txns) s)) → x < S .items → (h′ : Lock)
-    → GoodLock S (G .txns) h′ → ((r : ℕ) → r ≢ s → NoMore r (lock (G .locks) x) h′) → Good S (locked s x h′ G)
+    → GoodLock S (G .txns) h′ → ((r : ℕ) → r ≢ s → NoMore r (lock (G .locks) x) h′) → (T (holdsExclusive h′ s) → Room S (G .locks) s x)
+    → Good S (locked s x h′ G)
 unfolding locked cleared
-locked-good S G g s x inside update known h′ good′ others =
+locked-good S G g s x inside update known h′ good′ others room =
     relocked-good S (withTxns G (cleared (G .txns) s)) (cleared-good S G g s inside update) s x known
     (ap (λ (w : Txn). w .awaitedLock) (awaiting-here S (G .txns) (g .txnsExact) s noLock 0 inside)) h′
     (lock-carried S (G .txns) (cleared (G .txns) s) h′ (λ r a u. subst T (sym (awaiting-update S (G .txns) (g .txnsExact) s noLock 0 inside r)) u) good′)
-    others
+    others room

@@ -13,12 +13,13 @@ use Rattle.rules.specs.Words.{bit, withoutBit, row}
 use Rattle.rules.specs.Tables.{Tables, tables, txnWords, versionWords, versionRow, lastNumber, clock, Txn, txn, setTxn, noTxn, live}
 use Rattle.rules.specs.Tables.{liveUpdate, noLock, Lock, lock, holdsShared, holdsExclusive, holds, released, release}
 use Rattle.rules.specs.Waits.{waitsFor}
-use Rattle.rules.specs.Good.{Good, GoodTxn, GoodLock, GoodVersions}
+use Rattle.rules.specs.Good.{Good, GoodTxn, GoodLock, GoodQuota, GoodVersions}
 use Rattle.rules.proofs.Tests.{or-cases, or-left, same?, false-is}
 use Rattle.rules.proofs.Bits.{withoutBit-here, withoutBit-there, bit-none, no-bits}
 use Rattle.rules.proofs.Views.{length-setTxn, lastNumber-setTxn, clock-setTxn, txn-setTxn, txn-setTxn-other, lock-release, length-release}
 use Rattle.rules.proofs.EqualRows.{live-number}
 use Rattle.rules.proofs.Carried.{free-row, NoMore, no-more-same, no-more-holds, txn-carried, lock-carried}
+use Rattle.rules.proofs.Quotas.{exclusives-fewer, free-quota, quota-carried}
 use Rattle.rules.proofs.Walks.{waits-for→, →waits-for, waiter-within}
 use Rattle.rules.proofs.Deadlock.{fewer-no-circle}
 use Rattle.rules.proofs.Grants.{conflicts-fewer}
@@ -123,6 +124,7 @@ module _ (S : Sizes) (G : Tables) (g : Good S G) (s : ℕ) where
         txnGood = λ r i. txn-carried S t t l l′ r (txn t r) (omega arith) (omega arith) (λ d. fewer r _ (g .txnGood r i .itemKnown d)) (g .txnGood r i);
         distinct = g .distinct;
         lockGood = λ x i. subst (λ (o : Lock). GoodLock S t o) (sym (freed x i)) (released-lock s (lock l x) S t (g .lockGood x i));
+        quotaGood = λ r i. quota-carried S l l′ r (txn t r) (exclusives-fewer S l l′ r (λ x k. fewer r x k .exclusive)) (g .quotaGood r i);
         versionsGood = g .versionsGood;
         noCircle = fewer-no-circle S G g t l′ links;
       }
@@ -169,6 +171,13 @@ module _
             subst (λ (w : Txn). GoodTxn S t′ (G .locks) r w) (sym (there r d))
             (txn-carried S t₀ t′ (G .locks) (G .locks) r (txn t₀ r) (let a = last′ in omega arith) (let a = clock′ in omega arith) (λ w. no-more-same r refl) (g .txnGood r i))
 
+    quotas : (r : ℕ) → r < S .slots → GoodQuota S (G .locks) r (txn t′ r)
+    quotas r i = go (same? r s)
+      where
+        go : (r ≡ s) ⊎ (r ≢ s) → GoodQuota S (G .locks) r (txn t′ r)
+        go (inl e) = subst (λ (w : Txn). GoodQuota S (G .locks) r w) (sym (ap (txn t′) e ∙ here)) (free-quota S (G .locks) r)
+        go (inr d) = subst (λ (w : Txn). GoodQuota S (G .locks) r w) (sym (there r d)) (g .quotaGood r i)
+
     apart : (a b : ℕ) → a < S .slots → b < S .slots → a ≢ b → T (live (txn t′ b)) → (txn t′ a) .number ≢ (txn t′ b) .number
     apart a b i j d h = go (same? a s)
       where
@@ -201,6 +210,7 @@ module _
           distinct = apart;
           lockGood = λ x i. lock-carried S t₀ t′ (lock (G .locks) x)
               (λ r h q. subst (λ (w : Txn). T (liveUpdate w)) (sym (there r (λ e. empty x i (subst (λ (m : ℕ). T (holds (lock (G .locks) x) m)) e h)))) q) (g .lockGood x i);
+          quotaGood = quotas;
           versionsGood = rows′;
           noCircle = fewer-no-circle S G g t′ (G .locks) links′;
         }

@@ -18,6 +18,7 @@ pub mod Equal
 pub mod Carried
 pub mod Deadlock
 pub mod Begins
+pub mod Quotas
 pub mod Awaits
 pub mod Grants
 pub mod Leaves
@@ -35,6 +36,7 @@ pub mod Changes
 pub mod ChangedVersions
 pub mod Outcomes
 pub mod Calls
+pub mod Spent
 pub mod Queries
 pub mod Ways
 pub mod Bounded

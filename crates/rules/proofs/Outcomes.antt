@@ -17,8 +17,8 @@ use Rattle.rules.specs.Tested.{good}
 use Rattle.rules.specs.Locks.{toRead, toWrite, Decision, decision}
 use Rattle.rules.specs.Answers.{Call, beginUpdate, beginQuery, read, write, commit, abort, Outcome, says, granted, code, Refusal, refuses}
 use Rattle.rules.specs.Answers.{wait, deadlock, unknownTransaction, unknownItem, queryMayNotWrite, stillWaiting}
-use Rattle.rules.specs.Answers.{noSlot, numbersSpent, clockSpent, badTables}
-use Rattle.rules.specs.Step.{step, act, begin, begun, readBy, writeBy, commitBy, abortBy, queryRead, access, carriedOut, conflicted, awaitsOther}
+use Rattle.rules.specs.Answers.{noSlot, numbersSpent, clockSpent, badTables, quotaSpent}
+use Rattle.rules.specs.Step.{step, act, begin, begun, readBy, writeBy, commitBy, abortBy, queryRead, access, carriedOut, conflicted, awaitsOther, writesFurther}
 use Rattle.rules.specs.Step.{withTxns, withLocks, locked, replaced, sharedToo, taken, committed, ended, aborted}
 use Rattle.rules.proofs.Tests.{or-left, or-right, true-is}
 use Rattle.rules.proofs.Equal.{good→Good}
@@ -193,8 +193,9 @@ module _ (S : Sizes) (enough : S .slots ≤ S .places) (G : Tables) (g : Good S 
       by-cond c (leb (S .items) x) _ _ (λ f. refused c unknownItem (omega arith) G) (λ f.
       by-cond c (eqb ((txn (G .txns) s) .kind) aQuery) _ _ (λ q. refused c queryMayNotWrite (omega arith) G) (λ q.
       by-cond c (awaitsOther (G .txns) s exclusiveLock x) _ _ (λ w. refused c stillWaiting (omega arith) G) (λ w.
+      by-cond c (writesFurther S (G .locks) s x) _ _ (λ m. refused c quotaSpent (omega arith) G) (λ m.
       update-writes n x s
-      (record { caller = C; update = is-update S G g s (C .inside) (C .alive) q; known = leb-false (S .items) x f }) v w))))
+      (record { caller = C; update = is-update S G g s (C .inside) (C .alive) q; known = leb-false (S .items) x f }) v w)))))
     where
       c : Call
       c = write n x v

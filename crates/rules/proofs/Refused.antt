@@ -15,8 +15,8 @@ use Rattle.rules.specs.Locks.{Asked, toRead, toWrite, wanted, decision}
 use Rattle.rules.specs.Locks.{Decision, ownValue, replaceValue, newestValue, exchangeLock, takeShared, takeExclusive, conflict}
 use Rattle.rules.specs.Answers.{Call, beginUpdate, beginQuery, read, write, commit, abort, granted, code, Refusal, Outcome, refuses}
 use Rattle.rules.specs.Answers.{wait, deadlock, unknownTransaction, unknownItem, queryMayNotWrite, stillWaiting}
-use Rattle.rules.specs.Answers.{noSlot, numbersSpent, clockSpent, badTables}
-use Rattle.rules.specs.Step.{step, act, begin, readBy, writeBy, commitBy, abortBy, access, carriedOut, conflicted, awaitsOther, queryRead, withTxns}
+use Rattle.rules.specs.Answers.{noSlot, numbersSpent, clockSpent, badTables, quotaSpent}
+use Rattle.rules.specs.Step.{step, act, begin, readBy, writeBy, commitBy, abortBy, access, carriedOut, conflicted, awaitsOther, writesFurther, queryRead, withTxns}
 use Rattle.rules.specs.Conditions.{CallerIn, Wants}
 use Rattle.rules.proofs.Steps.{cond-case}
 use Rattle.rules.proofs.Callers.{caller-is}
@@ -93,7 +93,8 @@ module _ (S : Sizes) (G : Tables) where
       (λ e. by-cond S c G (leb (S .items) x) _ _ (λ f. refuse S c G unknownItem (omega arith))
       (λ f. by-cond S c G (eqb ((txn (G .txns) s) .kind) aQuery) _ _ (λ q. refuse S c G queryMayNotWrite (omega arith))
       (λ q. by-cond S c G (awaitsOther (G .txns) s exclusiveLock x) _ _ (λ h. refuse S c G stillWaiting (omega arith))
-      (λ h. access-ends S c G toWrite s x v (caller-is S G c n refl e) (refl, refl)))))
+      (λ h. by-cond S c G (writesFurther S (G .locks) s x) _ _ (λ m. refuse S c G quotaSpent (omega arith))
+      (λ m. access-ends S c G toWrite s x v (caller-is S G c n refl e) (refl, refl))))))
     where
       c : Call
       c = write n x v

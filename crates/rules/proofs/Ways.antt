@@ -1,6 +1,6 @@
 -- Every way that a call can go on good tables, with what is known then: one constructor for each answer and change of the tables. Each
 -- theorem about runs is then a case for each way. Assumes nothing.
-use Prim.Native.Nat.{ℕ, _+_, _<_}
+use Prim.Native.Nat.{ℕ, _+_, _≤_, _<_}
 use mathlib.Core.Path.{_≡_}
 use mathlib.Core.Logic.{_≢_}
 use mathlib.Core.Bool.{not}
@@ -17,8 +17,8 @@ use Rattle.rules.specs.Waits.{circleAt}
 use Rattle.rules.specs.Good.{Good}
 use Rattle.rules.specs.Locks.{Asked, toRead, toWrite, Decision, decision, wanted}
 use Rattle.rules.specs.Answers.{Call, beginUpdate, beginQuery, read, write, commit, abort, Outcome, says, granted, refuses, code, Refusal}
-use Rattle.rules.specs.Answers.{wait, deadlock, unknownTransaction, unknownItem, queryMayNotWrite, stillWaiting, noSlot, numbersSpent, clockSpent, badTables}
-use Rattle.rules.specs.Step.{withTxns, begun, begin, conflicted, cleared, locked, replaced, sharedToo, taken, awaitsOther, carriedOut, access}
+use Rattle.rules.specs.Answers.{wait, deadlock, unknownTransaction, unknownItem, queryMayNotWrite, stillWaiting, noSlot, numbersSpent, clockSpent, badTables, quotaSpent}
+use Rattle.rules.specs.Step.{withTxns, begun, begin, conflicted, cleared, locked, replaced, sharedToo, taken, awaitsOther, writesFurther, carriedOut, access}
 use Rattle.rules.specs.Step.{queryRead, readBy, writeBy, committed, ended, commitBy, aborted, abortBy, act}
 use Rattle.rules.proofs.Tests.{or-right}
 use Rattle.rules.proofs.Steps.{cond-case}
@@ -38,6 +38,21 @@ refusal-code noSlot e = omega arith
 refusal-code numbersSpent e = omega arith
 refusal-code clockSpent e = omega arith
 refusal-code badTables e = omega arith
+refusal-code quotaSpent e = omega arith
+
+-- and none has a code above the last one
+pub refusal-most : (r : Refusal) → code r ≤ code quotaSpent
+refusal-most wait = omega arith
+refusal-most deadlock = omega arith
+refusal-most unknownTransaction = omega arith
+refusal-most unknownItem = omega arith
+refusal-most queryMayNotWrite = omega arith
+refusal-most stillWaiting = omega arith
+refusal-most noSlot = omega arith
+refusal-most numbersSpent = omega arith
+refusal-most clockSpent = omega arith
+refusal-most badTables = omega arith
+refusal-most quotaSpent = omega arith
 
 -- the update n in slot s asks for the item x
 pub record Updater (S : Sizes) (G : Tables) (n s x : ℕ) : Type 0 where
@@ -46,7 +61,7 @@ pub record Updater (S : Sizes) (G : Tables) (n s x : ℕ) : Type 0 where
   pub known : x < S .items
 
 pub data Way (S : Sizes) (G : Tables) : Call → Outcome → Type 0 where
-  refused : {c : Call} (r : Refusal) → code r < code badTables → Way S G c (refuses r G)
+  refused : {c : Call} (r : Refusal) → code r ≢ code badTables → Way S G c (refuses r G)
   waited :
       {c : Call} (s k x : ℕ) → s < S .slots → T (liveUpdate (txn (G .txns) s))
       → Way S G c (refuses wait (withTxns G (setAwaited (G .txns) s k x)))
@@ -91,13 +106,13 @@ module _ (S : Sizes) (G : Tables) (g : Good S G) where
       → ((s : ℕ) → Free S t s → Way S G c (says granted 0 (lastNumber t + 1) 0 (begun k q s G))) → Way S G c (begin S k q G)
   unfolding begin
   begin-way c k q f =
-      cond-case (Way S G c) (eqb (freeSlot S t) (S .slots)) _ _ (λ e. refused noSlot (omega arith))
-      (λ e. cond-case (Way S G c) (eqb (lastNumber t) lastWord) _ _ (λ h. refused numbersSpent (omega arith)) (λ h. f (freeSlot S t) (free-found S t e)))
+      cond-case (Way S G c) (eqb (freeSlot S t) (S .slots)) _ _ (λ e. refused noSlot (λ z. omega arith))
+      (λ e. cond-case (Way S G c) (eqb (lastNumber t) lastWord) _ _ (λ h. refused numbersSpent (λ z. omega arith)) (λ h. f (freeSlot S t) (free-found S t e)))
 
   conflict-way : (c : Call) (s k x : ℕ) → s < S .slots → T (liveUpdate (txn t s)) → Way S G c (conflicted S s k x G)
   unfolding conflicted
   conflict-way c s k x i u =
-      cond-case (Way S G c) (circleAt S (setAwaited t s k x) l s) _ _ (λ e. refused deadlock (omega arith)) (λ e. waited s k x i u)
+      cond-case (Way S G c) (circleAt S (setAwaited t s k x) l s) _ _ (λ e. refused deadlock (λ z. omega arith)) (λ e. waited s k x i u)
 
   abbrev asked : Asked → ℕ → ℕ → ℕ → Call
   asked toRead n x v = read n x
@@ -125,10 +140,10 @@ module _ (S : Sizes) (G : Tables) (g : Good S G) where
   read-way n x =
       let W = Way S G (read n x) in
       let s = slotOf S t n in
-      cond-case W (eqb s (S .slots)) _ _ (λ e. refused unknownTransaction (omega arith))
+      cond-case W (eqb s (S .slots)) _ _ (λ e. refused unknownTransaction (λ z. omega arith))
       (λ e. let C = caller-in S G n e in
-      cond-case W (leb (S .items) x) _ _ (λ f. refused unknownItem (omega arith))
-      (λ f. cond-case W (awaitsOther t s sharedLock x) _ _ (λ h. refused stillWaiting (omega arith))
+      cond-case W (leb (S .items) x) _ _ (λ f. refused unknownItem (λ z. omega arith))
+      (λ f. cond-case W (awaitsOther t s sharedLock x) _ _ (λ h. refused stillWaiting (λ z. omega arith))
       (λ h. cond-case W (eqb ((txn t s) .kind) aQuery) _ _
       (λ k. readQuery n s x C (is-query t s (C .alive) k) (leb-false (S .items) x f))
       (λ k. access-way n s x 0 (record { caller = C; update = is-update S G g s (C .inside) (C .alive) k; known = leb-false (S .items) x f }) toRead))))
@@ -138,23 +153,24 @@ module _ (S : Sizes) (G : Tables) (g : Good S G) where
   write-way n x v =
       let W = Way S G (write n x v) in
       let s = slotOf S t n in
-      cond-case W (eqb s (S .slots)) _ _ (λ e. refused unknownTransaction (omega arith))
+      cond-case W (eqb s (S .slots)) _ _ (λ e. refused unknownTransaction (λ z. omega arith))
       (λ e. let C = caller-in S G n e in
-      cond-case W (leb (S .items) x) _ _ (λ f. refused unknownItem (omega arith))
-      (λ f. cond-case W (eqb ((txn t s) .kind) aQuery) _ _ (λ k. refused queryMayNotWrite (omega arith))
-      (λ k. cond-case W (awaitsOther t s exclusiveLock x) _ _ (λ h. refused stillWaiting (omega arith))
-      (λ h. access-way n s x v (record { caller = C; update = is-update S G g s (C .inside) (C .alive) k; known = leb-false (S .items) x f }) toWrite))))
+      cond-case W (leb (S .items) x) _ _ (λ f. refused unknownItem (λ z. omega arith))
+      (λ f. cond-case W (eqb ((txn t s) .kind) aQuery) _ _ (λ k. refused queryMayNotWrite (λ z. omega arith))
+      (λ k. cond-case W (awaitsOther t s exclusiveLock x) _ _ (λ h. refused stillWaiting (λ z. omega arith))
+      (λ h. cond-case W (writesFurther S l s x) _ _ (λ m. refused quotaSpent (λ z. omega arith))
+      (λ m. access-way n s x v (record { caller = C; update = is-update S G g s (C .inside) (C .alive) k; known = leb-false (S .items) x f }) toWrite)))))
 
   commit-way : (n : ℕ) → Way S G (commit n) (commitBy S n G)
   unfolding commitBy
   commit-way n =
       let W = Way S G (commit n) in
       let s = slotOf S t n in
-      cond-case W (eqb s (S .slots)) _ _ (λ e. refused unknownTransaction (omega arith))
+      cond-case W (eqb s (S .slots)) _ _ (λ e. refused unknownTransaction (λ z. omega arith))
       (λ e. let C = caller-in S G n e in
-      cond-case W (not (eqb ((txn t s) .awaitedLock) noLock)) _ _ (λ f. refused stillWaiting (omega arith))
+      cond-case W (not (eqb ((txn t s) .awaitedLock) noLock)) _ _ (λ f. refused stillWaiting (λ z. omega arith))
       (λ f. cond-case W (eqb ((txn t s) .kind) aQuery) _ _ (λ k. committedQuery n s C (is-query t s (C .alive) k))
-      (λ k. cond-case W (eqb (clock t) lastWord) _ _ (λ h. refused clockSpent (omega arith))
+      (λ k. cond-case W (eqb (clock t) lastWord) _ _ (λ h. refused clockSpent (λ z. omega arith))
       (λ h. committedUpdate n s C (is-update S G g s (C .inside) (C .alive) k)))))
 
   abort-way : (n : ℕ) → Way S G (abort n) (abortBy S n G)
@@ -162,7 +178,7 @@ module _ (S : Sizes) (G : Tables) (g : Good S G) where
   abort-way n =
       let W = Way S G (abort n) in
       let s = slotOf S t n in
-      cond-case W (eqb s (S .slots)) _ _ (λ e. refused unknownTransaction (omega arith))
+      cond-case W (eqb s (S .slots)) _ _ (λ e. refused unknownTransaction (λ z. omega arith))
       (λ e. let C = caller-in S G n e in
       cond-case W (eqb ((txn t s) .kind) aQuery) _ _ (λ k. abortedQuery n s C (is-query t s (C .alive) k))
       (λ k. abortedUpdate n s C (is-update S G g s (C .inside) (C .alive) k)))
@@ -177,19 +193,19 @@ module _ (S : Sizes) (G : Tables) (g : Good S G) where
   way (abort n) = abort-way n
 
 -- on good tables code 10 does not come
-pub way-code : (S : Sizes) (G : Tables) (c : Call) (o : Outcome) → Way S G c o → o .answer .code < code badTables
+pub way-code : (S : Sizes) (G : Tables) (c : Call) (o : Outcome) → Way S G c o → o .answer .code ≢ code badTables
 unfolding queryRead
 way-code S G c o (refused r l) = l
-way-code S G c o (waited s k x i u) = omega arith
-way-code S G c o (beganUpdate s free) = omega arith
-way-code S G c o (beganQuery s free) = omega arith
-way-code S G c o (readOwn n s x U h) = omega arith
-way-code S G c o (readNewest n s x U h) = omega arith
-way-code S G c o (readShared n s x U h) = omega arith
-way-code S G c o (readQuery n s x C q b) = omega arith
-way-code S G c o (wroteOwn n s x v U h) = omega arith
-way-code S G c o (wroteTaken n s x v U h) = omega arith
-way-code S G c o (committedUpdate n s C u) = omega arith
-way-code S G c o (committedQuery n s C q) = omega arith
-way-code S G c o (abortedUpdate n s C u) = omega arith
-way-code S G c o (abortedQuery n s C q) = omega arith
+way-code S G c o (waited s k x i u) = λ z. omega arith
+way-code S G c o (beganUpdate s free) = λ z. omega arith
+way-code S G c o (beganQuery s free) = λ z. omega arith
+way-code S G c o (readOwn n s x U h) = λ z. omega arith
+way-code S G c o (readNewest n s x U h) = λ z. omega arith
+way-code S G c o (readShared n s x U h) = λ z. omega arith
+way-code S G c o (readQuery n s x C q b) = λ z. omega arith
+way-code S G c o (wroteOwn n s x v U h) = λ z. omega arith
+way-code S G c o (wroteTaken n s x v U h) = λ z. omega arith
+way-code S G c o (committedUpdate n s C u) = λ z. omega arith
+way-code S G c o (committedQuery n s C q) = λ z. omega arith
+way-code S G c o (abortedUpdate n s C u) = λ z. omega arith
+way-code S G c o (abortedQuery n s C q) = λ z. omega arith

@@ -25,7 +25,7 @@ says c v n k G = record { answer = record { code = c; value = v; number = n; loo
 
 -- ---- the column "code": 0 granted, and
 pub data Refusal : Type 0 where
-  wait deadlock unknownTransaction unknownItem queryMayNotWrite stillWaiting noSlot numbersSpent clockSpent badTables : Refusal
+  wait deadlock unknownTransaction unknownItem queryMayNotWrite stillWaiting noSlot numbersSpent clockSpent badTables quotaSpent : Refusal
 
 abbrev pub granted : ℕ
 granted = 0
@@ -41,6 +41,8 @@ code noSlot = 7
 code numbersSpent = 8
 code clockSpent = 9
 code badTables = 10
+-- request E2, "gets new code 11"
+code quotaSpent = 11
 
 -- "What is not named is 0."
 abbrev pub refuses : Refusal → Tables → Outcome

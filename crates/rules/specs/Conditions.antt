@@ -8,12 +8,12 @@ use lib.Dec.{T}
 use Rattle.names.specs.declared.Sizes.{Sizes}
 use Rattle.names.specs.Sizes.{lastWord}
 use Rattle.rules.specs.Tables.{Tables, lastNumber, clock, txn, setAwaited, noLock, sharedLock, exclusiveLock}
-use Rattle.rules.specs.Tables.{live, liveUpdate, liveQuery, lock}
+use Rattle.rules.specs.Tables.{live, liveUpdate, liveQuery, lock, holdsExclusive, exclusivesOf}
 use Rattle.rules.specs.Waits.{blocks, waitsFor, Walk}
 use Rattle.rules.specs.Good.{Good}
 use Rattle.rules.specs.Answers.{Call, beginUpdate, beginQuery, read, write, commit, abort, granted, code, Refusal}
 use Rattle.rules.specs.Answers.{wait, deadlock, unknownTransaction, unknownItem, queryMayNotWrite, stillWaiting}
-use Rattle.rules.specs.Answers.{noSlot, numbersSpent, clockSpent, badTables}
+use Rattle.rules.specs.Answers.{noSlot, numbersSpent, clockSpent, badTables, quotaSpent}
 
 -- the call names the transaction n
 abbrev pub Names : Call → ℕ → Type 0
@@ -77,13 +77,18 @@ When S c G numbersSpent = lastNumber (G .txns) ≡ lastWord
 When S c G clockSpent = (s : ℕ) × CallerIn c S G s × T (liveUpdate (txn (G .txns) s)) × (clock (G .txns) ≡ lastWord)
 -- "tables not good"
 When S c G badTables = Good S G → ⊥
+-- request E2: "An update that holds 32 items exclusively and writes a further one"
+When S c G quotaSpent =
+    (s : ℕ) × (x : ℕ) × CallerIn c S G s × T (liveUpdate (txn (G .txns) s)) × Wants c exclusiveLock x
+    × (exclusivesOf S (G .locks) s ≡ S .quota) × (T (holdsExclusive (lock (G .locks) x) s) → ⊥)
 
 -- ---- "Order: 10; then for begin 7, 8; for read and write 3, 4, 5, 6, then 2 or 1; for commit 3, 6, 9; for abort 3."
+-- Request E2: the test of 11 "comes after 6 and before the conflict."
 unfoldable pub order : Call → List Refusal
 order beginUpdate = badTables ∷ noSlot ∷ numbersSpent ∷ []
 order beginQuery = badTables ∷ noSlot ∷ numbersSpent ∷ []
-order (read n x) = badTables ∷ unknownTransaction ∷ unknownItem ∷ queryMayNotWrite ∷ stillWaiting ∷ deadlock ∷ wait ∷ []
-order (write n x v) = badTables ∷ unknownTransaction ∷ unknownItem ∷ queryMayNotWrite ∷ stillWaiting ∷ deadlock ∷ wait ∷ []
+order (read n x) = badTables ∷ unknownTransaction ∷ unknownItem ∷ queryMayNotWrite ∷ stillWaiting ∷ quotaSpent ∷ deadlock ∷ wait ∷ []
+order (write n x v) = badTables ∷ unknownTransaction ∷ unknownItem ∷ queryMayNotWrite ∷ stillWaiting ∷ quotaSpent ∷ deadlock ∷ wait ∷ []
 order (commit n) = badTables ∷ unknownTransaction ∷ stillWaiting ∷ clockSpent ∷ []
 order (abort n) = badTables ∷ unknownTransaction ∷ []
 

@@ -11,7 +11,7 @@ use Rattle.names.specs.Sizes.{lastWord}
 use Rattle.rules.specs.Words.{row}
 use Rattle.rules.specs.Tables.{Tables, txnWords, lockWords, versionWords, versionRow}
 use Rattle.rules.specs.Tables.{lastNumber, clock, Txn, txn, noTxn, live, liveUpdate, liveQuery}
-use Rattle.rules.specs.Tables.{anUpdate, aQuery, noLock, sharedLock, exclusiveLock, Lock, lock, holds, holdsExclusive}
+use Rattle.rules.specs.Tables.{anUpdate, aQuery, noLock, sharedLock, exclusiveLock, Lock, lock, holds, holdsExclusive, exclusivesOf}
 use Rattle.rules.specs.Versions.{versionsIn, stampAt, place}
 use Rattle.rules.specs.Waits.{waitsFor, Walk}
 
@@ -43,6 +43,13 @@ pub record GoodLock (S : Sizes) (t : List ℕ) (h : Lock) : Type 0 where
   pub neverBoth : (h .shared ≡ 0) ⊎ (h .exclusive ≡ 0)
   -- "without an exclusive holder the working value is 0"
   pub noWorking : h .exclusive ≡ 0 → h .working ≡ 0
+
+-- ---- request E2: the clauses on what slot s, with the row r, holds exclusively
+pub record GoodQuota (S : Sizes) (l : List ℕ) (s : ℕ) (r : Txn) : Type 0 where
+  -- "Good tables show at most 32 for each update"
+  pub most : T (liveUpdate r) → exclusivesOf S l s ≤ S .quota
+  -- "and one with 32 awaits no exclusive lock"
+  pub fullIdle : T (liveUpdate r) → exclusivesOf S l s ≡ S .quota → r .awaitedLock ≢ exclusiveLock
 
 -- ---- the clauses on the words r of an item's version row
 pub record GoodVersions (S : Sizes) (t r : List ℕ) : Type 0 where
@@ -77,6 +84,8 @@ pub record Good (S : Sizes) (G : Tables) : Type 0 where
       → (txn (G .txns) r) .number ≢ (txn (G .txns) s) .number
   -- "Lock holders are .."
   pub lockGood : (x : ℕ) → x < S .items → GoodLock S (G .txns) (lock (G .locks) x)
+  -- request E2: "Good tables show at most 32 for each update, .."
+  pub quotaGood : (s : ℕ) → s < S .slots → GoodQuota S (G .locks) s (txn (G .txns) s)
   -- "A version count is .."
   pub versionsGood : (x : ℕ) → x < S .items → GoodVersions S (G .txns) (row (versionRow S) x (G .versions))
   -- "No circle of waits exists."

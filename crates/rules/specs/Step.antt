@@ -8,7 +8,7 @@ use Rattle.names.specs.declared.Sizes.{Sizes}
 use Rattle.names.specs.Sizes.{lastWord}
 use Rattle.rules.specs.Words.{withBit, withoutBit}
 use Rattle.rules.specs.Tables.{Tables, tables, lastNumber, clock, txn, setTxn, setAwaited, noTxn, anUpdate, aQuery, noLock}
-use Rattle.rules.specs.Tables.{slotOf, freeSlot, starts, Lock, lock, setLock, holdsExclusive, release, sharedLock, exclusiveLock}
+use Rattle.rules.specs.Tables.{slotOf, freeSlot, starts, Lock, lock, setLock, holdsExclusive, exclusivesOf, release, sharedLock, exclusiveLock}
 use Rattle.rules.specs.Versions.{Version, versionsOf, newest, place, choice, rewritten}
 use Rattle.rules.specs.Waits.{circleAt}
 use Rattle.rules.specs.Tested.{good}
@@ -16,7 +16,7 @@ use Rattle.rules.specs.Locks.{Asked, toRead, toWrite, wanted, Decision, 
 use Rattle.rules.specs.Locks.{exchangeLock, takeShared, takeExclusive, conflict, decision}
 use Rattle.rules.specs.Answers.{Call, beginUpdate, beginQuery, read, write, commit, abort, Outcome, says, granted, refuses}
 use Rattle.rules.specs.Answers.{wait, deadlock, unknownTransaction, unknownItem, queryMayNotWrite, stillWaiting}
-use Rattle.rules.specs.Answers.{noSlot, numbersSpent, clockSpent, badTables}
+use Rattle.rules.specs.Answers.{noSlot, numbersSpent, clockSpent, badTables, quotaSpent}
 
 -- the tables with other words for the transactions; and for the locks
 abbrev pub withTxns : Tables → List ℕ → Tables
@@ -93,6 +93,11 @@ awaitsOther t s k x =
     not (eqb ((txn t s) .awaitedLock) noLock)
     && not (eqb ((txn t s) .awaitedLock) k && eqb ((txn t s) .awaitedItem) x)
 
+-- request E2, "An update that holds 32 items exclusively and writes a further one": slot s, item x. An item that it holds shared is a
+-- further one, an item that it holds exclusively is not
+unfoldable pub writesFurther : Sizes → List ℕ → ℕ → ℕ → Bool
+writesFurther S l s x = eqb (exclusivesOf S l s) (S .quota) && not (holdsExclusive (lock l x) s)
+
 -- ---- Read by a query
 -- "The value is that of the newest version whose stamp is at most its start. No lock, no wait. The looked count is the place of
 -- that version in its row, from 1."
@@ -102,7 +107,7 @@ queryRead S s x G =
     let vs = versionsOf S (G .versions) x in
     says granted ((choice q vs) .value) 0 (suc (place q vs)) G
 
--- "for read and write 3, 4, 5, 6, then 2 or 1"
+-- "for read and write 3, 4, 5, 6, then 2 or 1"; request E2: 11 "comes after 6 and before the conflict"
 unfoldable pub readBy : Sizes → ℕ → ℕ → Tables → Outcome
 readBy S n x G =
     let s = slotOf S (G .txns) n in
@@ -119,7 +124,8 @@ writeBy S n x v G =
     (cond (leb (S .items) x) (refuses unknownItem G)
     (cond (eqb ((txn (G .txns) s) .kind) aQuery) (refuses queryMayNotWrite G)
     (cond (awaitsOther (G .txns) s exclusiveLock x) (refuses stillWaiting G)
-    (access S toWrite s x v G))))
+    (cond (writesFurther S (G .locks) s x) (refuses quotaSpent G)
+    (access S toWrite s x v G)))))
 
 -- ---- Commit
 -- "For each item it holds exclusively the commit rewrites that item's row of 33 words with the new pair in front.": the versions

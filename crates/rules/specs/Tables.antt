@@ -6,7 +6,7 @@ use mathlib.Core.List.{List, [], _∷_}
 use lib.ListN.{getD, set, drop, replicate}
 use lib.Dec.{eqb}
 use Rattle.names.specs.declared.Sizes.{Sizes}
-use Rattle.rules.specs.Words.{firstFrom, mapRows, bit, withoutBit}
+use Rattle.rules.specs.Words.{countBelow, firstFrom, mapRows, bit, withoutBit}
 
 pub record Tables : Type 0 where
   pub txns : List ℕ
@@ -143,6 +143,10 @@ holdsExclusive h s = eqb (h .exclusive) (suc s)
 
 unfoldable pub holds : Lock → ℕ → Bool
 holds h s = holdsShared h s || holdsExclusive h s
+
+-- request E2, "holds 32 items exclusively": how many items slot s holds so
+unfoldable pub exclusivesOf : Sizes → List ℕ → ℕ → ℕ
+exclusivesOf S l s = countBelow (S .items) (λ x. holdsExclusive (lock l x) s)
 
 -- the words of a row as a lock, and back
 unfoldable pub lockIn : List ℕ → Lock

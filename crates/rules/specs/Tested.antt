@@ -9,7 +9,7 @@ use Rattle.names.specs.Sizes.{lastWord}
 use Rattle.rules.specs.Words.{implies, every, everyBelow, everyRow}
 use Rattle.rules.specs.Tables.{Tables, txnWords, lockWords, versionWords, versionRow}
 use Rattle.rules.specs.Tables.{lastNumber, clock, Txn, txn, live, liveUpdate, liveQuery, starts}
-use Rattle.rules.specs.Tables.{aQuery, noLock, sharedLock, exclusiveLock, Lock, lock, holds, holdsExclusive}
+use Rattle.rules.specs.Tables.{aQuery, noLock, sharedLock, exclusiveLock, Lock, lock, holds, holdsExclusive, exclusivesOf}
 use Rattle.rules.specs.Versions.{Version, versionsIn, stampAt, readBySome}
 use Rattle.rules.specs.Waits.{noCircle}
 
@@ -73,6 +73,18 @@ lockGood S t h =
     holdersLive S t h
     && ((eqb (h .shared) 0 || eqb (h .exclusive) 0) && implies (eqb (h .exclusive) 0) (eqb (h .working) 0))
 
+-- ---- request E2: what one slot holds exclusively, n items
+-- "at most 32 for each update"
+unfoldable pub quotaMost : Sizes → ℕ → Txn → Bool
+quotaMost S n r = implies (liveUpdate r) (leb n (S .quota))
+
+-- "and one with 32 awaits no exclusive lock"
+unfoldable pub fullIdle : Sizes → ℕ → Txn → Bool
+fullIdle S n r = implies (liveUpdate r && eqb n (S .quota)) (not (eqb (r .awaitedLock) exclusiveLock))
+
+unfoldable pub quotaGood : Sizes → List ℕ → ℕ → Txn → Bool
+quotaGood S l s r = quotaMost S (exclusivesOf S l s) r && fullIdle S (exclusivesOf S l s) r
+
 -- ---- one row of versions
 -- "stamps fall strictly"
 unfoldable pub falls : List Version → Bool
@@ -105,6 +117,7 @@ good S G =
     && (everyBelow (S .slots) (λ s. txnGood S (G .txns) (G .locks) s (txn (G .txns) s))
     && (distinct S (G .txns)
     && (everyBelow (S .items) (λ x. lockGood S (G .txns) (lock (G .locks) x))
+    && (everyBelow (S .slots) (λ s. quotaGood S (G .locks) s (txn (G .txns) s))
     && ((let qs = starts S (G .txns) in
     everyRow (S .items) (versionRow S) (λ x r. versionsGood S (clock (G .txns)) qs r) 0 (G .versions))
-    && noCircle S (G .txns) (G .locks))))))
+    && noCircle S (G .txns) (G .locks)))))))

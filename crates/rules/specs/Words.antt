@@ -19,6 +19,11 @@ unfoldable pub someBelow : ℕ → (ℕ → Bool) → Bool
 someBelow zero p = false
 someBelow (suc n) p = let rest = someBelow n p in p n || rest
 
+-- how many i below n pass
+unfoldable pub countBelow : ℕ → (ℕ → Bool) → ℕ
+countBelow zero p = 0
+countBelow (suc n) p = let rest = countBelow n p in cond (p n) (suc rest) rest
+
 -- the lowest of s, s + 1, .., s + n - 1 that passes, or s + n
 unfoldable pub firstFrom : (ℕ → Bool) → ℕ → ℕ → ℕ
 firstFrom p s zero = s

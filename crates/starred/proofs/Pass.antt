@@ -2,21 +2,22 @@
 use mathlib.Core.Bool.{Bool}
 use mathlib.Core.List.{List}
 use lib.Dec.{T}
-use Rattle.rules.specs.Words.{implies, everyBelow, someBelow, firstFrom, every, some, tabulateFrom, row, everyRow, mapRows, bit, withBit, withoutBit}
-use Rattle.rules.specs.Tables.{txn, setTxn, setAwaited, live, liveUpdate, liveQuery, slotOf, freeSlot, startsFrom, starts, lock, setLock, holdsShared, holdsExclusive, holds, lockIn, lockWordsOf, released, release, fresh}
+use Rattle.rules.specs.Words.{implies, everyBelow, someBelow, countBelow, firstFrom, every, some, tabulateFrom, row, everyRow, mapRows, bit, withBit, withoutBit}
+use Rattle.rules.specs.Tables.{txn, setTxn, setAwaited, live, liveUpdate, liveQuery, slotOf, freeSlot, startsFrom, starts, lock, setLock, holdsShared, holdsExclusive, holds, exclusivesOf, lockIn, lockWordsOf, released, release, fresh}
 use Rattle.rules.specs.Versions.{pairs, versionsIn, versionsOf, pairWords, rowOf, stampAt, newest, place, choice, readBySome, keptFrom, kept, rewritten}
 use Rattle.rules.specs.Waits.{conflicts, blocks, blocked, waitsFor, marked, spread, rounds, reached, circleAt, noCircle}
-use Rattle.rules.specs.Tested.{sizesExact, topsMost, freeZero, listed, startGood, awaitedGood, awaiterGood, txnGood, distinct, holdersLive, lockGood, falls, lastOld, allRead, versionsGood, good}
+use Rattle.rules.specs.Tested.{sizesExact, topsMost, freeZero, listed, startGood, awaitedGood, awaiterGood, txnGood, distinct, holdersLive, lockGood, quotaMost, fullIdle, quotaGood, falls, lastOld, allRead, versionsGood, good}
 use Rattle.rules.specs.Locks.{heldBy, decide, anotherShares, anotherExcludes, decision}
-use Rattle.rules.specs.Step.{begun, begin, conflicted, cleared, locked, carriedOut, access, awaitsOther, queryRead, readBy, writeBy, withNew, committed, ended, commitBy, aborted, abortBy, act, step}
+use Rattle.rules.specs.Step.{begun, begin, conflicted, cleared, locked, carriedOut, access, awaitsOther, writesFurther, queryRead, readBy, writeBy, withNew, committed, ended, commitBy, aborted, abortBy, act, step}
 use Rattle.rules.specs.Tables.{Tables}
 use Rattle.names.specs.Sizes.{base}
 use Rattle.starred.specs.Plays.{Line, answers, passes, AllPass, none, also}
 use Rattle.starred.specs.Trials.{trialA, trialB, trialC, trialD, trialE, trialF, begins, trialG, trialH, turns, trialI, fullRow, trialJ, clockSpent, trialK, trialL, uncounted, anyEnd, trials}
+use Rattle.starred.specs.Quotas.{writes, trialQ, trialR}
 
 -- a trial, as it is computed: whoever unfolds this computes with all the rules
 unfoldable computed : List Line → (Tables → Bool) → Tables → Bool
-unfolding passes answers implies everyBelow someBelow firstFrom every some tabulateFrom row everyRow mapRows bit withBit withoutBit txn setTxn setAwaited live liveUpdate liveQuery slotOf freeSlot startsFrom starts lock setLock holdsShared holdsExclusive holds lockIn lockWordsOf released release fresh pairs versionsIn versionsOf pairWords rowOf stampAt newest place choice readBySome keptFrom kept rewritten conflicts blocks blocked waitsFor marked spread rounds reached circleAt noCircle sizesExact topsMost freeZero listed startGood awaitedGood awaiterGood txnGood distinct holdersLive lockGood falls lastOld allRead versionsGood good heldBy decide anotherShares anotherExcludes decision begun begin conflicted cleared locked carriedOut access awaitsOther queryRead readBy writeBy withNew committed ended commitBy aborted abortBy act step
+unfolding passes answers implies everyBelow someBelow countBelow firstFrom every some tabulateFrom row everyRow mapRows bit withBit withoutBit txn setTxn setAwaited live liveUpdate liveQuery slotOf freeSlot startsFrom starts lock setLock holdsShared holdsExclusive holds exclusivesOf lockIn lockWordsOf released release fresh pairs versionsIn versionsOf pairWords rowOf stampAt newest place choice readBySome keptFrom kept rewritten conflicts blocks blocked waitsFor marked spread rounds reached circleAt noCircle sizesExact topsMost freeZero listed startGood awaitedGood awaiterGood txnGood distinct holdersLive lockGood quotaMost fullIdle quotaGood falls lastOld allRead versionsGood good heldBy decide anotherShares anotherExcludes decision begun begin conflicted cleared locked carriedOut access awaitsOther writesFurther queryRead readBy writeBy withNew committed ended commitBy aborted abortBy act step
 computed ls end G = passes ls end G
 
 pass-A : T (passes trialA anyEnd (fresh base))
@@ -67,6 +68,14 @@ pass-L : T (passes trialL anyEnd uncounted)
 unfolding computed trialL uncounted
 pass-L = tt
 
+pass-Q : T (passes trialQ anyEnd (fresh base))
+unfolding computed writes trialQ
+pass-Q = tt
+
+pass-R : T (passes trialR anyEnd (fresh base))
+unfolding computed writes trialR
+pass-R = tt
+
 pub all-trials : AllPass trials
 unfolding trials
 all-trials =
@@ -82,4 +91,6 @@ all-trials =
     (also pass-J
     (also pass-K
     (also pass-L
-    none)))))))))))
+    (also pass-Q
+    (also pass-R
+    none)))))))))))))

@@ -1,3 +1,4 @@
 -- The starred trials of document 01.
 pub mod Plays
+pub mod Quotas
 pub mod Trials

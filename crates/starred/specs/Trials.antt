@@ -8,6 +8,7 @@ use Rattle.names.specs.Sizes.{base, lastWord}
 use Rattle.rules.specs.Tables.{Tables, tables, fresh, versionRow}
 use Rattle.rules.specs.Answers.{beginUpdate, beginQuery, read, write, commit, abort}
 use Rattle.starred.specs.Plays.{Line, _⇒_, Trial}
+use Rattle.starred.specs.Quotas.{trialQ, trialR}
 
 -- "A. The run above."
 unfoldable pub trialA : List Line
@@ -129,7 +130,7 @@ trialL = (beginUpdate ⇒ (10, 0, 0, 0)) ∷ []
 unfoldable pub uncounted : Tables
 uncounted = tables ((fresh base) .txns) ((fresh base) .locks) (set ((fresh base) .versions) (versionRow base) 0)
 
--- ---- the list of them
+-- ---- the list of them, and of the two of request E2
 abbrev pub anyEnd : Tables → Bool
 anyEnd G = true
 
@@ -147,4 +148,6 @@ trials =
     ∷ (record { from = clockSpent; script = trialJ; end = anyEnd })
     ∷ (record { from = fresh base; script = trialK; end = anyEnd })
     ∷ (record { from = uncounted; script = trialL; end = anyEnd })
+    ∷ (record { from = fresh base; script = trialQ; end = anyEnd })
+    ∷ (record { from = fresh base; script = trialR; end = anyEnd })
     ∷ []

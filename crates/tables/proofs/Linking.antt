@@ -92,7 +92,7 @@ pub record Linking (t l w : List ℕ) (ok : Bool) (i : ℕ) : Type 0 where
   pub at : (a : ℕ) → a < i → (b : ℕ) → bit (getD w a 0) b ≡ waitsFor t l a b
   pub rest : (a : ℕ) → i ≤ a → getD w a 0 ≡ 0
 
-no-word : (n k : ℕ) → _≡_ {A = ℕ} (getD {A = ℕ} (replicate n 0) k 0) 0
+pub no-word : (n k : ℕ) → _≡_ {A = ℕ} (getD {A = ℕ} (replicate n 0) k 0) 0
 no-word zero k = refl
 no-word (suc n) zero = refl
 no-word (suc n) (suc k) = no-word n k

@@ -9,12 +9,12 @@ use Rattle.names.specs.Sizes.{base}
 use Rattle.rules.specs.Words.{everyBelow, everyRow}
 use Rattle.rules.specs.Tables.{tables, txnWords, lockWords, versionWords, versionRow, clock, starts, txn, lock}
 use Rattle.rules.specs.Waits.{noCircle}
-use Rattle.rules.specs.Tested.{good, sizesExact, topsMost, txnGood, awaiterGood, distinct, lockGood, versionsGood}
+use Rattle.rules.specs.Tested.{good, sizesExact, topsMost, txnGood, awaiterGood, distinct, lockGood, quotaGood, versionsGood}
 use Rattle.rules.proofs.Tests.{and-left, and-right, and-both, is-false, eq-make}
 use Rattle.rules.proofs.Counts.{everyBelow→, →everyBelow}
 use Rattle.versions.proofs.Zeros.{iff-eq}
 use Rattle.tables.specs.Shape.{rowGood, rowsGood}
-use Rattle.tables.specs.Holding.{locksGood}
+use Rattle.tables.specs.Holding.{locksGood, quotasGood}
 use Rattle.tables.specs.Waiting.{awaitersGood}
 use Rattle.tables.proofs.Reading.{row-parts}
 
@@ -29,6 +29,7 @@ pub record Parts (t l v : List ℕ) : Type 0 where
   pub versionsExact : length v ≡ versionWords base
   pub rows : T (rowsGood base t)
   pub locks : T (locksGood base t l)
+  pub quotas : T (quotasGood base t l)
   pub numbers : T (distinct base t)
   pub awaiters : T (awaitersGood base t l)
   pub free : T (noCircle base t l)
@@ -41,14 +42,18 @@ module _ (t l v : List ℕ) where
   abbrev awaiterTest : ℕ → Bool
   awaiterTest s = awaiterGood s (txn t s) (lock l ((txn t s) .awaitedItem))
 
+  abbrev quotaTest : ℕ → Bool
+  quotaTest s = quotaGood base l s (txn t s)
+
   pub parts : T (good base (tables t l v)) → Parts t l v
-  unfolding good sizesExact rowsGood locksGood awaitersGood
+  unfolding good sizesExact rowsGood locksGood quotasGood awaitersGood
   parts h =
       let h₁ = and-right (sizesExact base (tables t l v)) _ h in
       let h₂ = and-right (topsMost t) _ h₁ in
       let h₃ = and-right (everyBelow (base .slots) rowTest) _ h₂ in
       let h₄ = and-right (distinct base t) _ h₃ in
       let h₅ = and-right (everyBelow (base .items) (λ x. lockGood base t (lock l x))) _ h₄ in
+      let h₆ = and-right (everyBelow (base .slots) quotaTest) _ h₅ in
       let a = and-left (sizesExact base (tables t l v)) _ h in
       let b = and-right (eqb (length t) (txnWords base)) _ a in
       let both : (s : ℕ) → s < base .slots → T (rowGood base t (txn t s) && awaiterTest s)
@@ -59,14 +64,15 @@ module _ (t l v : List ℕ) where
         versionsExact = eqb→eq (length v) (versionWords base) (and-right (eqb (length l) (lockWords base)) _ b);
         rows = and-both (topsMost t) _ (and-left (topsMost t) _ h₁) (→everyBelow (base .slots) (λ s. rowGood base t (txn t s)) (λ s i. and-left (rowGood base t (txn t s)) _ (both s i)));
         locks = and-left (everyBelow (base .items) (λ x. lockGood base t (lock l x))) _ h₄;
+        quotas = and-left (everyBelow (base .slots) quotaTest) _ h₅;
         numbers = and-left (distinct base t) _ h₃;
         awaiters = →everyBelow (base .slots) awaiterTest (λ s i. and-right (rowGood base t (txn t s)) _ (both s i));
-        free = and-right (versionsTest t v) _ h₅;
-        versions = and-left (versionsTest t v) _ h₅;
+        free = and-right (versionsTest t v) _ h₆;
+        versions = and-left (versionsTest t v) _ h₆;
       }
 
   pub whole : Parts t l v → T (good base (tables t l v))
-  unfolding good sizesExact rowsGood locksGood awaitersGood
+  unfolding good sizesExact rowsGood locksGood quotasGood awaitersGood
   whole p =
       and-both (sizesExact base (tables t l v)) _
       (and-both (eqb (length t) (txnWords base)) _ (eq-make (length t) (txnWords base) (p .txnsExact))
@@ -80,7 +86,8 @@ module _ (t l v : List ℕ) where
       (everyBelow→ (base .slots) awaiterTest (p .awaiters) s i))))
       (and-both (distinct base t) _ (p .numbers)
       (and-both (everyBelow (base .items) (λ x. lockGood base t (lock l x))) _ (p .locks)
-      (and-both (versionsTest t v) _ (p .versions) (p .free))))))
+      (and-both (everyBelow (base .slots) quotaTest) _ (p .quotas)
+      (and-both (versionsTest t v) _ (p .versions) (p .free)))))))
 
   -- one part that fails
   pub fails : (Parts t l v → ⊥) → false ≡ good base (tables t l v)

@@ -35,6 +35,14 @@ pub struct Seen {
     pub waiting: u64,
 }
 
+// What one pass over the locks sees: whether each is as the rules ask; how many items each slot holds
+// exclusively; a word that no count is above.
+pub struct Holdings {
+    pub ok: bool,
+    pub counts: [u64; SLOTS],
+    pub most: u64,
+}
+
 // What one pass over the rows that await a lock sees: whether each may await it; whom each slot waits
 // for, as a word of slots.
 pub struct Waiters {
@@ -62,7 +70,7 @@ pub fn good(txns: &[u64], locks: &[u64], versions: &[u64]) -> bool
     if !ok {
         return false;
     }
-    if !locks_pass(locks, updates) {
+    if !locks_pass(txns, locks, updates) {
         return false;
     }
     if !distinct(txns) {

@@ -1,5 +1,5 @@
-// The trials of document 01, all of them, on the keeper as it is compiled; then every kind of damage to
-// good tables, one by one.
+// The trials of document 01, all of them, and those of request E2, on the keeper as it is compiled; then
+// every kind of damage to good tables, one by one.
 //
 // A line for each step says what was expected and what was found, and ends in DIFFERS where the two
 // are not the same; the last line counts. What is expected is written in the texts of the trials,
@@ -12,6 +12,7 @@ mod limits;
 mod line;
 mod locks;
 mod play;
+mod quota;
 mod sample;
 mod say;
 mod set;
@@ -24,11 +25,14 @@ use counting::Tally;
 fn trials(tally: Tally) -> Tally {
     let mut t = locks::f_to_h(locks::a_to_e(tally));
     t = stamps::j_to_l(stamps::i(t));
-    limits::p(limits::o(limits::m_and_n(t)))
+    t = limits::p(limits::o(limits::m_and_n(t)));
+    quota::r(quota::q(t))
 }
 
 fn damages(tally: Tally) -> Tally {
-    bad_items::items(bad_slots::slots(bad_heads::heads(tally)))
+    let mut t = bad_slots::slots(bad_heads::heads(tally));
+    t = quota::held(15, quota::held(7, quota::held(0, t)));
+    bad_items::items(t)
 }
 
 fn main() {

@@ -7,6 +7,7 @@ use std::io::{stdout, Write};
 use std::process::exit;
 use std::time::Instant;
 
+use twin::code;
 use twin::fuzz::process::Program;
 use twin::fuzz::stats::Stats;
 use twin::fuzz::{run, Ending, Options};
@@ -37,14 +38,18 @@ fn main() {
             exit(2);
         }
     };
+    let quota = code::QUOTA_SPENT as usize;
     let summary = format!(
-        "seed {}, {} rounds, {} lines, {} calls, {} cases, {} journals, {:.1} seconds",
+        "seed {}, {} rounds, {} lines, {} calls, {} cases, {} journals, \
+         code 11 in {} calls and {} cases, {:.1} seconds",
         options.seed,
         stats.rounds,
         stats.lines,
         stats.calls,
         stats.cases,
         stats.journals.judged(),
+        stats.codes[quota],
+        stats.case_codes[quota],
         begin.elapsed().as_secs_f64()
     );
     // Nobody may be left to read it; the status stays the same.

@@ -3,7 +3,7 @@
 
 use std::time::{Duration, Instant};
 
-use twin::sizes::{ITEMS, SLOTS};
+use twin::sizes::{ITEMS, QUOTA, SLOTS};
 use twin::{code, Answer, Call, Keeper};
 
 fn main() {
@@ -32,16 +32,20 @@ fn fresh() -> Keeper {
     keeper
 }
 
-/// A query at each stamp 0 to 14, and a commit of every item after each.
+/// Fifteen queries, and commits of every item after each, by two updates: one
+/// may not write so many.
 fn full() -> Keeper {
     let mut keeper = Keeper::fresh();
-    for stamp in 1..SLOTS as u64 {
+    let items: Vec<u64> = (0..ITEMS as u64).collect();
+    for round in 1..SLOTS as u64 {
         granted(&mut keeper, Call::Query);
-        let number = granted(&mut keeper, Call::Update).number;
-        for item in 0..ITEMS as u64 {
-            write(&mut keeper, number, item, stamp);
+        for items in items.chunks(QUOTA) {
+            let number = granted(&mut keeper, Call::Update).number;
+            for &item in items {
+                write(&mut keeper, number, item, round);
+            }
+            granted(&mut keeper, Call::Commit { number });
         }
-        granted(&mut keeper, Call::Commit { number });
     }
     keeper
 }

@@ -5,6 +5,7 @@ use std::time::Duration;
 
 use super::damage::{self, Damage};
 use super::director::Director;
+use super::jobs;
 use super::made::made;
 use super::odd_cases::{self, odd_case};
 use super::process::Program;
@@ -146,16 +147,19 @@ fn prepare(rng: &mut Rng, samples: &[Keeper], director: &mut Director) -> Prepar
             (1..=3, _) | (_, true) => made(rng),
             _ => samples[rng.index(samples.len())].clone(),
         };
-        let call = director.next(rng, &keeper);
+        let mut call = director.next(rng, &keeper);
         let mut tables = Tables::from(&keeper);
         let kind = match rng.below(10) {
-            0..=2 => 0,
-            3 => rng.index(damage::HARMLESS),
+            0..=1 => 0,
+            2..=3 => rng.index(damage::HARMLESS),
             4..=5 => damage::HARMLESS + rng.index(damage::UNAIMED - damage::HARMLESS),
             _ => damage::UNAIMED + rng.index(damage::KINDS.len() - damage::UNAIMED),
         };
         let (_, damage): (_, Damage) = damage::KINDS[kind];
         if damage(rng, &mut tables) {
+            if let Some(at_limit) = call_at_limit(rng, &tables) {
+                call = at_limit;
+            }
             let case = Case { call, tables };
             return Prepared {
                 expected: outcome(&case),
@@ -163,6 +167,16 @@ fn prepare(rng: &mut Rng, samples: &[Keeper], director: &mut Director) -> Prepar
                 case,
             };
         }
+    }
+}
+
+/// Where an update has as many items as it may, or one less: often a call that
+/// shows it.
+fn call_at_limit(rng: &mut Rng, tables: &Tables) -> Option<Call> {
+    let keeper = tables.as_keeper().filter(Keeper::is_good)?;
+    match rng.percent(50) {
+        true => jobs::at_limit(rng, &Scene::of(&keeper)),
+        false => None,
     }
 }
 

@@ -1,6 +1,7 @@
 //! What to call next, so that much happens: moods that change, and in each the
-//! actions that lead to waits, circles, full slots and full rows.
+//! actions that lead to waits, circles, full slots, full rows and full jobs.
 
+use super::jobs;
 use super::moods::Action::{self, *};
 use super::moods::{Mood, MIXED, MOODS};
 use super::scene::{Held, Scene, Txn};
@@ -142,6 +143,9 @@ impl Director {
             Chain => chain(rng, scene),
             Close => close(rng, scene),
             Rows => self.rows(rng, scene),
+            Hoard => jobs::hoard(rng, scene),
+            AtLimit => jobs::at_limit(rng, scene),
+            BesideFull => jobs::beside(rng, scene),
         }
     }
 
@@ -181,12 +185,12 @@ impl Default for Director {
     }
 }
 
-fn read(txn: Txn, item: u64) -> Call {
+pub fn read(txn: Txn, item: u64) -> Call {
     let number = txn.number;
     Call::Read { number, item }
 }
 
-fn write(rng: &mut Rng, txn: Txn, item: u64) -> Call {
+pub fn write(rng: &mut Rng, txn: Txn, item: u64) -> Call {
     Call::Write {
         number: txn.number,
         item,
@@ -194,12 +198,12 @@ fn write(rng: &mut Rng, txn: Txn, item: u64) -> Call {
     }
 }
 
-fn commit(txn: Txn) -> Call {
+pub fn commit(txn: Txn) -> Call {
     let number = txn.number;
     Call::Commit { number }
 }
 
-fn abort(txn: Txn) -> Call {
+pub fn abort(txn: Txn) -> Call {
     let number = txn.number;
     Call::Abort { number }
 }

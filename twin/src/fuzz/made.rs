@@ -1,7 +1,7 @@
 //! Good tables that no run need ever come to: made by chance, any stamps, any
 //! numbers, any locks and waits.
 
-use super::scene::{Held, Scene};
+use super::scene::{Held, Scene, Txn};
 use crate::keeper::Keeper;
 use crate::rng::Rng;
 use crate::sizes::*;
@@ -16,9 +16,17 @@ pub fn made(rng: &mut Rng) -> Keeper {
     let updates: Vec<usize> = slots(&keeper, UPDATE);
     if !updates.is_empty() {
         let busy = rng.below(100);
+        // Now and then one or two take nearly all.
+        let greedy = match rng.below(6) {
+            0 => vec![rng.one_of(&updates)],
+            1 => vec![rng.one_of(&updates), rng.one_of(&updates)],
+            _ => Vec::new(),
+        };
         for item in 0..ITEMS {
-            if rng.percent(busy) {
-                lock(rng, &mut keeper, item, &updates);
+            match rng.pick(&greedy) {
+                Some(slot) if rng.percent(90) => take(rng, &mut keeper, item, slot),
+                _ if rng.percent(busy) => lock(rng, &mut keeper, item, &updates),
+                _ => {}
             }
         }
         let waiting = rng.below(100);
@@ -118,19 +126,41 @@ fn versions(rng: &mut Rng, keeper: &mut Keeper, item: usize) {
 }
 
 fn lock(rng: &mut Rng, keeper: &mut Keeper, item: usize, updates: &[usize]) {
-    let row = &mut keeper.locks[item * LOCK_ROW..][..LOCK_ROW];
     if rng.percent(40) {
-        row[EXCLUSIVE] = rng.one_of(updates) as u64 + 1;
-        row[WORKING] = rng.odd_word();
+        let slot = rng.one_of(updates);
+        take(rng, keeper, item, slot);
     } else {
+        let row = &mut keeper.locks[item * LOCK_ROW..][..LOCK_ROW];
         for _ in 0..rng.within(1, 4) {
             row[SHARED] |= 1 << rng.one_of(updates);
         }
     }
 }
 
-/// Lets an update wait, unless it holds what it would await or a circle would
+/// Gives an item to an update, unless that has as many as it may.
+fn take(rng: &mut Rng, keeper: &mut Keeper, item: usize, slot: usize) {
+    let holder = slot as u64 + 1;
+    let rows = keeper.locks.chunks(LOCK_ROW);
+    if rows.filter(|row| row[EXCLUSIVE] == holder).count() < QUOTA {
+        let row = &mut keeper.locks[item * LOCK_ROW..][..LOCK_ROW];
+        row[EXCLUSIVE] = holder;
+        row[WORKING] = rng.odd_word();
+    }
+}
+
+/// Whether an update may await this: it does not hold it, and no circle would
 /// close.
+pub fn may_wait(scene: &Scene, txn: &Txn, is_write: bool, item: u64) -> bool {
+    let fits = match scene.held(txn, item) {
+        Held::Nothing => true,
+        Held::Shared => is_write,
+        Held::Exclusive => false,
+    };
+    let against = scene.against(txn, is_write, item);
+    fits && scene.circle(txn, against).is_none()
+}
+
+/// Lets an update wait, unless it may not.
 fn wait(rng: &mut Rng, keeper: &mut Keeper, slot: usize) {
     let item = rng.below(ITEMS as u64);
     let is_write = rng.percent(50);
@@ -140,13 +170,8 @@ fn wait(rng: &mut Rng, keeper: &mut Keeper, slot: usize) {
         Some(txn) => txn,
         None => return,
     };
-    let fits = match scene.held(&txn, item) {
-        Held::Nothing => true,
-        Held::Shared => is_write,
-        Held::Exclusive => false,
-    };
-    let against = scene.against(&txn, is_write, item);
-    if fits && scene.circle(&txn, against).is_none() {
+    let has_room = !is_write || scene.exclusives(&txn) < QUOTA;
+    if has_room && may_wait(&scene, &txn, is_write, item) {
         let row = &mut keeper.txns[TXN_HEAD + slot * TXN_ROW..][..TXN_ROW];
         row[AWAITED_LOCK] = if is_write {
             AWAITS_EXCLUSIVE

@@ -4,7 +4,9 @@
 pub mod cases;
 pub mod damage;
 pub mod director;
+pub mod jobs;
 pub mod journals;
+pub mod limit;
 pub mod made;
 pub mod moods;
 pub mod odd_cases;

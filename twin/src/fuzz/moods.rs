@@ -29,6 +29,12 @@ pub enum Action {
     Close,
     /// The next step towards a full row with many queries.
     Rows,
+    /// The next step towards updates that hold as many items as they may.
+    Hoard,
+    /// An update that holds so many, or one less, does something.
+    AtLimit,
+    /// Another one does something beside it.
+    BesideFull,
 }
 
 use Action::*;
@@ -98,6 +104,32 @@ const ROWS: Mood = (
         (AbortUpdate, 1),
     ],
 );
+const JOBS: Mood = (
+    6,
+    &[
+        (Hoard, 40),
+        (AtLimit, 25),
+        (BesideFull, 15),
+        (Update, 3),
+        (Query, 2),
+        (Retry, 5),
+        (Stray, 2),
+        (Close, 2),
+        (QueryRead, 3),
+        (EndQuery, 3),
+    ],
+);
+/// Two full jobs leave nothing to others, so both have to be quick.
+const TWO_JOBS: Mood = (
+    6,
+    &[
+        (Hoard, 90),
+        (AtLimit, 4),
+        (BesideFull, 2),
+        (Retry, 2),
+        (EndQuery, 2),
+    ],
+);
 const CROWD: Mood = (
     6,
     &[
@@ -140,6 +172,6 @@ const DRAIN: Mood = (
 );
 
 /// Some moods are more fruitful than others.
-pub const MOODS: [Mood; 10] = [
-    MIXED, MIXED, HOT, HOT, CIRCLES, CIRCLES, ROWS, CROWD, REFUSED, DRAIN,
+pub const MOODS: [Mood; 12] = [
+    MIXED, MIXED, HOT, HOT, CIRCLES, CIRCLES, ROWS, JOBS, TWO_JOBS, CROWD, REFUSED, DRAIN,
 ];

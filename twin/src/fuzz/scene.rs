@@ -120,6 +120,18 @@ impl<'a> Scene<'a> {
         }
     }
 
+    /// The items that a transaction holds exclusively, bit i for item i.
+    pub fn written(&self, txn: &Txn) -> u64 {
+        let rows = self.keeper.locks.chunks_exact(LOCK_ROW).enumerate();
+        let held = rows.filter(|(_, row)| row[EXCLUSIVE] == txn.slot as u64 + 1);
+        held.fold(0, |items, (item, _)| items | 1 << item)
+    }
+
+    /// How many items a transaction holds exclusively.
+    pub fn exclusives(&self, txn: &Txn) -> usize {
+        self.written(txn).count_ones() as usize
+    }
+
     /// One of the items that a transaction holds in this way.
     pub fn pick_held(&self, rng: &mut Rng, txn: &Txn, how: impl Fn(Held) -> bool) -> Option<u64> {
         let first = rng.below(ITEMS as u64);

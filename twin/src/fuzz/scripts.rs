@@ -11,7 +11,7 @@ use super::stats::Stats;
 use crate::answer::{code, Answer};
 use crate::keeper::{Call, Keeper};
 use crate::rng::Rng;
-use crate::script;
+use crate::script::{self, LINE_BYTES};
 
 /// A script and what the twin answers to it.
 #[derive(Default)]
@@ -32,6 +32,7 @@ pub fn make(rng: &mut Rng, stats: &mut Stats, samples: usize) -> Script {
         _ => rng.within(2_000, 20_000),
     };
     let odd = rng.one_of(&[0, 2, 2, 5, 20, 80]);
+    stats.new_script();
     let mut script = Script::default();
     let mut director = Director::new();
     let mut keeper = Keeper::fresh();
@@ -157,18 +158,16 @@ fn put_together(lines: &[Line], all: &BTreeSet<u64>, ends: bool) -> Vec<u8> {
     input
 }
 
-/// The line of a call with another number in the first place. Leading zeros, if
-/// the number has any, make up for its length.
+/// The line of a call with another number in the first place. Leading zeros make
+/// up for its length if the number has any, or if the line is about as long as a
+/// line may be: there each byte counts.
 fn renumbered(line: &[u8], number: u64) -> Vec<u8> {
     let mut parts: Vec<Vec<u8>> = line
         .split(|&byte| byte == b' ')
         .map(<[u8]>::to_vec)
         .collect();
-    let zeros = if parts[1][0] == b'0' {
-        parts[1].len()
-    } else {
-        0
-    };
+    let keeps_length = parts[1][0] == b'0' || line.len() + 1 >= LINE_BYTES;
+    let zeros = if keeps_length { parts[1].len() } else { 0 };
     parts[1] = format!("{:0>width$}", number, width = zeros).into_bytes();
     parts.join(&b' ')
 }
@@ -262,7 +261,9 @@ mod tests {
             assert!(script.own_mistake.is_none());
             assert!(answers(&script.input) == script.expected, "seed {}", seed);
         }
-        assert!(stats.codes[..8].iter().all(|&count| count > 100));
+        for code in (0..8).chain([code::QUOTA_SPENT as usize]) {
+            assert!(stats.codes[code] > 100, "code {}", code);
+        }
     }
 
     #[test]
@@ -284,5 +285,17 @@ mod tests {
             put_together(&list[1..], &all, true),
             b"query\nread 001 5\nno\nread 9 9\n"
         );
+    }
+
+    #[test]
+    fn long_lines_keep_their_length() {
+        let line = |number: &str, zeros: usize| format!("read {} {:0>zeros$}", number, 5);
+        let renumbered = |number: &str, zeros: usize, now: u64| {
+            String::from_utf8(renumbered(line(number, zeros).as_bytes(), now)).unwrap()
+        };
+        assert_eq!(line("175", 71).len(), LINE_BYTES);
+        assert_eq!(renumbered("175", 71, 1), line("001", 71));
+        assert_eq!(renumbered("175", 70, 1), line("001", 70));
+        assert_eq!(renumbered("175", 69, 1), line("1", 69));
     }
 }

@@ -3,7 +3,7 @@
 use std::fmt;
 
 use super::scene::{Held, Scene, Txn};
-use super::{damage, journals, odd_cases, spoil};
+use super::{damage, journals, limit, odd_cases, spoil};
 use crate::answer::{code, Answer};
 use crate::clauses::Clause;
 use crate::keeper::{Call, Keeper};
@@ -67,6 +67,7 @@ pub struct Before {
     written: usize,
     versions: u64,
     value: Option<u64>,
+    at_limit: Option<limit::Standing>,
 }
 
 impl Before {
@@ -81,6 +82,7 @@ impl Before {
             written: 0,
             versions: 0,
             value: caller.map(|txn| waited_value[txn.slot]),
+            at_limit: None,
         };
         let item = match call {
             Call::Read { item, .. } | Call::Write { item, .. } => item,
@@ -93,10 +95,11 @@ impl Before {
             before.writer_waits = scene.count(awaits) > 0;
         }
         if let (Some(txn), Call::Commit { .. } | Call::Abort { .. }) = (caller, call) {
-            let items = 0..ITEMS as u64;
-            let is_written = |item: &u64| scene.held(&txn, *item) == Held::Exclusive;
-            before.written = items.filter(is_written).count();
+            before.written = scene.exclusives(&txn);
             before.versions = (0..ITEMS).map(|item| scene.version_count(item)).sum();
+        }
+        if let Some(txn) = caller.filter(|txn| !txn.is_query) {
+            before.at_limit = Some(limit::Standing::of(&scene, &txn, call, before.held));
         }
         before
     }
@@ -107,8 +110,9 @@ pub struct Stats {
     pub rounds: u64,
     pub lines: u64,
     pub calls: u64,
-    pub codes: [u64; 11],
+    pub codes: [u64; code::NAMES.len()],
     events: [u64; EVENTS.len()],
+    at_limit: limit::Counts,
     looked: [u64; PLACES + 1],
     circles: [u64; SLOTS + 1],
     full_rows: u64,
@@ -117,7 +121,7 @@ pub struct Stats {
     pub unended_scripts: u64,
     pub empty_scripts: u64,
     pub cases: u64,
-    pub case_codes: [u64; 11],
+    pub case_codes: [u64; code::NAMES.len()],
     /// For each kind of odd case line: how many, and how many of them bad.
     odd_cases: [(u64, u64); odd_cases::KINDS.len()],
     /// For each kind of damage: how many, and how many of them answered 10.
@@ -134,8 +138,9 @@ impl Stats {
             rounds: 0,
             lines: 0,
             calls: 0,
-            codes: [0; 11],
+            codes: [0; code::NAMES.len()],
             events: [0; EVENTS.len()],
+            at_limit: limit::Counts::default(),
             looked: [0; PLACES + 1],
             circles: [0; SLOTS + 1],
             full_rows: 0,
@@ -143,13 +148,19 @@ impl Stats {
             unended_scripts: 0,
             empty_scripts: 0,
             cases: 0,
-            case_codes: [0; 11],
+            case_codes: [0; code::NAMES.len()],
             odd_cases: [(0, 0); odd_cases::KINDS.len()],
             damages: [(0, 0); damage::KINDS.len()],
             clauses: [(0, 0); Clause::ALL.len()],
             journals: journals::Counts::default(),
             waited_value: [0; SLOTS],
         }
+    }
+
+    /// A script begins, from fresh tables.
+    pub fn new_script(&mut self) {
+        self.waited_value = [0; SLOTS];
+        self.at_limit.new_script();
     }
 
     pub fn before(&self, keeper: &Keeper, call: Call) -> Before {
@@ -178,6 +189,9 @@ impl Stats {
             Some(txn) => txn,
             None => return,
         };
+        if let Some(standing) = before.at_limit {
+            self.at_limit.see(call, standing, answer);
+        }
         match (call, answer.code) {
             (Call::Read { .. }, code::GRANTED) => self.see_read(&txn, before, answer),
             (Call::Write { value, .. }, code::GRANTED) => self.see_write(&txn, before, value),
@@ -309,6 +323,10 @@ impl Stats {
             show(out, &format!("  {}", name), count)?;
         }
         show(out, "  commits with a row of 16 versions", self.full_rows)?;
+        writeln!(out, "  updates with as many items as they may write")?;
+        for (name, count) in self.at_limit.each() {
+            show(out, &format!("  {}", name), count)?;
+        }
         writeln!(out, "  deadlocks by length of the circle")?;
         for (length, &count) in self.circles.iter().enumerate() {
             if length >= 2 || count > 0 {
@@ -350,7 +368,7 @@ fn show(out: &mut fmt::Formatter, name: &str, count: u64) -> fmt::Result {
     writeln!(out, "  {:<42} {:>10}", name, count)
 }
 
-fn show_codes(out: &mut fmt::Formatter, codes: &[u64; 11]) -> fmt::Result {
+fn show_codes(out: &mut fmt::Formatter, codes: &[u64]) -> fmt::Result {
     writeln!(out, "  codes")?;
     for (code, (name, &count)) in code::NAMES.iter().zip(codes).enumerate() {
         show(out, &format!("  {:>2} {}", code, name), count)?;

@@ -1,7 +1,6 @@
 //! Wrong rules of locks, waits and versions.
 
 use crate::answer::{code, Answer};
-use crate::calls::Access;
 use crate::ids::{Item, Slot};
 use crate::keeper::{Call, Keeper};
 use crate::sizes::*;
@@ -30,10 +29,12 @@ pub enum WrongCall {
     NumberAgain,
     /// A granted write keeps the value it first waited with.
     FirstValue,
+    /// An update may make 32 writes, of whatever items.
+    CountedWrites,
 }
 
 impl WrongCall {
-    pub const ALL: [(&'static str, WrongCall); 10] = [
+    pub const ALL: [(&'static str, WrongCall); 11] = [
         ("late-snapshot", WrongCall::LateSnapshot),
         ("short-locks", WrongCall::ShortLocks),
         ("circles-of-two", WrongCall::CirclesOfTwo),
@@ -44,6 +45,7 @@ impl WrongCall {
         ("idle-stamp", WrongCall::IdleStamp),
         ("number-again", WrongCall::NumberAgain),
         ("first-value", WrongCall::FirstValue),
+        ("counted-writes", WrongCall::CountedWrites),
     ];
 }
 
@@ -53,6 +55,7 @@ pub struct WrongKeeper {
     keeper: Keeper,
     has_read: [bool; SLOTS],
     first_value: [u64; SLOTS],
+    writes: [usize; SLOTS],
 }
 
 type Pair = (u64, u64);
@@ -64,6 +67,7 @@ impl WrongKeeper {
             keeper: Keeper::fresh(),
             has_read: [false; SLOTS],
             first_value: [0; SLOTS],
+            writes: [0; SLOTS],
         }
     }
 
@@ -79,32 +83,17 @@ impl WrongKeeper {
             WrongCall::IdleStamp => self.idle_stamp(call),
             WrongCall::NumberAgain => self.number_again(call),
             WrongCall::FirstValue => self.first_value(call),
+            WrongCall::CountedWrites => self.counted_writes(call),
         }
     }
 
     fn view(&mut self) -> View<'_> {
-        View {
-            txns: &mut self.keeper.txns,
-            locks: &mut self.keeper.locks,
-            versions: &mut self.keeper.versions,
-        }
+        super::view(&mut self.keeper)
     }
 
     /// The right call, without the test of the tables.
     fn right(&mut self, call: Call) -> Answer {
-        let mut view = self.view();
-        match call {
-            Call::Update => view.begin(UPDATE),
-            Call::Query => view.begin(QUERY),
-            Call::Read { number, item } => view.access(number, item, Access::Read),
-            Call::Write {
-                number,
-                item,
-                value,
-            } => view.access(number, item, Access::Write(value)),
-            Call::Commit { number } => view.commit(number),
-            Call::Abort { number } => view.abort(number),
-        }
+        super::right(&mut self.view(), call)
     }
 
     fn caller(&mut self, call: Call) -> Option<Slot> {
@@ -278,6 +267,28 @@ impl WrongKeeper {
             });
         }
         self.right(call)
+    }
+
+    fn counted_writes(&mut self, call: Call) -> Answer {
+        let caller = self.caller(call);
+        if let (Call::Write { item, .. }, Some(slot)) = (call, caller) {
+            let view = self.view();
+            let is_idle = !view.is_query(slot) && view.awaited(slot).is_none();
+            if is_idle && item < ITEMS as u64 && self.writes[slot.index()] >= QUOTA {
+                return Answer::bare(code::QUOTA_SPENT);
+            }
+        }
+        let answer = self.right(call);
+        match (call, caller, answer.code) {
+            (Call::Write { .. }, Some(slot), code::GRANTED) => self.writes[slot.index()] += 1,
+            (Call::Update, _, code::GRANTED) => {
+                if let Some(slot) = self.view().find(answer.number) {
+                    self.writes[slot.index()] = 0;
+                }
+            }
+            _ => {}
+        }
+        answer
     }
 }
 

@@ -6,17 +6,23 @@
 mod calls;
 mod judges;
 mod lines;
+mod quota;
 mod tables;
 
 pub use calls::{WrongCall, WrongKeeper};
 pub use judges::WrongJudge;
 pub use lines::{run, WrongLine};
+pub use quota::WrongQuota;
 pub use tables::WrongTables;
 
 use std::io::{self, BufRead, Write};
 
-use crate::keeper::Keeper;
+use crate::answer::Answer;
+use crate::calls::Access;
+use crate::keeper::{Call, Keeper};
 use crate::script;
+use crate::sizes::{QUERY, UPDATE};
+use crate::view::View;
 
 /// The one of this name.
 fn named<T: Copy>(all: &[(&'static str, T)], name: &str) -> Option<T> {
@@ -29,10 +35,35 @@ fn names<T>(all: &[(&'static str, T)]) -> Vec<&'static str> {
     all.iter().map(|(name, _)| *name).collect()
 }
 
+fn view(keeper: &mut Keeper) -> View<'_> {
+    View {
+        txns: &mut keeper.txns,
+        locks: &mut keeper.locks,
+        versions: &mut keeper.versions,
+    }
+}
+
+/// The right call, without the test of the tables.
+fn right(view: &mut View, call: Call) -> Answer {
+    match call {
+        Call::Update => view.begin(UPDATE),
+        Call::Query => view.begin(QUERY),
+        Call::Read { number, item } => view.access(number, item, Access::Read),
+        Call::Write {
+            number,
+            item,
+            value,
+        } => view.access(number, item, Access::Write(value)),
+        Call::Commit { number } => view.commit(number),
+        Call::Abort { number } => view.abort(number),
+    }
+}
+
 /// A way for a runner to be wrong.
 #[derive(Clone, Copy, Debug, PartialEq, Eq)]
 pub enum WrongRunner {
     Call(WrongCall),
+    Quota(WrongQuota),
     Line(WrongLine),
 }
 
@@ -40,11 +71,13 @@ impl WrongRunner {
     pub fn named(name: &str) -> Option<WrongRunner> {
         named(&WrongCall::ALL, name)
             .map(WrongRunner::Call)
+            .or_else(|| named(&WrongQuota::ALL, name).map(WrongRunner::Quota))
             .or_else(|| named(&WrongLine::ALL, name).map(WrongRunner::Line))
     }
 
     pub fn names() -> Vec<&'static str> {
-        [names(&WrongCall::ALL), names(&WrongLine::ALL)].concat()
+        let calls = [names(&WrongCall::ALL), names(&WrongQuota::ALL)].concat();
+        [calls, names(&WrongLine::ALL)].concat()
     }
 
     /// Runs a script wrongly.
@@ -53,6 +86,12 @@ impl WrongRunner {
             WrongRunner::Call(kind) => {
                 let mut keeper = WrongKeeper::fresh(kind);
                 script::run(input, output, |call| keeper.call(call))
+            }
+            WrongRunner::Quota(kind) => {
+                let mut keeper = Keeper::fresh();
+                script::run(input, output, |call| {
+                    kind.call(&mut view(&mut keeper), call)
+                })
             }
             WrongRunner::Line(kind) => {
                 let mut keeper = Keeper::fresh();

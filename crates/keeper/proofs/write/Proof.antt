@@ -1,6 +1,5 @@
 -- A write on good tables is what the judged caller gets; code 10 on others. Assumes nothing.
 use mathlib.Core.Path.{sym, ap, _∙_, subst}
-use native.Mathlib.Omega.{arith}
 use Rattle.names.specs.declared.Answer.{Answer}
 use Rattle.names.specs.Sizes.{base}
 use Rattle.rules.specs.Tables.{Tables, tables, exclusiveLock}
@@ -68,14 +67,14 @@ refusal-requires-5 c κs = search needs
 enum-known-caller : tie.Need-enum-known-caller
 enum-known-caller c = search needs
 
-access-requires : tie.Need-access-requires
-access-requires c κs =
+update-writes-requires : tie.Need-update-writes-requires
+update-writes-requires c κs =
     let a = c .before .before .before .before .before .before .before .before .before .before .before .before .before .before .before .before .args in
     let G : Tables = tables (a .txns .now) (a .locks .now) (a .versions .now) in
     let g = admitted G (c .before .before .before .before .before .before .before .before .before .good2 .result) (c .before .before .before .before .before .before .before .before .before .good2 .ensures) (c .before .before .before .before .before .before .before .before .if1 .left) in
     let e = sym (c .before .before .before .before .before .before .who-calls .ensures) ∙ c .before .before .before .before .caller .given .1 in
     let f = subst (CallerSays G g) e (caller-says G g (a .number) (a .item) exclusiveLock) in
-    (g, f .0, f .1, omega arith)
+    (g, f .0, f .1)
 
 same-length-4 : tie.Need-same-length-4
 same-length-4 c = search needs
@@ -164,7 +163,7 @@ returns-6 c =
     let G : Tables = tables (a .txns .now) (a .locks .now) (a .versions .now) in
     let g = admitted G (c .before .before .before .before .before .before .before .before .before .before .before .before .before .before .good2 .result) (c .before .before .before .before .before .before .before .before .before .before .before .before .before .before .good2 .ensures) (c .before .before .before .before .before .before .before .before .before .before .before .before .before .if1 .left) in
     let e = sym (c .before .before .before .before .before .before .before .before .before .before .before .who-calls .ensures) ∙ c .before .before .before .before .before .before .before .before .before .caller .given .1 in
-    c .before .before .before .before .access .ensures ∙ sym (write-is G g (a .number) (a .item) (a .value) ∙ ap (writeOut G g (a .value)) e)
+    c .before .before .before .before .update-writes .ensures ∙ sym (write-is G g (a .number) (a .item) (a .value) ∙ ap (writeOut G g (a .value)) e)
 
 pub write-spec : {M : Type 1} → statement M
 write-spec =
@@ -186,7 +185,7 @@ write-spec =
     enum-told-4
     refusal-requires-5
     enum-known-caller
-    access-requires
+    update-writes-requires
     same-length-4
     same-length-5
     same-length-6

@@ -14,7 +14,7 @@ use Rattle.rules.specs.Waits.{noCircle}
 use Rattle.rules.proofs.Tests.{and-left, and-right, and-both, true-is, false-is}
 use Rattle.tables.specs.declared.Seen.{Seen}
 use Rattle.tables.specs.Shape.{rowsGood}
-use Rattle.tables.specs.Holding.{locksGood}
+use Rattle.tables.specs.Holding.{locksGood, quotasGood}
 use Rattle.tables.specs.Waiting.{Readable, Awaiting, awaitersGood}
 use Rattle.tables.proofs.Holders.{updates-lt}
 use Rattle.tables.proofs.Reading.{awaiting, readable}
@@ -53,18 +53,21 @@ rows-passed c = true-is (sym (ap (λ (s : Seen). s .ok) (c .before .rows .ensure
 locks-pass-requires : tie.Need-locks-pass-requires
 locks-pass-requires c κs =
     let e = ap (λ (s : Seen). s .updates) (c .before .rows .ensures) in
-    (c .before .before .before .if2 .left, subst (λ (u : ℕ). u < 2 ^ base .slots) (sym e) (updates-lt (txns (c .before .before))))
+    (c .before .before .before .before .if1 .left, c .before .before .before .if2 .left, subst (λ (u : ℕ). u < 2 ^ base .slots) (sym e) (updates-lt (txns (c .before .before))))
 
 returns-5 : tie.Need-returns-5
 returns-5 c =
     let e = ap (λ (s : Seen). s .updates) (c .before .before .before .rows .ensures) in
-    fails _ _ _ (λ p. false-is (sym (c .before .locks-pass .ensures _ e) ∙ not-true _ (c .if5 .taken)) (p .locks))
+    fails _ _ _ (λ p. false-is (sym (c .before .locks-pass .ensures e) ∙ not-true _ (c .if5 .taken)) (and-both (locksGood base _ _) _ (p .locks) (p .quotas)))
 
--- and the locks, so the waits can be read
-locks-passed : (c : tie.Else5) → T (locksGood base (txns (c .before .before .before .before)) (locks (c .before .before .before .before)))
-locks-passed c =
+-- and the locks with the quota, so the waits can be read
+held-passed : (c : tie.Else5) → T (locksGood base (txns (c .before .before .before .before)) (locks (c .before .before .before .before)) && quotasGood base (txns (c .before .before .before .before)) (locks (c .before .before .before .before)))
+held-passed c =
     let e = ap (λ (s : Seen). s .updates) (c .before .before .before .rows .ensures) in
-    true-is (sym (c .before .locks-pass .ensures (txns (c .before .before .before .before)) e) ∙ not-false _ (c .if5 .left))
+    true-is (sym (c .before .locks-pass .ensures e) ∙ not-false _ (c .if5 .left))
+
+locks-passed : (c : tie.Else5) → T (locksGood base (txns (c .before .before .before .before)) (locks (c .before .before .before .before)))
+locks-passed c = and-left (locksGood base _ _) _ (held-passed c)
 
 readable-here : (c : tie.Else5) → Readable (txns (c .before .before .before .before)) (locks (c .before .before .before .before))
 readable-here c =
@@ -104,6 +107,7 @@ returns-8 c =
     let t = txns (c .before .before .before .before .before .before .before .before .before .before .before) in
     let l = locks (c .before .before .before .before .before .before .before .before .before .before .before) in
     let rows = rows-passed (c .before .before .before .before .before .before .before .before .before) in
+    let held = held-passed (c .before .before .before .before .before .before .before) in
     let can = readable-here (c .before .before .before .before .before .before .before) in
     let e = ap (λ (s : Seen). s .waiting) (c .before .before .before .before .before .before .before .before .before .before .rows .ensures) in
     let waits : T (awaitersGood base t l && noCircle base t l) =
@@ -120,7 +124,8 @@ returns-8 c =
       locksExact = c .before .before .before .before .before .before .before .before .before .before .before .before .if2 .left;
       versionsExact = c .before .before .before .before .before .before .before .before .before .before .before .if3 .left;
       rows = rows;
-      locks = locks-passed (c .before .before .before .before .before .before .before);
+      locks = and-left (locksGood base t l) _ held;
+      quotas = and-right (locksGood base t l) _ held;
       numbers = true-is (sym (c .before .before .before .before .before .before .distinct .ensures) ∙ not-false _ (c .before .before .before .before .before .if6 .left));
       awaiters = and-left (awaitersGood base t l) _ waits;
       free = and-right (awaitersGood base t l) _ waits;

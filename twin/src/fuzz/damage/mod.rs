@@ -1,6 +1,7 @@
 //! Damage to good tables: one word by chance, or one clause on purpose.
 
 mod locks;
+mod quota;
 mod txns;
 mod versions;
 
@@ -9,16 +10,24 @@ use crate::rng::Rng;
 use crate::sizes::*;
 
 use locks::*;
+use quota::*;
 use txns::*;
 use versions::*;
 
 /// Does its damage, or says that these tables give no occasion for it.
 pub type Damage = fn(&mut Rng, &mut Tables) -> bool;
 
-/// The kinds of damage by name. The first two leave good tables good.
-pub const KINDS: [(&str, Damage); 40] = [
+/// The kinds of damage by name. The first ones leave good tables good.
+pub const KINDS: [(&str, Damage); 45] = [
     ("none", |_, _| true),
     ("numbers or clock nearly spent", nearly_spent),
+    ("32 held exclusively", |rng, t| holds(rng, t, QUOTA)),
+    ("32 held, shared awaited", |rng, t| {
+        holds_and_awaits(rng, t, QUOTA, AWAITS_SHARED)
+    }),
+    ("31 held, exclusive awaited", |rng, t| {
+        holds_and_awaits(rng, t, QUOTA - 1, AWAITS_EXCLUSIVE)
+    }),
     ("one word", one_word),
     ("some words", some_words),
     ("one size off by one", size_off_by_one),
@@ -80,6 +89,13 @@ pub const KINDS: [(&str, Damage); 40] = [
     ("exclusive holder 17 and above", exclusive_17),
     ("both kinds of holders", both_holders),
     ("working value without holder", working_value),
+    ("33 held exclusively and above", |rng, t| {
+        let above = rng.one_of(&[1, 1, 1, 2, ITEMS - QUOTA]);
+        holds(rng, t, QUOTA + above)
+    }),
+    ("32 held, exclusive awaited", |rng, t| {
+        holds_and_awaits(rng, t, QUOTA, AWAITS_EXCLUSIVE)
+    }),
     ("count 0", |rng, t| count(rng, t, |_| 0)),
     ("count 17 and above", |rng, t| {
         count(rng, t, |rng| rng.odd_word().max(17))
@@ -100,9 +116,9 @@ pub const KINDS: [(&str, Damage); 40] = [
 ];
 
 /// How many of the kinds leave the tables good.
-pub const HARMLESS: usize = 2;
+pub const HARMLESS: usize = 5;
 /// How many come before the kinds that break one clause on purpose.
-pub const UNAIMED: usize = 4;
+pub const UNAIMED: usize = 7;
 
 fn set(word: &mut u64, value: u64) -> bool {
     *word = value;
