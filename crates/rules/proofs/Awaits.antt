@@ -17,6 +17,7 @@ use Rattle.rules.proofs.Tests.{same?}
 use Rattle.rules.proofs.Views.{awaiting, setAwaited-row, length-setTxn, lastNumber-setTxn, clock-setTxn, txn-setTxn, txn-setTxn-other}
 use Rattle.rules.proofs.EqualRows.{live-number, update-live, query-live}
 use Rattle.rules.proofs.Carried.{no-more-same, txn-carried, lock-carried, versions-carried}
+use Rattle.rules.proofs.Quotas.{quotas-but}
 use Rattle.rules.proofs.Walks.{waits-for→}
 use Rattle.rules.proofs.Deadlock.{fewer-no-circle, no-new-circle}
 
@@ -109,15 +110,11 @@ module _ (S : Sizes) (G : Tables) (g : Good S G) (s k x : ℕ) (inside : s < S .
           subst (λ (w : Txn). GoodTxn S t′ (G .locks) r w) (sym (there r d))
           (txn-carried S t t′ (G .locks) (G .locks) r (txn t r) (let a = last′ in omega arith) (let a = clock′ in omega arith) (λ w. no-more-same r refl) (g .txnGood r i))
 
-  quotas : (r : ℕ) → r < S .slots → GoodQuota S (G .locks) r (txn t′ r)
-  quotas r i = go (same? r s)
-    where
-      new : GoodQuota S (G .locks) s R
-      new = record { most = λ u. g .quotaGood s inside .most update; fullIdle = λ u e d. may .room d e }
+  new-quota : GoodQuota S (G .locks) s R
+  new-quota = record { most = λ u. g .quotaGood s inside .most update; fullIdle = λ u e d. may .room d e }
 
-      go : (r ≡ s) ⊎ (r ≢ s) → GoodQuota S (G .locks) r (txn t′ r)
-      go (inl e) = subst (λ (m : ℕ). GoodQuota S (G .locks) m (txn t′ m)) (sym e) (subst (λ (w : Txn). GoodQuota S (G .locks) s w) (sym here) new)
-      go (inr d) = subst (λ (w : Txn). GoodQuota S (G .locks) r w) (sym (there r d)) (g .quotaGood r i)
+  quotas : (r : ℕ) → r < S .slots → GoodQuota S (G .locks) r (txn t′ r)
+  quotas = quotas-but S (G .locks) t t′ s there (subst (λ (w : Txn). GoodQuota S (G .locks) s w) (sym here) new-quota) (g .quotaGood)
 
   -- a query's row is not that of the update in slot s
   query-there : (r : ℕ) → T (liveQuery (txn t r)) → txn t′ r ≡ txn t r

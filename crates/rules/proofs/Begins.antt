@@ -17,7 +17,7 @@ use Rattle.rules.specs.Step.{begun}
 use Rattle.rules.proofs.Tests.{same?}
 use Rattle.rules.proofs.Views.{length-setTxn, lastNumber-setTxn, clock-setTxn, txn-setTxn, txn-setTxn-other, txn-top}
 use Rattle.rules.proofs.EqualRows.{update-live, query-live}
-use Rattle.rules.proofs.Quotas.{exclusives-none}
+use Rattle.rules.proofs.Quotas.{exclusives-none, quotas-but}
 use Rattle.rules.proofs.Carried.{no-more-same, txn-carried, lock-carried, versions-carried}
 use Rattle.rules.proofs.Walks.{waits-for→}
 use Rattle.rules.proofs.Deadlock.{fewer-no-circle}
@@ -98,11 +98,7 @@ module _ (S : Sizes) (G : Tables) (g : Good S G) (k q s : ℕ) (inside : s < S .
       }
 
   quotas : (r : ℕ) → r < S .slots → GoodQuota S (G .locks) r (txn t′ r)
-  quotas r i = go (same? r s)
-    where
-      go : (r ≡ s) ⊎ (r ≢ s) → GoodQuota S (G .locks) r (txn t′ r)
-      go (inl e) = subst (λ (m : ℕ). GoodQuota S (G .locks) m (txn t′ m)) (sym e) (subst (λ (w : Txn). GoodQuota S (G .locks) s w) (sym here) new-quota)
-      go (inr d) = subst (λ (w : Txn). GoodQuota S (G .locks) r w) (sym (there r d)) (g .quotaGood r i)
+  quotas = quotas-but S (G .locks) t t′ s there (subst (λ (w : Txn). GoodQuota S (G .locks) s w) (sym here) new-quota) (g .quotaGood)
 
   apart : (a b : ℕ) → a < S .slots → b < S .slots → a ≢ b → T (live (txn t′ b)) → (txn t′ a) .number ≢ (txn t′ b) .number
   apart a b i j d = go (same? a s) (same? b s)

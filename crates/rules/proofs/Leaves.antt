@@ -19,7 +19,7 @@ use Rattle.rules.proofs.Bits.{withoutBit-here, withoutBit-there, bit-no
 use Rattle.rules.proofs.Views.{length-setTxn, lastNumber-setTxn, clock-setTxn, txn-setTxn, txn-setTxn-other, lock-release, length-release}
 use Rattle.rules.proofs.EqualRows.{live-number}
 use Rattle.rules.proofs.Carried.{free-row, NoMore, no-more-same, no-more-holds, txn-carried, lock-carried}
-use Rattle.rules.proofs.Quotas.{exclusives-fewer, free-quota, quota-carried}
+use Rattle.rules.proofs.Quotas.{exclusives-fewer, free-quota, quota-carried, quotas-but}
 use Rattle.rules.proofs.Walks.{waits-for→, →waits-for, waiter-within}
 use Rattle.rules.proofs.Deadlock.{fewer-no-circle}
 use Rattle.rules.proofs.Grants.{conflicts-fewer}
@@ -172,11 +172,7 @@ module _
             (txn-carried S t₀ t′ (G .locks) (G .locks) r (txn t₀ r) (let a = last′ in omega arith) (let a = clock′ in omega arith) (λ w. no-more-same r refl) (g .txnGood r i))
 
     quotas : (r : ℕ) → r < S .slots → GoodQuota S (G .locks) r (txn t′ r)
-    quotas r i = go (same? r s)
-      where
-        go : (r ≡ s) ⊎ (r ≢ s) → GoodQuota S (G .locks) r (txn t′ r)
-        go (inl e) = subst (λ (w : Txn). GoodQuota S (G .locks) r w) (sym (ap (txn t′) e ∙ here)) (free-quota S (G .locks) r)
-        go (inr d) = subst (λ (w : Txn). GoodQuota S (G .locks) r w) (sym (there r d)) (g .quotaGood r i)
+    quotas = quotas-but S (G .locks) t₀ t′ s there (subst (λ (w : Txn). GoodQuota S (G .locks) s w) (sym here) (free-quota S (G .locks) s)) (g .quotaGood)
 
     apart : (a b : ℕ) → a < S .slots → b < S .slots → a ≢ b → T (live (txn t′ b)) → (txn t′ a) .number ≢ (txn t′ b) .number
     apart a b i j d h = go (same? a s)

@@ -1,7 +1,7 @@
 -- Request E2: how many items a slot holds exclusively, and when one more is too many. Assumes nothing.
 use Prim.Native.Nat.{ℕ, suc, _≤_, _<_}
-use mathlib.Core.Path.{_≡_, refl}
-use mathlib.Core.Logic.{_≢_}
+use mathlib.Core.Path.{_≡_, sym, subst}
+use mathlib.Core.Logic.{_≢_, _⊎_, inl, inr}
 use mathlib.Core.Bool.{Bool, true, false, _&&_, not}
 use mathlib.Core.List.{List}
 use native.Mathlib.Omega.{arith}
@@ -12,7 +12,7 @@ use Rattle.rules.specs.Tables.{Tables, Txn, txn, noTxn, live, liveUpdate
 use Rattle.rules.specs.Good.{Good, GoodLock, GoodQuota}
 use Rattle.rules.specs.Tested.{quotaMost, fullIdle, quotaGood}
 use Rattle.rules.specs.Step.{writesFurther}
-use Rattle.rules.proofs.Tests.{and-left, and-right, and-both, or-right, implies-use, implies-make, not-make, not-use, ne-make, ne-use, eq-make, is-true, is-false, true-is, false-is}
+use Rattle.rules.proofs.Tests.{and-left, and-right, and-both, or-right, implies-use, implies-make, not-make, not-use, ne-make, ne-use, eq-make, is-true, is-false, true-is, false-is, same?}
 use Rattle.rules.proofs.Counts.{count-fewer, count-one-more, count-none}
 
 -- ---- the test of one slot says what GoodQuota says
@@ -77,6 +77,16 @@ quota-carried S l l′ s r f q =
       most = λ u. let a = q .most u in omega arith;
       fullIdle = λ u e. q .fullIdle u (let a = q .most u in omega arith);
     }
+
+-- the row of slot s becomes another, the others stay
+pub quotas-but :
+    (S : Sizes) (l t t′ : List ℕ) (s : ℕ) → ((r : ℕ) → r ≢ s → txn t′ r ≡ txn t r) → GoodQuota S l s (txn t′ s)
+    → ((r : ℕ) → r < S .slots → GoodQuota S l r (txn t r)) → (r : ℕ) → r < S .slots → GoodQuota S l r (txn t′ r)
+quotas-but S l t t′ s there new old r i = go (same? r s)
+  where
+    go : (r ≡ s) ⊎ (r ≢ s) → GoodQuota S l r (txn t′ r)
+    go (inl e) = subst (λ (m : ℕ). GoodQuota S l m (txn t′ m)) (sym e) new
+    go (inr d) = subst (λ (w : Txn). GoodQuota S l r w) (sym (there r d)) (old r i)
 
 -- ---- one more
 module _ (S : Sizes) (l : List ℕ) (s x : ℕ) where

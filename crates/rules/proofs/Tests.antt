@@ -20,6 +20,15 @@ pub and-both : (a b : Bool) → T a → T b → T (a && b)
 and-both true b h k = k
 and-both false b h k = h
 
+-- a test beside one that passes
+pub and-also : (a b : Bool) → T b → a ≡ (a && b)
+and-also a true h = and-true a
+  where
+    and-true : (a : Bool) → a ≡ (a && true)
+    and-true true = refl
+    and-true false = refl
+and-also a false h = absurd h
+
 pub or-cases : (a b : Bool) → T (a || b) → T a ⊎ T b
 or-cases true b t = inl tt
 or-cases false b t = inr t

@@ -10,7 +10,7 @@ use Rattle.names.specs.Sizes.{base}
 use Rattle.rules.specs.Words.{bit, implies, everyBelow}
 use Rattle.rules.specs.Tables.{txn, liveUpdate, exclusiveLock, exclusivesOf}
 use Rattle.rules.specs.Tested.{quotaMost, fullIdle, quotaGood}
-use Rattle.rules.proofs.Tests.{is-true, false-is}
+use Rattle.rules.proofs.Tests.{and-also, false-is}
 use Rattle.rules.proofs.Counts.{→everyBelow}
 use Rattle.rules.proofs.Bits.{bit-none}
 use Rattle.rules.proofs.Quotas.{Good→quota, exclusives-none}
@@ -24,10 +24,6 @@ use Rattle.tables.proofs.Reading.{locks→Good}
 and-where : (a b c : Bool) → (T a → b ≡ c) → (a && b) ≡ (a && c)
 and-where true b c f = f tt
 and-where false b c f = refl
-
-and-also : (a b : Bool) → T b → a ≡ (a && b)
-and-also true b h = sym (is-true b h)
-and-also false b h = refl
 
 implies-not : (a b : Bool) → implies a (not b) ≡ not (a && b)
 unfolding implies

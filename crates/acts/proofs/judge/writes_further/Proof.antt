@@ -1,15 +1,15 @@
 -- What is held exclusively is no further item; any other is one where the quota is spent. Assumes nothing.
 use Prim.Native.Nat.{ℕ, suc, _+_}
-use mathlib.Core.Path.{_≡_, refl, sym, ap, _∙_}
+use mathlib.Core.Path.{_≡_, sym, ap, _∙_}
 use mathlib.Core.Logic.{_≢_}
-use mathlib.Core.Bool.{Bool, true, false, _&&_, not}
+use mathlib.Core.Bool.{false}
 use native.Mathlib.Numerals.{add-one}
 use lib.Dec.{T, eqb}
 use borrow.Author.Tests.{ne-eqb}
 use Rattle.names.specs.Sizes.{base}
 use Rattle.rules.specs.Tables.{Lock, lock, holdsExclusive, exclusivesOf}
 use Rattle.rules.specs.Step.{writesFurther}
-use Rattle.rules.proofs.Tests.{eq-make}
+use Rattle.rules.proofs.Tests.{and-also, eq-make, not-make, false-is}
 use Rattle.rules.proofs.Quotas.{held-not-further}
 use borrow.Author.Needs.{needs}
 use Rattle.acts.proofs.judge.writes_further.Statement.{statement}
@@ -23,10 +23,6 @@ own h w s e f = eq-make (h .exclusive) (suc s) (sym e ∙ f ∙ add-one s)
 another : (h : Lock) (w s : ℕ) → w ≡ h .exclusive → w ≢ s + 1 → holdsExclusive h s ≡ false
 unfolding holdsExclusive
 another h w s e d = ne-eqb (h .exclusive) (suc s) (λ f. d (e ∙ f ∙ sym (add-one s)))
-
-and-true : (b : Bool) → b ≡ (b && true)
-and-true true = refl
-and-true false = refl
 
 lock-at-requires : tie.Need-lock-at-requires
 lock-at-requires c κs = search needs
@@ -50,8 +46,8 @@ returns-2 c =
     let l = a .locks .now in
     let e = ap (λ (h : Lock). h .exclusive) (c .before .before .before .lock-at .ensures) in
     let other : holdsExclusive (lock l (a .item .0)) (a .slot .0) ≡ false = another (lock l (a .item .0)) _ (a .slot .0) e (c .before .if1 .left) in
-    ap (λ (n : ℕ). eqb n (base .quota)) (c .exclusives-of .ensures) ∙ and-true (eqb (exclusivesOf base l (a .slot .0)) (base .quota))
-    ∙ ap (λ (b : Bool). eqb (exclusivesOf base l (a .slot .0)) (base .quota) && not b) (sym other)
+    ap (λ (n : ℕ). eqb n (base .quota)) (c .exclusives-of .ensures)
+    ∙ and-also (eqb (exclusivesOf base l (a .slot .0)) (base .quota)) _ (not-make (holdsExclusive (lock l (a .item .0)) (a .slot .0)) (false-is other))
 
 pub writes-further-spec : {M : Type 1} → statement M
 writes-further-spec =
