@@ -45,6 +45,7 @@ module _ (G : Tables) (g : Good base G) where
         size = g .versionsExact;
         known = h;
         most = g .versionsGood x h .countMost;
+        fall = g .versionsGood x h .fall;
         found = looked-chosen base (G .txns) r (g .versionsGood x h) s inside query .0;
       }
 

@@ -5,7 +5,8 @@ pub mod Merge
 pub mod Fill
 pub mod Read
 pub mod Same
-pub mod Walked
+pub mod Halvings
+pub mod Halved
 pub mod Keep
 pub mod Pack
 pub mod Table

@@ -2,4 +2,5 @@
 pub mod Ordered
 pub mod Rows
 pub mod Found
+pub mod Looks
 pub mod Written

@@ -18,16 +18,23 @@ pub struct Choice {
     pub looked: u64,
 }
 
-// The place, from 0, of the newest version in a row that is at most start, walking from the newest.
+// The place, from 0, of the newest version in a row that is at most start. Stamps fall along a row, so
+// it is found by halving: every place before lo is too new, the place hi is old enough.
 fn place_in(row: &[u64], start: u64) -> usize
     requires { ⌜ FoundIn (now row) start ⌝ }
     ensures { λ k. ⌜ k ≡ place start (versionsIn (now (row .entry))) ⌝ }
 {
-    let mut k: usize = 0;
-    while start < row[k * 2 + 1] {
-        k += 1;
+    let mut lo: usize = 0;
+    let mut hi: usize = (row[0] as usize) - 1;
+    while lo < hi {
+        let mid = (lo + hi) / 2;
+        if start < row[mid * 2 + 1] {
+            lo = mid + 1;
+        } else {
+            hi = mid;
+        }
     }
-    k
+    lo
 }
 
 // The version of an item that a start reads: the newest that is at most the start. There is one.

@@ -1,4 +1,4 @@
--- The value at the place that the walk found. Assumes nothing.
+-- The value at the place that the search found. Assumes nothing.
 use mathlib.Core.Path.{_≡_, sym, ap, _∙_, subst}
 use Prim.Native.Nat.{ℕ, suc, _<_}
 use mathlib.Core.List.{List}
@@ -11,7 +11,7 @@ use Rattle.rules.specs.Tables.{versionRow}
 use Rattle.rules.specs.Versions.{noVersion, versionsIn, versionsOf, place, choice}
 use Rattle.versions.specs.Found.{FoundIn}
 use Rattle.versions.proofs.Lent.{lent}
-use Rattle.versions.proofs.Walked.{within, found-in, value-word}
+use Rattle.versions.proofs.Halved.{within, found-in, value-word}
 use Rattle.versions.proofs.choose.chosen.Statement.{statement}
 use Rattle.versions.proofs.choose.chosen.Tie as tie
 
@@ -50,7 +50,8 @@ counted c =
     let a = c .before .before .before .args in
     let v = a .versions .now in
     let x = a .item .0 in
-    within (row (versionRow base) x v) (a .start .0) (found-in v x (a .start .0) (c .before .before .before .pre)) (c .place-in .result) (let e = is-place c in omega arith)
+    let e = is-place c in
+    omega (arith, within (row (versionRow base) x v) (a .start .0) (found-in v x (a .start .0) (c .before .before .before .pre)))
 
 room : (c : tie.After-place-in) → c .place-in .result < base .places
 room c = let m = c .before .before .before .pre .most in omega (arith, counted c)

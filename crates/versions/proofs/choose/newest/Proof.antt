@@ -1,7 +1,7 @@
 -- The value of the first pair of the row. Assumes nothing.
 use native.Mathlib.Omega.{arith}
 use Rattle.rules.specs.Versions.{newest}
-use Rattle.versions.proofs.Walked.{value-word}
+use Rattle.versions.proofs.Halved.{value-word}
 use Rattle.versions.proofs.choose.newest.Statement.{statement}
 use Rattle.versions.proofs.choose.newest.Tie as tie
 
