@@ -33,7 +33,7 @@ module _ (r : List ℕ) (q : ℕ) (f : FoundIn r q) where
 
   -- the loop begins with all places but one to leave out
   pub few-looks : halvings (base .places) (getD r 0 0 - 1) ≤ mostLooks
-  few-looks = at-most (base .places) mostLooks (getD r 0 0 - 1) (let a = f .most in omega arith)
+  few-looks = at-most (base .places) mostLooks (getD r 0 0 - 1) (let a = f .sound .most in omega arith)
 
   -- at first these are all places: the last version is the oldest, so it is old enough
   pub begin : Halved r q 0 (getD r 0 0 - 1)
@@ -51,7 +51,7 @@ module _ (r : List ℕ) (q : ℕ) (f : FoundIn r q) where
       go : (place q (versionsIn r) ≡ getD r 0 0 - 1) ⊎ (place q (versionsIn r) < getD r 0 0 - 1) → stampAt (versionsIn r) (getD r 0 0 - 1) ≤ q
       go (inl e) = subst (λ (k : ℕ). stampAt (versionsIn r) k ≤ q) e fits
       go (inr l) =
-          let a = f .fall (place q (versionsIn r)) (getD r 0 0 - 1) l (omega (arith, within, length-versionsIn r)) in
+          let a = f .sound .fall (place q (versionsIn r)) (getD r 0 0 - 1) l (omega (arith, within, length-versionsIn r)) in
           omega (arith, fits)
 
   module _ (lo hi : ℕ) (h : Halved r q lo hi) where
@@ -67,7 +67,7 @@ module _ (r : List ℕ) (q : ℕ) (f : FoundIn r q) where
         go i (inl e) = subst (λ (k : ℕ). q < stampAt (versionsIn r) k) (sym e) here
         go i (inr b) =
             let d = h .inside in
-            let a = f .fall i mid b (omega (arith, length-versionsIn r)) in
+            let a = f .sound .fall i mid b (omega (arith, length-versionsIn r)) in
             omega (arith, here)
 
     -- where it is old enough, it or one before it is chosen
@@ -85,7 +85,7 @@ module _ (r : List ℕ) (q : ℕ) (f : FoundIn r q) where
     pub less : lo < hi → {n : ℕ} → n ≤ (hi - lo) / 2 → halvings (base .places) n < halvings (base .places) (hi - lo)
     less l {n} m =
         let a = h .inside in
-        let b = f .most in
+        let b = f .sound .most in
         fewer (base .places) n (hi - lo) m (omega arith) (omega arith)
 
     -- where one place is left, it is the chosen one
@@ -103,7 +103,7 @@ module _ (r : List ℕ) (q : ℕ) (f : FoundIn r q) where
 pub found-in : (v : List ℕ) (x q : ℕ) → Found v x q → FoundIn (row (versionRow base) x v) q
 unfolding versionsOf
 found-in v x q f =
-    record { size = length-row x v (f .size) (f .known); most = f .most; fall = f .fall; found = f .found }
+    record { size = length-row x v (f .size) (f .known); sound = f .sound; found = f .found }
 
 -- the value at place k
 pub value-word :

@@ -18,7 +18,8 @@ use Rattle.rules.proofs.EqualVersions.{Good→read}
 use Rattle.rules.proofs.ChangedVersions.{rowOf-versionsIn}
 use Rattle.versions.specs.Ordered.{guard, InOrder}
 use Rattle.versions.specs.Found.{Found}
-use Rattle.versions.specs.Written.{Few, Sound, Trimmed, ZeroBehindOne, AllSound, Committable}
+use Rattle.versions.specs.Sound.{Sound}
+use Rattle.versions.specs.Written.{Few, Trimmed, ZeroBehindOne, AllSound, Committable}
 use Rattle.versions.proofs.Lent.{length-row}
 use Rattle.versions.proofs.Read.{stamp-in}
 use Rattle.versions.proofs.Renew.{old-kept}
@@ -44,8 +45,7 @@ module _ (G : Tables) (g : Good base G) where
       record {
         size = g .versionsExact;
         known = h;
-        most = g .versionsGood x h .countMost;
-        fall = g .versionsGood x h .fall;
+        sound = good-sound (G .txns) r (g .versionsGood x h);
         found = looked-chosen base (G .txns) r (g .versionsGood x h) s inside query .0;
       }
 

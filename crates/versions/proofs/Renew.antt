@@ -13,7 +13,8 @@ use Rattle.rules.specs.Step.{withNew}
 use Rattle.rules.proofs.Choice.{Falls}
 use Rattle.rules.proofs.ChangedVersions.{rowOf-versionsIn}
 use Rattle.versions.specs.Ordered.{guard}
-use Rattle.versions.specs.Written.{readAfter, fronted, claimed, Few, Sound, Trimmed, ZeroBehindOne}
+use Rattle.versions.specs.Sound.{Sound}
+use Rattle.versions.specs.Written.{readAfter, fronted, claimed, Few, Trimmed, ZeroBehindOne}
 use Rattle.versions.proofs.Read.{pairAt}
 use Rattle.versions.proofs.Keep.{kept-is, kept-room, falls-new, first-in}
 

@@ -1,24 +1,23 @@
 -- Where a start finds a version: what the search asks of a row and of the table. Assumes nothing.
-use Prim.Native.Nat.{ℕ, _≤_, _<_}
+use Prim.Native.Nat.{ℕ, _<_}
 use mathlib.Core.Path.{_≡_}
 use mathlib.Core.List.{List}
-use lib.ListN.{getD, length}
+use lib.ListN.{length}
 use Rattle.names.specs.Sizes.{base}
 use Rattle.rules.specs.Words.{row}
 use Rattle.rules.specs.Tables.{versionRow, versionWords}
-use Rattle.rules.specs.Versions.{versionsIn, versionsOf, stampAt, place}
+use Rattle.rules.specs.Versions.{versionsIn, versionsOf, place}
+use Rattle.versions.specs.Sound.{Sound}
 
 -- the stamps of the row r fall, and it has a version that is at most q
 pub record FoundIn (r : List ℕ) (q : ℕ) : Type 0 where
   pub size : length r ≡ versionRow base
-  pub most : getD r 0 0 ≤ base .places
-  pub fall : (i j : ℕ) → i < j → j < length (versionsIn r) → stampAt (versionsIn r) j < stampAt (versionsIn r) i
+  pub sound : Sound r
   pub found : place q (versionsIn r) < length (versionsIn r)
 
 -- the stamps of item x of the table v fall, and it has a version that is at most q
 pub record Found (v : List ℕ) (x q : ℕ) : Type 0 where
   pub size : length v ≡ versionWords base
   pub known : x < base .items
-  pub most : getD (row (versionRow base) x v) 0 0 ≤ base .places
-  pub fall : (i j : ℕ) → i < j → j < length (versionsOf base v x) → stampAt (versionsOf base v x) j < stampAt (versionsOf base v x) i
+  pub sound : Sound (row (versionRow base) x v)
   pub found : place q (versionsOf base v x) < length (versionsOf base v x)

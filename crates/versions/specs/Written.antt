@@ -11,6 +11,7 @@ use Rattle.rules.specs.Tables.{versionRow, versionWords, lockRow, lockWords}
 use Rattle.rules.specs.Versions.{Version, versionsIn, versionsOf, stampAt, rowOf, kept}
 use Rattle.versions.specs.Ordered.{lanes, InOrder}
 use Rattle.versions.specs.Rows.{between}
+use Rattle.versions.specs.Sound.{Sound}
 
 -- those of some versions that one of the starts q reads, hi being the stamp before them
 unfoldable pub readAfter : List ℕ → ℕ → List Version → List Version
@@ -40,12 +41,6 @@ withRow x ys v = take (versionRow base * x) v ++ (ys ++ drop (versionRow base) (
 pub record Few (qs q : List ℕ) : Type 0 where
   pub order : InOrder qs q
   pub few : length qs < base .places
-
--- a row with versions, whose stamps fall: good rows are such
-pub record Sound (r : List ℕ) : Type 0 where
-  pub least : 1 ≤ getD r 0 0
-  pub most : getD r 0 0 ≤ base .places
-  pub fall : (i j : ℕ) → i < j → j < length (versionsIn r) → stampAt (versionsIn r) j < stampAt (versionsIn r) i
 
 -- a row that can be rewritten: a new version is newer than all others
 pub record Writable (r q : List ℕ) (new : Bool) (stamp : ℕ) : Type 0 where

@@ -54,7 +54,7 @@ counted c =
     omega (arith, within (row (versionRow base) x v) (a .start .0) (found-in v x (a .start .0) (c .before .before .before .pre)))
 
 room : (c : tie.After-place-in) → c .place-in .result < base .places
-room c = let m = c .before .before .before .pre .most in omega (arith, counted c)
+room c = let m = c .before .before .before .pre .sound .most in omega (arith, counted c)
 
 mul-t7 : tie.Need-mul-t7
 mul-t7 c = omega (arith, room c)

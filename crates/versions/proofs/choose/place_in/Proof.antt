@@ -24,29 +24,29 @@ loop-holds : tie.Need-loop-holds Inv-loop μ-loop
 loop-holds c = let a = c .before .args in begin (a .row .now) (a .start) (c .before .pre)
 
 add-mid : tie.Need-add-mid Inv-loop μ-loop
-add-mid c = let i = c .before .loop .inv .inside in let m = c .before .before .before .pre .most in omega arith
+add-mid c = let i = c .before .loop .inv .inside in let m = c .before .before .before .pre .sound .most in omega arith
 
 mul-if1 : tie.Need-mul-if1 Inv-loop μ-loop
-mul-if1 c = let i = c .before .loop .inv .inside in let m = c .before .before .before .pre .most in omega arith
+mul-if1 c = let i = c .before .loop .inv .inside in let m = c .before .before .before .pre .sound .most in omega arith
 
 add-if1 : tie.Need-add-if1 Inv-loop μ-loop
-add-if1 c = let i = c .before .loop .inv .inside in let m = c .before .before .before .pre .most in omega arith
+add-if1 c = let i = c .before .loop .inv .inside in let m = c .before .before .before .pre .sound .most in omega arith
 
 mul-if1-2 : tie.Need-mul-if1-2 Inv-loop μ-loop
-mul-if1-2 c = let i = c .before .loop .inv .inside in let m = c .before .before .before .pre .most in omega arith
+mul-if1-2 c = let i = c .before .loop .inv .inside in let m = c .before .before .before .pre .sound .most in omega arith
 
 shared-slice-read-if1 : tie.Need-shared-slice-read-if1 Inv-loop μ-loop
 shared-slice-read-if1 c =
     let p = c .before .before .before .before .pre in
     let i = c .before .before .loop .inv .inside in
-    let m = p .most in
+    let m = p .sound .most in
     let s = p .size in
     omega arith
 
 add-lo : tie.Need-add-lo Inv-loop μ-loop
 add-lo c =
     let i = c .before .before .before .loop .inv .inside in
-    let m = c .before .before .before .before .before .pre .most in
+    let m = c .before .before .before .before .before .pre .sound .most in
     omega arith
 
 loop-less : tie.Need-loop-less Inv-loop μ-loop

@@ -6,7 +6,8 @@ use native.Mathlib.Omega.{arith}
 use lib.ListN.{length}
 use Rattle.names.specs.Sizes.{base}
 use Rattle.rules.specs.Versions.{Version, versionsIn, versionsOf, stampAt, rewritten}
-use Rattle.versions.specs.Written.{claimed, Few, Sound, Trimmed}
+use Rattle.versions.specs.Sound.{Sound}
+use Rattle.versions.specs.Written.{claimed, Few, Trimmed}
 use Rattle.versions.proofs.Lent.{length-row}
 use Rattle.versions.proofs.Renew.{claimed-is}
 use Rattle.versions.proofs.Table.{soFar, none-yet, all-done, length-soFar, row-soFar, one-more}

@@ -7,7 +7,8 @@ use native.Mathlib.Omega.{arith}
 use lib.ListN.{length}
 use Rattle.names.specs.Sizes.{base}
 use Rattle.rules.specs.Versions.{Version}
-use Rattle.versions.specs.Written.{Few, Sound, ZeroBehindOne}
+use Rattle.versions.specs.Sound.{Sound}
+use Rattle.versions.specs.Written.{Few, ZeroBehindOne}
 use Rattle.versions.proofs.Lent.{length-row}
 use Rattle.versions.proofs.Table.{soFar, none-yet, all-done, length-soFar, row-soFar, one-more}
 use Rattle.versions.proofs.rewrite.trim_all.Statement.{statement}
