@@ -35,7 +35,7 @@ static struct found walk(const uint64_t *row, uint64_t start)
     return f;
 }
 
-/* versions: place_in */
+/* choices: place_in */
 static struct found halve(const uint64_t *row, uint64_t start)
 {
     struct found f = {0, 0};

@@ -1,4 +1,4 @@
--- What the answers say of links that are not words: of all of them, and of those that one more wait would add. Assumes nothing.
+-- What the answers say of links that are not words: of all of them, and of those that one more wait would add.
 use Prim.Native.Nat.{ℕ}
 use mathlib.Core.Path.{_≡_, sym, subst}
 use mathlib.Core.Logic.{_≢_, _⊎_, inl, inr, ⊎-elim, _↔_}

@@ -1,5 +1,4 @@
--- Laws of words of slots, of peeling and of the search.
-pub mod Words
+-- Laws of peeling and of the search.
 pub mod Within
 pub mod Peeling
 pub mod Visiting

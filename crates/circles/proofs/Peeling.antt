@@ -1,4 +1,4 @@
--- Peeling: what one slot peeled, a turn over all slots, and the end say of circles. Assumes nothing.
+-- Peeling: what one slot peeled, a turn over all slots, and the end say of circles.
 use Prim.Native.Nat.{ℕ, _+_, _-_, _^_, _≤_, _<_}
 use mathlib.Core.Path.{_≡_, refl, sym, ap, _∙_, subst}
 use mathlib.Core.Logic.{_≢_, _⊎_, inl, inr, ⊎-elim, _↔_}
@@ -17,7 +17,7 @@ use Rattle.rules.proofs.Tests.{and-left, and-right, and-both, not-make}
 use Rattle.rules.proofs.Bits.{bit-below}
 use Rattle.circles.specs.Links.{linked, Waiting, NoCircle}
 use Rattle.circles.specs.Peel.{peeled, Keeps, Swept}
-use Rattle.circles.proofs.Words.{and-at, sans-at, no-bit, has-bit, alone-only, sans-lt, sans-le}
+use Rattle.words.proofs.SlotWords.{and-at, sans-at, no-bit, has-bit, alone-only, sans-lt, sans-le}
 use Rattle.circles.proofs.Within.{circle-next, circle-of}
 
 -- ---- one slot

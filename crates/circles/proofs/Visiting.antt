@@ -1,4 +1,4 @@
--- One visit of the search, in terms of walks. Assumes nothing.
+-- One visit of the search, in terms of walks.
 use Prim.Native.Nat.{ℕ, _+_, _-_, _^_, _≤_, _<_}
 use mathlib.Core.Path.{_≡_, refl, sym, subst}
 use mathlib.Core.Logic.{_≢_, _⊎_, inl, inr, ⊎-elim, _↔_}
@@ -15,9 +15,9 @@ use Rattle.rules.specs.Words.{bit}
 use Rattle.rules.specs.Waits.{Walk, one, more}
 use Rattle.rules.proofs.Tests.{and-left, and-right, and-both, or-cases, or-left, or-right, is-false, not-make, not-use}
 use Rattle.rules.proofs.Walks.{join}
-use Rattle.circles.specs.Links.{linked, Slots, Leads}
+use Rattle.circles.specs.Links.{linked, LinkWords, Leads}
 use Rattle.circles.specs.Visits.{Open}
-use Rattle.circles.proofs.Words.{or-at, sans-at, no-bit, alone-only, ones-more}
+use Rattle.words.proofs.SlotWords.{or-at, sans-at, no-bit, alone-only, ones-more}
 use Rattle.circles.proofs.Within.{word-small}
 
 -- the search begins with nothing done
@@ -55,7 +55,7 @@ leaves w done todo goal o d (more {a} {b} {c} v e) = go (leaves w done todo goal
     go (inr (x, t, inr u)) = inr (x, t, inr (more u e))
 
 -- ---- slot i of `todo` is visited
-module _ (w : List ℕ) (done todo goal i : ℕ) (g : Slots w) (o : Open w done todo goal) (l : i < base .slots) (t : T (bit todo i)) where
+module _ (w : List ℕ) (done todo goal i : ℕ) (g : LinkWords w) (o : Open w done todo goal) (l : i < base .slots) (t : T (bit todo i)) where
   abbrev seen : ℕ
   seen = bitOr done (2 ^ i)
 

@@ -1,4 +1,4 @@
--- Links lead to slots, and where each of some slots leads to another of them there is a circle. Assumes nothing.
+-- Links lead to slots, and where each of some slots leads to another of them there is a circle.
 use Prim.Native.Nat.{ℕ, zero, suc, _^_, _<_}
 use mathlib.Core.Path.{_≡_, refl, sym, subst}
 use mathlib.Core.Logic.{_≢_, _⊎_, inl, inr, ⊎-elim}
@@ -15,10 +15,10 @@ use Rattle.rules.proofs.Tests.{and-left, and-right, and-both, true-is, false-is
 use Rattle.rules.proofs.Counts.{split-le}
 use Rattle.rules.proofs.Bits.{bit-below}
 use Rattle.rules.proofs.Walks.{join}
-use Rattle.circles.specs.Links.{linked, Slots}
+use Rattle.circles.specs.Links.{linked, LinkWords}
 
 -- every word is one of slots, also past the last
-pub word-small : {w : List ℕ} → Slots w → (a : ℕ) → getD w a 0 < 2 ^ base .slots
+pub word-small : {w : List ℕ} → LinkWords w → (a : ℕ) → getD w a 0 < 2 ^ base .slots
 word-small {w} g a = go (ltb a (base .slots)) refl
   where
     go : (c : Bool) → ltb a (base .slots) ≡ c → getD w a 0 < 2 ^ base .slots
@@ -29,7 +29,7 @@ word-small {w} g a = go (ltb a (base .slots)) refl
         omega arith
 
 -- who is waited for is a slot
-pub link-within : {w : List ℕ} → Slots w → (a b : ℕ) → T (linked w a b) → b < base .slots
+pub link-within : {w : List ℕ} → LinkWords w → (a b : ℕ) → T (linked w a b) → b < base .slots
 unfolding linked
 link-within {w} g a b t = bit-below (getD w a 0) b (base .slots) (word-small g a) t
 

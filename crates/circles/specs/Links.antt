@@ -1,4 +1,4 @@
--- Who waits for whom, as one word of slots for each slot, and the walks along such waits. Assumes nothing.
+-- Who waits for whom, as one word of slots for each slot, and the walks along such waits.
 use Prim.Native.Nat.{ℕ, _^_, _<_}
 use mathlib.Core.Path.{_≡_}
 use mathlib.Core.Logic.{_⊎_}
@@ -15,7 +15,7 @@ unfoldable pub linked : List ℕ → ℕ → ℕ → Bool
 linked w a b = bit (getD w a 0) b
 
 -- a word for each slot, and only slots in each word
-pub record Slots (w : List ℕ) : Type 0 where
+pub record LinkWords (w : List ℕ) : Type 0 where
   pub size : length w ≡ base .slots
   pub small : (a : ℕ) → a < base .slots → getD w a 0 < 2 ^ base .slots
 

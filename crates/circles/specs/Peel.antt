@@ -1,4 +1,4 @@
--- Peeling: a slot that waits for none of the others is on no circle among them. Assumes nothing.
+-- Peeling: a slot that waits for none of the others is on no circle among them.
 use Prim.Native.Nat.{ℕ, _^_, _≤_, _<_}
 use mathlib.Core.Path.{_≡_}
 use mathlib.Core.Bool.{cond}

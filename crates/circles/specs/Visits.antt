@@ -1,4 +1,4 @@
--- What is known between two visits of the search. Assumes nothing.
+-- What is known between two visits of the search.
 use Prim.Native.Nat.{ℕ, _^_, _<_}
 use mathlib.Core.Logic.{_⊎_}
 use mathlib.Core.List.{List}

@@ -9,7 +9,7 @@ ghost use Prim.Native.Nat.{_<_, _^_};
 ghost use lib.Dec.{T};
 ghost use Rattle.names.specs.Sizes.{base};
 ghost use Rattle.rules.specs.Words.{bit};
-ghost use Rattle.circles.specs.Links.{Slots, Waiting, NoCircle, Leads};
+ghost use Rattle.circles.specs.Links.{LinkWords, Waiting, NoCircle, Leads};
 ghost use Rattle.circles.specs.Peel.{peeled, Swept};
 ghost use Rattle.circles.specs.Visits.{Open};
 
@@ -19,7 +19,7 @@ const SLOTS: usize = names::SLOTS as usize;
 // The slots of `left` without `slot`, if that waits for none of them: such a slot is on no circle
 // among them.
 fn peel(waits: &[u64], left: u64, slot: usize) -> u64
-    requires { ⌜ Slots (now waits) × (slot < base .slots) ⌝ }
+    requires { ⌜ LinkWords (now waits) × (slot < base .slots) ⌝ }
     ensures { λ r. ⌜ r ≡ peeled (now (waits .entry)) left slot ⌝ }
 {
     if (waits[slot] & left) == 0 {
@@ -30,7 +30,7 @@ fn peel(waits: &[u64], left: u64, slot: usize) -> u64
 
 // What is left once each slot was peeled, from the lowest to the highest.
 fn peel_up(waits: &[u64], left: u64) -> u64
-    requires { ⌜ Slots (now waits) ⌝ }
+    requires { ⌜ LinkWords (now waits) ⌝ }
     ensures { λ r. ⌜ Swept (now (waits .entry)) left r ⌝ }
 {
     let mut rest = left;
@@ -44,7 +44,7 @@ fn peel_up(waits: &[u64], left: u64) -> u64
 
 // What is left once each slot was peeled, from the highest to the lowest.
 fn peel_down(waits: &[u64], left: u64) -> u64
-    requires { ⌜ Slots (now waits) ⌝ }
+    requires { ⌜ LinkWords (now waits) ⌝ }
     ensures { λ r. ⌜ Swept (now (waits .entry)) left r ⌝ }
 {
     let mut rest = left;
@@ -57,10 +57,10 @@ fn peel_down(waits: &[u64], left: u64) -> u64
 }
 
 // Is there no circle among the waits? `waiting` holds the slots that wait for somebody, and may
-// hold more. Slots that are on no circle are peeled off, upward and downward by turns, since waits
+// hold more. LinkWords that are on no circle are peeled off, upward and downward by turns, since waits
 // that lead one way are gone after one turn; what resists a turn has a circle.
 pub fn no_circle(waits: &[u64], waiting: u64) -> bool
-    requires { ⌜ Slots (now waits) × Waiting (now waits) waiting ⌝ }
+    requires { ⌜ LinkWords (now waits) × Waiting (now waits) waiting ⌝ }
     ensures { λ r. ⌜ T r ↔ NoCircle (now (waits .entry)) ⌝ }
 {
     let mut left = waiting;
@@ -92,7 +92,7 @@ fn lowest(word: u64) -> u64
 // Is a slot of `todo` the goal, or leads to it? `done` holds the slots that were visited. Each call
 // visits one slot more, so there are at most as many as there are slots, and one.
 fn search(waits: &[u64], done: u64, todo: u64, goal: u64) -> bool
-    requires { ⌜ Slots (now waits) × Open (now waits) done todo goal ⌝ }
+    requires { ⌜ LinkWords (now waits) × Open (now waits) done todo goal ⌝ }
     ensures { λ r. ⌜ T r ↔ Leads (now (waits .entry)) todo goal ⌝ }
 {
     if todo == 0 {
@@ -111,7 +111,7 @@ fn search(waits: &[u64], done: u64, todo: u64, goal: u64) -> bool
 // Is a slot of `from` the goal, or can one walk from it to the goal? Where `from` holds whom the
 // goal would wait for, this says whether that wait would close a circle.
 pub fn reaches(waits: &[u64], from: u64, goal: u64) -> bool
-    requires { ⌜ Slots (now waits) × (from < 2 ^ base .slots) ⌝ }
+    requires { ⌜ LinkWords (now waits) × (from < 2 ^ base .slots) ⌝ }
     ensures { λ r. ⌜ T r ↔ Leads (now (waits .entry)) from goal ⌝ }
 {
     search(waits, 0, from, goal)

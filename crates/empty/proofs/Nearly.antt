@@ -1,5 +1,5 @@
 -- Each case has a program, so that the theorem speaks of something: one that is right in all that its case does not name. And the
--- promise can be met. Assumes nothing.
+-- promise can be met.
 use Prim.Native.Nat.{ℕ}
 use mathlib.Core.Path.{_≡_, refl}
 use mathlib.Core.Bool.{Bool, true, false, not, cond}
@@ -8,16 +8,17 @@ use Rattle.names.specs.declared.Answer.{Answer}
 use Rattle.names.specs.Sizes.{base}
 use Rattle.rules.specs.Tables.{Tables, tables}
 use Rattle.rules.specs.Versions.{newest}
-use Rattle.rules.specs.Answers.{Outcome, granted, refuses, deadlock}
+use Rattle.rules.specs.Answers.{Outcome, granted, refuses, Deadlock}
+use Rattle.empty.specs.Calls.{isBegin}
 use Rattle.empty.specs.Programs.{Input, Meets}
-use Rattle.empty.specs.Empty.{isTwoOrTen, isBegin, Empty, answersTwoOrTen, grantsAll, alwaysReadsZero, changesNothing, storesNowhere, makesUpLooked}
+use Rattle.empty.specs.Empty.{isTwoOrTen, Empty, answersTwoOrTen, grantsAll, alwaysReadsZero, changesNothing, storesNowhere, makesUpLooked}
 use Rattle.empty.proofs.Runs.{right}
 
 pub rules-meet : Meets right
 unfolding right
 rules-meet i = refl
 
-pub refuses-all : Empty (λ i. refuses deadlock (i .before))
+pub refuses-all : Empty (λ i. refuses Deadlock (i .before))
 unfolding isTwoOrTen
 refuses-all = answersTwoOrTen λ i. tt
 

@@ -1,4 +1,4 @@
--- No empty program meets what the keeper promises: each says something else of one of the small runs. Assumes nothing.
+-- No empty program meets what the keeper promises: each says something else of one of the small runs.
 use mathlib.Core.Path.{_≡_, ap}
 use native.Mathlib.Omega.{arith}
 use lib.Dec.{T}

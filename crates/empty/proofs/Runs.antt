@@ -1,5 +1,5 @@
 -- Small runs from fresh tables, trial C of document 01 among them, and what the rules say of the next call, by computation. The tables
--- stay behind the inputs' names: whoever uses a run has only what is stated of it here. Assumes nothing.
+-- stay behind the inputs' names: whoever uses a run has only what is stated of it here.
 use Prim.Native.Nat.{ℕ, _-_}
 use mathlib.Core.Path.{_≡_, refl, sym, _∙_}
 use mathlib.Core.Bool.{not}
@@ -9,16 +9,17 @@ use lib.ListN.{replicate}
 use Rattle.names.specs.declared.Answer.{Answer}
 use Rattle.names.specs.Sizes.{base}
 use Rattle.rules.specs.Words.{implies, everyBelow, someBelow, countBelow, firstFrom, every, some, tabulateFrom, row, everyRow, mapRows, bit, withBit, withoutBit}
-use Rattle.rules.specs.Tables.{txn, setTxn, setAwaited, live, liveUpdate, liveQuery, slotOf, freeSlot, startsFrom, starts, lock, setLock, holdsShared, holdsExclusive, holds, exclusivesOf, lockIn, lockWordsOf, released, release, fresh}
+use Rattle.rules.specs.Tables.{txn, setTxn, setAwaited, live, liveUpdate, liveQuery, slotOf, freeSlot, startsFrom, starts, lock, setLock, holdsShared, holdsExclusive, holds, exclusivesOf, released, release, fresh}
 use Rattle.rules.specs.Versions.{pairs, versionsIn, versionsOf, pairWords, rowOf, stampAt, newest, place, choice, readBySome, keptFrom, kept, rewritten}
 use Rattle.rules.specs.Waits.{conflicts, blocks, blocked, waitsFor, marked, spread, rounds, reached, circleAt, noCircle}
 use Rattle.rules.specs.Tested.{sizesExact, topsMost, freeZero, listed, startGood, awaitedGood, awaiterGood, txnGood, distinct, holdersLive, lockGood, quotaMost, fullIdle, quotaGood, falls, lastOld, allRead, versionsGood, good}
 use Rattle.rules.specs.Locks.{heldBy, decide, anotherShares, anotherExcludes, decision}
-use Rattle.rules.specs.Step.{begun, begin, conflicted, cleared, locked, carriedOut, access, awaitsOther, writesFurther, queryRead, readBy, writeBy, withNew, committed, ended, commitBy, aborted, abortBy, act, step}
+use Rattle.rules.specs.Step.{begun, beginBy, conflicted, cleared, locked, cellDeed, access, awaitsOther, writesFurther, queryRead, readBy, writeBy, withNew, committed, ended, commitBy, aborted, abortBy, judged, done, act, step}
 use Rattle.rules.specs.Tables.{Tables, tables, lastNumber, txnWords, lockWords, aQuery}
-use Rattle.rules.specs.Answers.{Call, beginUpdate, beginQuery, read, write, commit, Outcome}
-use Rattle.empty.specs.Programs.{Input, isWord, callOfWords, tablesOfWords}
-use Rattle.empty.specs.Empty.{isRead, isBegin, withoutVersions}
+use Rattle.rules.specs.Answers.{Call, BeginUpdate, BeginQuery, Read, Write, Commit, Outcome}
+use Rattle.empty.specs.Calls.{isWord, callOfWords, isRead, isBegin}
+use Rattle.empty.specs.Programs.{Input, tablesOfWords}
+use Rattle.empty.specs.Empty.{withoutVersions}
 
 -- the tables that the calls leave, one after another
 unfoldable leave : List Call → Tables → Tables
@@ -36,7 +37,7 @@ right i = step base (i .call) (i .before)
 
 -- whoever unfolds this computes with all the rules
 unfoldable computed : Input → Outcome
-unfolding right isRead isBegin isWord callOfWords tablesOfWords withoutVersions tablesAfter leave implies everyBelow someBelow countBelow firstFrom every some tabulateFrom row everyRow mapRows bit withBit withoutBit txn setTxn setAwaited live liveUpdate liveQuery slotOf freeSlot startsFrom starts lock setLock holdsShared holdsExclusive holds exclusivesOf lockIn lockWordsOf released release fresh pairs versionsIn versionsOf pairWords rowOf stampAt newest place choice readBySome keptFrom kept rewritten conflicts blocks blocked waitsFor marked spread rounds reached circleAt noCircle sizesExact topsMost freeZero listed startGood awaitedGood awaiterGood txnGood distinct holdersLive lockGood quotaMost fullIdle quotaGood falls lastOld allRead versionsGood good heldBy decide anotherShares anotherExcludes decision begun begin conflicted cleared locked carriedOut access awaitsOther writesFurther queryRead readBy writeBy withNew committed ended commitBy aborted abortBy act step
+unfolding right isRead isBegin isWord callOfWords tablesOfWords withoutVersions tablesAfter leave implies everyBelow someBelow countBelow firstFrom every some tabulateFrom row everyRow mapRows bit withBit withoutBit txn setTxn setAwaited live liveUpdate liveQuery slotOf freeSlot startsFrom starts lock setLock holdsShared holdsExclusive holds exclusivesOf released release fresh pairs versionsIn versionsOf pairWords rowOf stampAt newest place choice readBySome keptFrom kept rewritten conflicts blocks blocked waitsFor marked spread rounds reached circleAt noCircle sizesExact topsMost freeZero listed startGood awaitedGood awaiterGood txnGood distinct holdersLive lockGood quotaMost fullIdle quotaGood falls lastOld allRead versionsGood good heldBy decide anotherShares anotherExcludes decision begun beginBy conflicted cleared locked cellDeed access awaitsOther writesFurther queryRead readBy writeBy withNew committed ended commitBy aborted abortBy judged done act step
 computed i = right i
 
 -- the call c after the calls cs
@@ -50,7 +51,7 @@ answer c v n k = record { code = c; value = v; number = n; looked = k }
 -- ---- a begin on fresh tables: it is granted, and gives the number 1
 pub beginFresh : Input
 unfolding computed
-beginFresh = asked beginUpdate [] tt tt
+beginFresh = asked BeginUpdate [] tt tt
 
 pub beginFresh-answer : (right beginFresh) .answer ≡ answer 0 0 1 0
 unfolding computed beginFresh
@@ -67,7 +68,7 @@ beginFresh-next = refl
 -- ---- trial C, "T1 writes x, T2 reads x: 1.": x is 7, and T1 writes 42
 pub readHeld : Input
 unfolding computed
-readHeld = asked (read 2 7) (beginUpdate ∷ beginUpdate ∷ write 1 7 42 ∷ []) tt tt
+readHeld = asked (Read 2 7) (BeginUpdate ∷ BeginUpdate ∷ Write 1 7 42 ∷ []) tt tt
 
 pub readHeld-good : T (good base (readHeld .before))
 unfolding computed readHeld
@@ -80,7 +81,7 @@ readHeld-answer = refl
 -- "T1 commits": the newest value of x was 0 and is 42
 pub commitWritten : Input
 unfolding computed
-commitWritten = asked (commit 1) (beginUpdate ∷ beginUpdate ∷ write 1 7 42 ∷ read 2 7 ∷ []) tt tt
+commitWritten = asked (Commit 1) (BeginUpdate ∷ BeginUpdate ∷ Write 1 7 42 ∷ Read 2 7 ∷ []) tt tt
 
 pub commitWritten-later : T (not (isBegin (commitWritten .call)))
 unfolding computed commitWritten
@@ -97,7 +98,7 @@ commitWritten-is = refl
 -- "T2 reads x: 0 with T1's value."
 pub readCommitted : Input
 unfolding computed
-readCommitted = asked (read 2 7) (beginUpdate ∷ beginUpdate ∷ write 1 7 42 ∷ read 2 7 ∷ commit 1 ∷ []) tt tt
+readCommitted = asked (Read 2 7) (BeginUpdate ∷ BeginUpdate ∷ Write 1 7 42 ∷ Read 2 7 ∷ Commit 1 ∷ []) tt tt
 
 pub readCommitted-reads : T (isRead (readCommitted .call))
 unfolding computed readCommitted
@@ -111,11 +112,11 @@ readCommitted-answer = refl
 -- the query reads 0 in both, at place 2 and at place 1
 pub readPast : Input
 unfolding computed
-readPast = asked (read 1 5) (beginQuery ∷ beginUpdate ∷ write 2 5 77 ∷ commit 2 ∷ []) tt tt
+readPast = asked (Read 1 5) (BeginQuery ∷ BeginUpdate ∷ Write 2 5 77 ∷ Commit 2 ∷ []) tt tt
 
 pub readBeside : Input
 unfolding computed
-readBeside = asked (read 1 5) (beginQuery ∷ beginUpdate ∷ write 2 6 77 ∷ commit 2 ∷ []) tt tt
+readBeside = asked (Read 1 5) (BeginQuery ∷ BeginUpdate ∷ Write 2 6 77 ∷ Commit 2 ∷ []) tt tt
 
 pub same-call : readPast .call ≡ readBeside .call
 unfolding computed readPast readBeside

@@ -1,38 +1,21 @@
 -- Document 01, "How much each statement must say": "Five empty programs have to break it." Each is a case, taken as widely as the
--- words allow: what a case does not name the program may do as it likes, and be right there. Assumes nothing.
+-- words allow: what a case does not name the program may do as it likes, and be right there.
 use Prim.Native.Nat.{ℕ}
 use mathlib.Core.Path.{_≡_}
-use mathlib.Core.Bool.{Bool, true, false, not, _||_}
+use mathlib.Core.Bool.{Bool, not, _||_}
 use mathlib.Core.List.{[]}
 use lib.Dec.{T, eqb}
 use Rattle.names.specs.Sizes.{base}
 use Rattle.rules.specs.Tables.{Tables, tables}
 use Rattle.rules.specs.Versions.{newest}
 use Rattle.rules.specs.Tested.{good}
-use Rattle.rules.specs.Answers.{Call, beginUpdate, beginQuery, read, write, commit, abort, granted, code, deadlock, badTables}
+use Rattle.rules.specs.Answers.{Call, granted, code, Deadlock, BadTables}
+use Rattle.empty.specs.Calls.{isRead, isBegin}
 use Rattle.empty.specs.Programs.{Input, Program}
 
 -- the codes 2 and 10
 unfoldable pub isTwoOrTen : ℕ → Bool
-isTwoOrTen k = eqb k (code deadlock) || eqb k (code badTables)
-
--- the calls that read
-unfoldable pub isRead : Call → Bool
-isRead beginUpdate = false
-isRead beginQuery = false
-isRead (read n x) = true
-isRead (write n x v) = false
-isRead (commit n) = false
-isRead (abort n) = false
-
--- the two begins
-unfoldable pub isBegin : Call → Bool
-isBegin beginUpdate = true
-isBegin beginQuery = true
-isBegin (read n x) = false
-isBegin (write n x v) = false
-isBegin (commit n) = false
-isBegin (abort n) = false
+isTwoOrTen k = eqb k (code Deadlock) || eqb k (code BadTables)
 
 -- the tables without the version rows
 unfoldable pub withoutVersions : Tables → Tables

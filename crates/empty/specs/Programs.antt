@@ -1,30 +1,16 @@
 -- A program as its callers see it: whatever words it gets, it answers four numbers and leaves three tables. It has no memory of its
--- own: like the keeper's, its whole state is the tables that it is lent. Assumes nothing.
-use Prim.Native.Nat.{ℕ}
+-- own: like the keeper's, its whole state is the tables that it is lent.
 use mathlib.Core.Path.{_≡_}
-use mathlib.Core.Bool.{Bool, true, _&&_}
-use lib.Dec.{T, leb}
+use mathlib.Core.Bool.{Bool, _&&_}
+use lib.Dec.{T}
 use Rattle.names.specs.Sizes.{base}
 use Rattle.rules.specs.Words.{every}
 use Rattle.rules.specs.Tables.{Tables}
-use Rattle.rules.specs.Answers.{Call, beginUpdate, beginQuery, read, write, commit, abort, Outcome}
+use Rattle.rules.specs.Answers.{Call, Outcome}
 use Rattle.rules.specs.Step.{step}
+use Rattle.empty.specs.Calls.{isWord, callOfWords}
 
--- "Values are any 64-bit number." "Three lent tables of 64-bit words"
-abbrev pub greatestWord : ℕ
-greatestWord = 18446744073709551615
-
-unfoldable pub isWord : ℕ → Bool
-isWord w = leb w greatestWord
-
-unfoldable pub callOfWords : Call → Bool
-callOfWords beginUpdate = true
-callOfWords beginQuery = true
-callOfWords (read n x) = isWord n && isWord x
-callOfWords (write n x v) = isWord n && isWord x && isWord v
-callOfWords (commit n) = isWord n
-callOfWords (abort n) = isWord n
-
+-- "Three lent tables of 64-bit words"
 unfoldable pub tablesOfWords : Tables → Bool
 tablesOfWords G = every isWord (G .txns) && every isWord (G .locks) && every isWord (G .versions)
 

@@ -1,4 +1,4 @@
--- Words set to 0 one by one, the counts of version rows set to 1 row by row, and the tables that come of it. Assumes nothing.
+-- Words set to 0 one by one, the counts of version rows set to 1 row by row, and the tables that come of it.
 use Prim.Native.Nat.{ℕ, zero, suc, _+_, _*_, _/_, _%_, _≤_, _<_}
 use mathlib.Core.Path.{_≡_, refl, sym, ap, _∙_, subst}
 use mathlib.Core.Logic.{_≢_, _⊎_, inl, inr}

@@ -1,4 +1,4 @@
--- Tables filled fresh where their sizes are exact. Assumes nothing.
+-- Tables filled fresh where their sizes are exact.
 use mathlib.Core.Bool.{cond}
 use Rattle.names.specs.declared.Sizes.{Sizes}
 use Rattle.rules.specs.Tables.{Tables, fresh}

@@ -1,4 +1,4 @@
--- Demand 3, whole, and what stands beside it: of all sizes with a place for every slot, and of the appliance's. Assumes nothing.
+-- Demand 3, whole, and what stands beside it: of all sizes with a place for every slot, and of the appliance's.
 use Prim.Native.Nat.{_≤_}
 use mathlib.Core.List.{List}
 use native.Mathlib.Omega.{arith}
@@ -11,9 +11,10 @@ use Rattle.history.specs.Ended.{EndedForEver}
 use Rattle.history.specs.Beside.{Beside}
 use Rattle.history.proofs.Theorem.{serializes}
 use Rattle.history.proofs.Query.{undisturbed}
-use Rattle.history.proofs.Ended.{run-good, run-never-bad, ended-for-ever}
+use Rattle.history.proofs.Happens.{run-good}
+use Rattle.history.proofs.Ended.{run-never-bad, ended-for-ever}
 use Rattle.history.proofs.Numbers.{upward}
-use Rattle.history.proofs.ByBegins.{told-by-begins}
+use Rattle.history.proofs.ByAnswers.{told-by-answers}
 
 -- ---- of all sizes
 module _ (S : Sizes) (enough : S .slots ≤ S .places) (room : 1 ≤ S .places) where
@@ -27,7 +28,7 @@ module _ (S : Sizes) (enough : S .slots ≤ S .places) (room : 1 ≤ S .places) 
           stayGood = run-good S enough room cs;
           neverBad = run-never-bad S enough room cs;
           rising = upward S enough room cs;
-          byBegins = told-by-begins S enough room cs;
+          byAnswers = told-by-answers S enough room cs;
         },
     ended-for-ever S enough room,
   )

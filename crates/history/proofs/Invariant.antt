@@ -1,4 +1,4 @@
--- The invariant of a run, said of what the serial proof sees of the tables: no word of a table is named here. Assumes nothing.
+-- The invariant of a run, said of what the serial proof sees of the tables: no word of a table is named here.
 --
 -- Why it holds. A shared lock keeps still what its holder read: another's commit changes only items that the other holds
 -- exclusively, and such an item has no second holder (Fair, alone). So whatever a live update has done so far it could do just as
@@ -14,7 +14,8 @@ use mathlib.Core.Logic.{_≢_}
 use mathlib.Core.Bool.{Bool, cond}
 use mathlib.Core.List.{List, []}
 use lib.Dec.{T}
-use Rattle.history.specs.Serial.{Access, oneByOne, Absent, Once}
+use Rattle.history.specs.Happened.{Access}
+use Rattle.history.specs.Serial.{oneByOne, Absent, Once}
 use Rattle.history.proofs.Plain.{zeros, agrees, final}
 use Rattle.history.proofs.Replay.{Within, Each}
 
@@ -22,8 +23,9 @@ use Rattle.history.proofs.Replay.{Within, Each}
 pub record View : Type 1 where
   -- the newest value of an item
   pub current : ℕ → ℕ
-  -- the last number given, and the number of the transaction in a slot
+  -- the last number given, the clock, and the number of the transaction in a slot
   pub last : ℕ
+  pub clock : ℕ
   pub number : ℕ → ℕ
   -- an update lives in the slot; a query lives there
   pub update : ℕ → Type 0
@@ -40,14 +42,16 @@ pub record Fair (items : ℕ) (W : View) : Type 0 where
   pub known-update : (s : ℕ) → W .update s → W .number s ≤ W .last
   pub known-query : (s : ℕ) → W .query s → W .number s ≤ W .last
   pub apart : (s r : ℕ) → W .update s → W .update r → s ≢ r → W .number s ≢ W .number r
+  pub apart-queries : (s r : ℕ) → W .query s → W .query r → s ≢ r → W .number s ≢ W .number r
   pub unlike : (s r : ℕ) → W .update s → W .query r → W .number s ≢ W .number r
   pub alone : (s r x : ℕ) → x < items → s ≢ r → T (W .writes s x) → T (W .holds r x) → ⊥
   pub written-held : (s x : ℕ) → T (W .writes s x) → T (W .holds s x)
 
--- ---- the slot r is after a call as before, if it lives then. (Who ended is asked for nothing: an abort and a query's end are quiet.)
+-- ---- the slot r is after a call as before, and who lives there afterwards lived there before; a query lives on
 pub record Kept (items : ℕ) (W W′ : View) (r : ℕ) : Type 0 where
   pub was-update : W′ .update r → W .update r
   pub was-query : W′ .query r → W .query r
+  pub lives-on : W .query r → W′ .query r
   pub same-number : W′ .update r → W′ .number r ≡ W .number r
   pub same-name : W′ .query r → W′ .number r ≡ W .number r
   pub still-holds : (x : ℕ) → x < items → W′ .update r → T (W .holds r x) → T (W′ .holds r x)

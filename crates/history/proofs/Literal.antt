@@ -1,4 +1,4 @@
--- What holds of an array that is a function holds of a list of as many numbers as there are items. Assumes nothing.
+-- What holds of an array that is a function holds of a list of as many numbers as there are items.
 use Prim.Native.Nat.{ℕ, _<_}
 use mathlib.Core.Path.{_≡_, sym, _∙_, subst}
 use mathlib.Core.Logic.{_≢_, _⊎_, inl, inr}
@@ -11,7 +11,7 @@ use Rattle.names.specs.declared.Sizes.{Sizes}
 use Rattle.rules.proofs.Tests.{and-left, and-right, and-both}
 use Rattle.rules.proofs.Tests.{same?}
 use Rattle.rules.proofs.Fresh as fresh
-use Rattle.history.specs.Serial.{Access, got, put}
+use Rattle.history.specs.Happened.{Access, got, put}
 use Rattle.history.specs.Serial as lists
 use Rattle.history.proofs.Plain.{Array, zeros, store, agrees, final}
 use Rattle.history.proofs.Replay.{Within, store-here, store-there}

@@ -1,4 +1,4 @@
--- Running accesses on an array, one transaction after another. Assumes nothing.
+-- Running accesses on an array, one transaction after another.
 use Prim.Native.Nat.{ℕ}
 use mathlib.Core.Path.{_≡_, refl, sym, ap, _∙_, subst}
 use mathlib.Core.Logic.{_≢_, _⊎_, inl, inr}
@@ -8,7 +8,8 @@ use lib.Dec.{T, eqb}
 use borrow.Author.Tests.{eq-eqb, ne-eqb}
 use Rattle.rules.proofs.Tests.{and-left, and-right, and-both}
 use Rattle.rules.proofs.Tests.{true-is, same?}
-use Rattle.history.specs.Serial.{Access, got, put, oneByOne, Absent, Once}
+use Rattle.history.specs.Happened.{Access, got, put}
+use Rattle.history.specs.Serial.{oneByOne, Absent, Once}
 use Rattle.history.proofs.Plain.{Array, store, agrees, final}
 
 -- ---- one list after the other

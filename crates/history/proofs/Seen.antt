@@ -1,9 +1,9 @@
--- What the serial proof sees of good tables, and when a slot is kept. Assumes nothing.
+-- What the serial proof sees of good tables (`seen`), that they are fair, and when a slot is kept.
 use Prim.Native.Nat.{ℕ, _<_}
 use mathlib.Core.Path.{_≡_, ap, _∙_, subst}
 use lib.Dec.{T}
 use Rattle.names.specs.declared.Sizes.{Sizes}
-use Rattle.rules.specs.Tables.{Tables, lastNumber, Txn, txn, noTxn, live, liveUpdate, liveQuery}
+use Rattle.rules.specs.Tables.{Tables, lastNumber, clock, Txn, txn, noTxn, live, liveUpdate, liveQuery}
 use Rattle.rules.specs.Tables.{lock, holds, holdsShared, holdsExclusive}
 use Rattle.rules.specs.Versions.{newest}
 use Rattle.rules.specs.Good.{Good}
@@ -19,6 +19,7 @@ seen S G =
     record {
       current = newest S (G .versions);
       last = lastNumber (G .txns);
+      clock = clock (G .txns);
       number = λ s. (txn (G .txns) s) .number;
       update = λ s. (s < S .slots) × T (liveUpdate (txn (G .txns) s));
       query = λ s. (s < S .slots) × T (liveQuery (txn (G .txns) s));
@@ -35,6 +36,7 @@ seen-fair S G g =
       known-update = λ s u. g .txnGood s (u .0) .given;
       known-query = λ s q. g .txnGood s (q .0) .given;
       apart = λ s r u w d. g .distinct s r (u .0) (w .0) d (update-live (txn (G .txns) r) (w .1) .0);
+      apart-queries = λ s r u w d. g .distinct s r (u .0) (w .0) d (query-live (txn (G .txns) r) (w .1) .0);
       unlike = λ s r u q.
           g .distinct s r (u .0) (q .0)
           (λ e. query-not-update (G .txns) r (q .1) (subst (λ (m : ℕ). T (liveUpdate (txn (G .txns) m))) e (u .1)))
@@ -55,6 +57,7 @@ kept-by S G G′ r R L v =
     record {
       was-update = λ u. (u .0, rw (R .number-is, R .kind-is) at (u .1));
       was-query = λ q. (q .0, rw (R .number-is, R .kind-is) at (q .1));
+      lives-on = λ q. (q .0, rw (R .number-is, R .kind-is) (q .1));
       same-number = λ u. R .number-is;
       same-name = λ q. R .number-is;
       still-holds = λ x i u h. L x i .holds-on h;
@@ -66,22 +69,3 @@ kept-by S G G′ r R L v =
 -- nobody lives in a free row
 pub free-dead : {r : Txn} → r ≡ noTxn → T (live r) → ⊥
 free-dead {r} e h = live-number r h (ap (λ (o : Txn). o .number) e)
-
-pub kept-gone : (S : Sizes) (G G′ : Tables) (r : ℕ) → txn (G′ .txns) r ≡ noTxn → Kept (S .items) (seen S G) (seen S G′) r
-kept-gone S G G′ r e =
-    record {
-      was-update = λ u. absurd (nu u);
-      was-query = λ q. absurd (nq q);
-      same-number = λ u. absurd (nu u);
-      same-name = λ q. absurd (nq q);
-      still-holds = λ x i u h. absurd (nu u);
-      same-writes = λ x i u. absurd (nu u);
-      same-working = λ x i u w. absurd (nu u);
-      same-snapshot = λ x i q. absurd (nq q);
-    }
-  where
-    nu : (r < S .slots) × T (liveUpdate (txn (G′ .txns) r)) → ⊥
-    nu u = free-dead e (update-live (txn (G′ .txns) r) (u .1) .0)
-
-    nq : (r < S .slots) × T (liveQuery (txn (G′ .txns) r)) → ⊥
-    nq q = free-dead e (query-live (txn (G′ .txns) r) (q .1) .0)

@@ -1,4 +1,4 @@
--- Laws of tables that belong to the crate `rules`: what a start reads, locks that others keep, fresh values. Assumes nothing.
+-- Laws of tables that belong to the crate `rules`: what a start reads, locks that others keep, fresh values.
 use Prim.Native.Nat.{ℕ, suc, _+_, _≤_, _<_}
 use mathlib.Core.Path.{_≡_, refl, sym, ap, _∙_, subst}
 use mathlib.Core.Logic.{_≢_, _⊎_, inl, inr}
@@ -18,7 +18,7 @@ use Rattle.rules.specs.Good.{Good}
 use Rattle.rules.specs.Step.{sharedToo, replaced, taken, begun, withNew, committed, ended, aborted}
 use Rattle.rules.proofs.Tests.{or-cases, or-left, or-right, is-false, true-is, same?}
 use Rattle.rules.proofs.Bits.{withBit-here, withBit-there, withoutBit-there}
-use Rattle.rules.proofs.Views.{awaiting, setAwaited-row, lastNumber-setTxn, txn-setTxn, txn-setTxn-other, txn-top, lock-release}
+use Rattle.rules.proofs.Views.{awaiting, setAwaited-row, lastNumber-setTxn, clock-setTxn, txn-setTxn, txn-setTxn-other, txn-top, lock-release}
 use Rattle.rules.proofs.Choice.{choice-miss}
 use Rattle.rules.proofs.Trim.{kept-choice}
 use Rattle.rules.proofs.Starts.{start-in}
@@ -51,6 +51,9 @@ pub awaited-last : (t : List ℕ) (s k x : ℕ) → lastNumber (setAwaited t s k
 awaited-last t s k x =
     ap (λ (u : List ℕ). lastNumber u) (setAwaited-row t s k x) ∙ lastNumber-setTxn t s (awaiting (txn t s) k x)
 
+pub awaited-clock : (t : List ℕ) (s k x : ℕ) → clock (setAwaited t s k x) ≡ clock t
+awaited-clock t s k x = ap (λ (u : List ℕ). clock u) (setAwaited-row t s k x) ∙ clock-setTxn t s (awaiting (txn t s) k x)
+
 -- a row begun in slot s
 module _ (S : Sizes) (G : Tables) (g : Good S G) (k q s : ℕ) (inside : s < S .slots) where
   abbrev n : ℕ
@@ -70,6 +73,10 @@ module _ (S : Sizes) (G : Tables) (g : Good S G) (k q s : ℕ) (inside : s < S .
   pub begun-last : lastNumber ((begun k q s G) .txns) ≡ n
   unfolding begun
   begun-last = lastNumber-setTxn (set (G .txns) 0 n) s R ∙ getD-set-same (G .txns) 0 n 0 (omega (arith, g .txnsExact))
+
+  pub begun-clock : clock ((begun k q s G) .txns) ≡ clock (G .txns)
+  unfolding begun
+  begun-clock = clock-setTxn (set (G .txns) 0 n) s R ∙ getD-set-other (G .txns) 0 1 n 0 (omega arith)
 
 -- ---- locks: what slot r has of a lock stays
 pub record SameHold (h h′ : Lock) (r : ℕ) : Type 0 where
@@ -215,6 +222,10 @@ module _ (S : Sizes) (G : Tables) (g : Good S G) (s : ℕ) (inside : s < S .slot
   unfolding aborted
   aborted-last = lastNumber-setTxn (G .txns) s noTxn
 
+  pub aborted-clock : clock ((aborted S s G) .txns) ≡ clock (G .txns)
+  unfolding aborted
+  aborted-clock = clock-setTxn (G .txns) s noTxn
+
 -- ---- a query's end and an update's commit
 module _ (S : Sizes) (enough : S .slots ≤ S .places) (G : Tables) (g : Good S G) (s : ℕ) (inside : s < S .slots) where
   pub ended-here : txn ((ended S s G) .txns) s ≡ noTxn
@@ -228,6 +239,10 @@ module _ (S : Sizes) (enough : S .slots ≤ S .places) (G : Tables) (g : Good S 
   pub ended-last : lastNumber ((ended S s G) .txns) ≡ lastNumber (G .txns)
   unfolding ended
   ended-last = lastNumber-setTxn (G .txns) s noTxn
+
+  pub ended-clock : clock ((ended S s G) .txns) ≡ clock (G .txns)
+  unfolding ended
+  ended-clock = clock-setTxn (G .txns) s noTxn
 
   pub ended-newest : (x : ℕ) → x < S .items → newest S ((ended S s G) .versions) x ≡ newest S (G .versions) x
   unfolding ended newest
@@ -262,6 +277,10 @@ module _ (S : Sizes) (enough : S .slots ≤ S .places) (G : Tables) (g : Good S 
   pub committed-last : lastNumber ((committed S s G) .txns) ≡ lastNumber (G .txns)
   unfolding committed
   committed-last = lastNumber-setTxn u s noTxn ∙ getD-set-other (G .txns) 1 0 c 0 (omega arith)
+
+  pub committed-clock : clock ((committed S s G) .txns) ≡ c
+  unfolding committed
+  committed-clock = clock-setTxn u s noTxn ∙ getD-set-same (G .txns) 1 c 0 (omega (arith, g .txnsExact))
 
   pub committed-newest :
       (x : ℕ) → x < S .items

@@ -1,7 +1,9 @@
--- Document 01, demand 3 (Runs, Serial, Undisturbed), and what stands beside it.
+-- Document 01, demand 3 (Runs, Happened, Serial, Undisturbed), and what stands beside it.
 pub mod Runs
+pub mod Happened
 pub mod Serial
 pub mod Undisturbed
 pub mod Ended
 pub mod Numbers
+pub mod ByAnswers
 pub mod Beside

@@ -1,12 +1,11 @@
--- A run: calls made one after another, each with its answer. Assumes nothing.
-use Prim.Native.Nat.{ℕ}
-use mathlib.Core.Bool.{Bool, true, false}
+-- A run: calls made one after another, each with its answer.
+use mathlib.Core.Bool.{true}
 use mathlib.Core.List.{List, [], _∷_}
-use lib.Dec.{T, eqb}
+use lib.Dec.{T}
 use Rattle.names.specs.declared.Sizes.{Sizes}
 use Rattle.names.specs.declared.Answer.{Answer}
 use Rattle.rules.specs.Tables.{Tables}
-use Rattle.rules.specs.Answers.{Call, beginUpdate, beginQuery, read, write, commit, abort}
+use Rattle.rules.specs.Answers.{Call}
 use Rattle.rules.specs.Step.{step}
 
 -- a call with its answer
@@ -22,15 +21,6 @@ run S (c ∷ cs) G = let o = step S c G in record { call = c; answer = o .answer
 unfoldable pub endOf : Sizes → List Call → Tables → Tables
 endOf S [] G = G
 endOf S (c ∷ cs) G = endOf S cs ((step S c G) .after)
-
--- the call names the transaction n
-unfoldable pub names : ℕ → Call → Bool
-names n beginUpdate = false
-names n beginQuery = false
-names n (read m x) = eqb m n
-names n (write m x v) = eqb m n
-names n (commit m) = eqb m n
-names n (abort m) = eqb m n
 
 -- every event has the property P
 unfoldable pub Every : (Event → Type 0) → List Event → Type 0

@@ -1,4 +1,4 @@
--- "Calls by others after a query began never alter the numbers it reads." Assumes nothing.
+-- "Calls by others after a query began never alter the numbers it reads."
 use Prim.Native.Nat.{ℕ}
 use mathlib.Core.Bool.{cond}
 use mathlib.Core.List.{List, [], _∷_, _++_}
@@ -6,9 +6,10 @@ use mathlib.Core.Path.{_≡_}
 use Rattle.names.specs.declared.Sizes.{Sizes}
 use Rattle.names.specs.declared.Answer.{Answer}
 use Rattle.rules.specs.Tables.{fresh}
-use Rattle.rules.specs.Answers.{Call, beginQuery, granted}
+use Rattle.rules.specs.Answers.{Call, BeginQuery, granted}
 use Rattle.rules.specs.Step.{step}
-use Rattle.history.specs.Runs.{Event, run, endOf, names}
+use Rattle.history.specs.Runs.{Event, run, endOf}
+use Rattle.history.specs.Happened.{names}
 
 -- the calls that name the transaction n
 unfoldable pub callsOf : ℕ → List Call → List Call
@@ -30,7 +31,7 @@ heard n (e ∷ es) = cond (names n (e .call)) (said (e .answer) ∷ heard n es) 
 unfoldable pub Undisturbed : Sizes → Type 0
 Undisturbed S =
     (before cs ds : List Call) (n : ℕ)
-    → let o = step S beginQuery (endOf S before (fresh S)) in
+    → let o = step S BeginQuery (endOf S before (fresh S)) in
     o .answer .code ≡ granted → o .answer .number ≡ n
     → callsOf n cs ≡ callsOf n ds
-    → heard n (run S (before ++ (beginQuery ∷ cs)) (fresh S)) ≡ heard n (run S (before ++ (beginQuery ∷ ds)) (fresh S))
+    → heard n (run S (before ++ (BeginQuery ∷ cs)) (fresh S)) ≡ heard n (run S (before ++ (BeginQuery ∷ ds)) (fresh S))

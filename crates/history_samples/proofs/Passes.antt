@@ -1,36 +1,37 @@
--- Right runs pass, wrong ones do not, a query is undisturbed and an update is not: by computation. Assumes nothing.
+-- Right runs pass, wrong ones do not, a query is undisturbed and an update is not: by computation.
 use mathlib.Core.Bool.{not}
 use mathlib.Core.List.{List, [], _∷_}
 use mathlib.Core.Path.{_≡_, refl}
 use lib.Dec.{T}
 use Rattle.names.specs.Sizes.{base}
 use Rattle.rules.specs.Words.{implies, everyBelow, someBelow, countBelow, firstFrom, every, some, tabulateFrom, row, everyRow, mapRows, bit, withBit, withoutBit}
-use Rattle.rules.specs.Tables.{txn, setTxn, setAwaited, live, liveUpdate, liveQuery, slotOf, freeSlot, startsFrom, starts, lock, setLock, holdsShared, holdsExclusive, holds, exclusivesOf, lockIn, lockWordsOf, released, release, fresh}
+use Rattle.rules.specs.Tables.{txn, setTxn, setAwaited, live, liveUpdate, liveQuery, slotOf, freeSlot, startsFrom, starts, lock, setLock, holdsShared, holdsExclusive, holds, exclusivesOf, released, release, fresh}
 use Rattle.rules.specs.Versions.{pairs, versionsIn, versionsOf, pairWords, rowOf, stampAt, newest, place, choice, readBySome, keptFrom, kept, rewritten}
 use Rattle.rules.specs.Waits.{conflicts, blocks, blocked, waitsFor, marked, spread, rounds, reached, circleAt, noCircle}
 use Rattle.rules.specs.Tested.{sizesExact, topsMost, freeZero, listed, startGood, awaitedGood, awaiterGood, txnGood, distinct, holdersLive, lockGood, quotaMost, fullIdle, quotaGood, falls, lastOld, allRead, versionsGood, good}
 use Rattle.rules.specs.Locks.{heldBy, decide, anotherShares, anotherExcludes, decision}
-use Rattle.rules.specs.Step.{begun, begin, conflicted, cleared, locked, carriedOut, access, awaitsOther, writesFurther, queryRead, readBy, writeBy, withNew, committed, ended, commitBy, aborted, abortBy, act, step}
-use Rattle.rules.specs.Answers.{Call, beginQuery}
-use Rattle.history.specs.Runs.{Event, run, endOf, names}
-use Rattle.history.specs.Serial.{got, put, zeros, agrees, final, accessOf, grantedTo, placeOf, order, oneByOne, serial}
+use Rattle.rules.specs.Step.{begun, beginBy, conflicted, cleared, locked, cellDeed, access, awaitsOther, writesFurther, queryRead, readBy, writeBy, withNew, committed, ended, commitBy, aborted, abortBy, judged, done, act, step}
+use Rattle.rules.specs.Answers.{Call, BeginQuery}
+use Rattle.history.specs.Runs.{run, endOf}
+use Rattle.history.specs.Happened.{got, put, Happening, did, told, happened, begunWith, happeningsAfter, happenings, allOf, names}
+use Rattle.history.specs.Serial.{zeros, agrees, final, accessOf, grantedTo, placeOf, order, oneByOne, serial}
 use Rattle.history.specs.Undisturbed.{callsOf, heard}
 use Rattle.history_samples.specs.Samples.{serializes, runPasses, mixed, stored, lateSnapshot, timelySnapshot, lostUpdate, keptUpdate, dirtyRead}
 use Rattle.history_samples.specs.Samples.{quietly, among, updateAlone, updateAfter}
 
--- a run from fresh tables, as it is computed: whoever unfolds this computes with all the rules and with the definitions of demand 3
-unfoldable computed : List Call → List Event
-unfolding run endOf names agrees final accessOf grantedTo placeOf order oneByOne serial callsOf heard serializes runPasses implies everyBelow someBelow countBelow firstFrom every some tabulateFrom row everyRow mapRows bit withBit withoutBit txn setTxn setAwaited live liveUpdate liveQuery slotOf freeSlot startsFrom starts lock setLock holdsShared holdsExclusive holds exclusivesOf lockIn lockWordsOf released release fresh pairs versionsIn versionsOf pairWords rowOf stampAt newest place choice readBySome keptFrom kept rewritten conflicts blocks blocked waitsFor marked spread rounds reached circleAt noCircle sizesExact topsMost freeZero listed startGood awaitedGood awaiterGood txnGood distinct holdersLive lockGood quotaMost fullIdle quotaGood falls lastOld allRead versionsGood good heldBy decide anotherShares anotherExcludes decision begun begin conflicted cleared locked carriedOut access awaitsOther writesFurther queryRead readBy writeBy withNew committed ended commitBy aborted abortBy act step
-computed cs = run base cs (fresh base)
+-- the happenings of a run from fresh tables, as they are computed: whoever unfolds this computes with all the rules and with the definitions of demand 3
+unfoldable computed : List Call → List Happening
+unfolding run endOf names did told happened begunWith happeningsAfter happenings allOf agrees final accessOf grantedTo placeOf order oneByOne serial callsOf heard serializes runPasses implies everyBelow someBelow countBelow firstFrom every some tabulateFrom row everyRow mapRows bit withBit withoutBit txn setTxn setAwaited live liveUpdate liveQuery slotOf freeSlot startsFrom starts lock setLock holdsShared holdsExclusive holds exclusivesOf released release fresh pairs versionsIn versionsOf pairWords rowOf stampAt newest place choice readBySome keptFrom kept rewritten conflicts blocks blocked waitsFor marked spread rounds reached circleAt noCircle sizesExact topsMost freeZero listed startGood awaitedGood awaiterGood txnGood distinct holdersLive lockGood quotaMost fullIdle quotaGood falls lastOld allRead versionsGood good heldBy decide anotherShares anotherExcludes decision begun beginBy conflicted cleared locked cellDeed access awaitsOther writesFurther queryRead readBy writeBy withNew committed ended commitBy aborted abortBy judged done act step
+computed cs = happenings base cs
 
 -- ---- right runs
-mixed-order : order (run base mixed (fresh base)) ≡ 3 ∷ 1 ∷ 4 ∷ 2 ∷ []
+mixed-order : order (happenings base mixed) ≡ 3 ∷ 1 ∷ 4 ∷ 2 ∷ []
 unfolding computed mixed
 mixed-order = refl
 
 -- query 3, update 1, query 4, update 2, each whole
 mixed-serial :
-    serial (run base mixed (fresh base))
+    serial (happenings base mixed)
     ≡ got 6 0 ∷ got 5 0
     ∷ got 5 0 ∷ put 6 77
     ∷ got 6 77 ∷ got 5 0 ∷ got 7 0 ∷ got 6 77
@@ -47,28 +48,28 @@ unfolding computed stored
 stored-passes = tt
 
 -- ---- wrong ones, each beside a right one
-late-refused : T (not (agrees (serial lateSnapshot) (zeros base)))
+late-refused : T (not (agrees (serial (happeningsAfter [] lateSnapshot)) (zeros base)))
 unfolding computed lateSnapshot
 late-refused = tt
 
-timely-accepted : T (agrees (serial timelySnapshot) (zeros base))
+timely-accepted : T (agrees (serial (happeningsAfter [] timelySnapshot)) (zeros base))
 unfolding computed timelySnapshot
 timely-accepted = tt
 
-lost-refused : T (not (agrees (serial lostUpdate) (zeros base)))
+lost-refused : T (not (agrees (serial (happeningsAfter [] lostUpdate)) (zeros base)))
 unfolding computed lostUpdate
 lost-refused = tt
 
-kept-accepted : T (agrees (serial keptUpdate) (zeros base))
+kept-accepted : T (agrees (serial (happeningsAfter [] keptUpdate)) (zeros base))
 unfolding computed keptUpdate
 kept-accepted = tt
 
-dirty-refused : T (not (agrees (serial dirtyRead) (zeros base)))
+dirty-refused : T (not (agrees (serial (happeningsAfter [] dirtyRead)) (zeros base)))
 unfolding computed dirtyRead
 dirty-refused = tt
 
 -- a right run whose writes were stored nowhere: the reads agree, the end does not
-unstored-refused : T (not (serializes (run base stored (fresh base)) (fresh base)))
+unstored-refused : T (not (serializes (happenings base stored) (fresh base)))
 unfolding computed stored
 unstored-refused = tt
 
@@ -78,12 +79,12 @@ unfolding computed quietly among
 query-calls = refl
 
 query-alone :
-    heard 1 (run base (beginQuery ∷ quietly) (fresh base)) ≡ (0, 0) ∷ (5, 0) ∷ (4, 0) ∷ (0, 0) ∷ (0, 0) ∷ (3, 0) ∷ []
+    heard 1 (run base (BeginQuery ∷ quietly) (fresh base)) ≡ (0, 0) ∷ (5, 0) ∷ (4, 0) ∷ (0, 0) ∷ (0, 0) ∷ (3, 0) ∷ []
 unfolding computed quietly
 query-alone = refl
 
 query-among :
-    heard 1 (run base (beginQuery ∷ among) (fresh base)) ≡ (0, 0) ∷ (5, 0) ∷ (4, 0) ∷ (0, 0) ∷ (0, 0) ∷ (3, 0) ∷ []
+    heard 1 (run base (BeginQuery ∷ among) (fresh base)) ≡ (0, 0) ∷ (5, 0) ∷ (4, 0) ∷ (0, 0) ∷ (0, 0) ∷ (3, 0) ∷ []
 unfolding computed among
 query-among = refl
 

@@ -2,7 +2,7 @@
 use mathlib.Core.Path.{_≡_, refl}
 use mathlib.Core.List.{[], _∷_, _++_}
 use lib.ListN.{replicate}
-use Rattle.kinds.specs.Kinds.{fields}
+use Rattle.call_words.specs.Calls.{fields}
 use Rattle.journal.specs.Words.{bytesOf, numberIn, wordBytes, wordAt, greatest}
 use Rattle.journal.specs.Format.{callBytes, answerBytes, callRecords, answerRecords, journalOf}
 

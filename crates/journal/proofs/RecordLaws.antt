@@ -5,8 +5,8 @@ use mathlib.Core.List.{List, _++_, append-assoc}
 use native.Mathlib.Omega.{arith}
 use lib.ListN.{length, take, drop, length-append}
 use Rattle.names.specs.declared.Answer.{Answer}
-use Rattle.kinds.specs.declared.Fields.{Fields}
-use Rattle.kinds.specs.Kinds.{fields}
+use Rattle.call_words.specs.declared.Fields.{Fields}
+use Rattle.call_words.specs.Calls.{fields}
 use Rattle.journal.specs.Words.{wordSize, wordBytes, wordAt, greatest}
 use Rattle.journal.specs.Format.{recordSize, callBytes, answerBytes, callAt, answerAt, CallFits, AnswerFits}
 use Rattle.journal.proofs.WordLaws.{length-wordBytes, word-back, word-drop, word-dropped, word-past, word-piece}

@@ -6,7 +6,7 @@ use native.Mathlib.Omega.{arith}
 use lib.ListN.{length, drop, length-append}
 use lib.Seq.{drop-at, drop-drop}
 use Rattle.names.specs.declared.Answer.{Answer}
-use Rattle.kinds.specs.declared.Fields.{Fields}
+use Rattle.call_words.specs.declared.Fields.{Fields}
 use Rattle.journal.specs.Words.{wordSize, wordBytes, wordAt, greatest}
 use Rattle.journal.specs.Format.{recordSize, callRecords, answerRecords, journalOf, callsIn, answersIn, callCount, secondPlace, answersPlace, answerCount, callsOf, answersOf, CallFits, AnswerFits, Every}
 use Rattle.journal.proofs.WordLaws.{length-wordBytes, word-back, word-drop}

@@ -7,7 +7,7 @@ use native.Mathlib.Omega.{arith}
 use lib.ListN.{length, take, drop, length-append}
 use lib.Seq.{drop-at, drop-drop}
 use Rattle.names.specs.declared.Answer.{Answer}
-use Rattle.kinds.specs.declared.Fields.{Fields}
+use Rattle.call_words.specs.declared.Fields.{Fields}
 use Rattle.journal.specs.Format.{recordSize, callBytes, answerBytes, callAt, answerAt, callRecords, answerRecords, callsIn, answersIn, CallFits, AnswerFits, Every}
 use Rattle.journal.proofs.Lists.{drop-take}
 use Rattle.journal.proofs.RecordLaws.{length-callBytes, length-answerBytes, call-back, answer-back, call-piece, answer-piece}

@@ -4,8 +4,8 @@ use Prim.Native.Nat.{ℕ, zero, suc, _+_, _*_, _≤_}
 use mathlib.Core.List.{List, [], _∷_, _++_}
 use lib.ListN.{length, drop}
 use Rattle.names.specs.declared.Answer.{Answer}
-use Rattle.kinds.specs.declared.Fields.{Fields}
-use Rattle.kinds.specs.Kinds.{fields}
+use Rattle.call_words.specs.declared.Fields.{Fields}
+use Rattle.call_words.specs.Calls.{fields}
 use Rattle.journal.specs.Words.{wordSize, wordBytes, wordAt, greatest}
 
 -- ---- one record, a call's or an answer's: four words

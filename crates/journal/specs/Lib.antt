@@ -1,4 +1,3 @@
--- What a journal is: words as bytes, records, and the whole file; where a writer puts its bytes.
+-- What a journal is: words as bytes, records, and the whole file.
 pub mod Words
 pub mod Format
-pub mod Written

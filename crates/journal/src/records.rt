@@ -5,13 +5,13 @@ use super::words::from;
 use super::words::put_word;
 use super::words::room;
 use super::words::word;
-use kinds::Fields;
+use call_words::Fields;
 use names::Answer;
 ghost use mathlib.Core.Path.{_≡_};
 ghost use mathlib.Core.List.{_++_};
 ghost use Rattle.journal.specs.Words.{wordBytes};
 ghost use Rattle.journal.specs.Format.{callBytes, answerBytes, callAt, answerAt};
-ghost use Rattle.journal.specs.Written.{buffer, put};
+ghost use Rattle.texts.specs.Written.{buffer, put};
 
 // Where the words of a record stand behind its first.
 const SECOND: usize = WORD;

@@ -6,7 +6,7 @@ ghost use Prim.Native.Nat.{_+_, _≤_};
 ghost use lib.Dec.{leb};
 ghost use lib.ListN.{length, getD, drop};
 ghost use Rattle.journal.specs.Words.{wordSize, wordBytes, wordAt};
-ghost use Rattle.journal.specs.Written.{buffer, put};
+ghost use Rattle.texts.specs.Written.{buffer, put};
 
 // The word of eight bytes.
 fn joined(a: u8, b: u8, c: u8, d: u8, e: u8, f: u8, g: u8, h: u8) -> u64

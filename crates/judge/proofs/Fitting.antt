@@ -1,4 +1,4 @@
--- The answers of a run can be written in words where its calls can, so every run's journal is accepted. Assumes nothing.
+-- The answers of a run can be written in words where its calls can, so every run's journal is accepted.
 use Prim.Native.Nat.{_≤_}
 use mathlib.Core.Path.{_≡_}
 use mathlib.Core.List.{List, [], _∷_}
@@ -8,12 +8,13 @@ use Rattle.names.specs.Sizes.{base}
 use Rattle.names.specs.declared.Answer.{Answer}
 use Rattle.rules.specs.Tables.{Tables, fresh}
 use Rattle.rules.specs.Good.{Good}
-use Rattle.rules.specs.Answers.{Call, beginUpdate, beginQuery, read, write, commit, abort}
+use Rattle.rules.specs.Answers.{Call}
 use Rattle.rules.specs.Step.{step}
 use Rattle.rules.proofs.Keeps.{keeps}
 use Rattle.rules.proofs.Fresh.{fresh-good}
 use Rattle.rules.proofs.Bounded.{Asks, Within, Bounded, step-bounded, fresh-bounded}
-use Rattle.kinds.specs.Kinds.{fieldsOf}
+use Rattle.call_words.specs.Calls.{fieldsOf}
+use Rattle.call_words.proofs.Fitting.{fields-asks}
 use Rattle.journal.specs.Words.{greatest}
 use Rattle.journal.specs.Format.{journalOf, CallFits, AnswerFits, Every, none, more}
 use Rattle.judge.specs.Verdicts.{verdictOn, answersFrom, fieldsOfAll}
@@ -24,13 +25,7 @@ fits : (a : Answer) → Within greatest a → AnswerFits a
 fits a w = record { code = w .code; value = w .value; number = w .number; looked = w .looked }
 
 asks : (c : Call) → CallFits (fieldsOf c) → Asks greatest c
-unfolding fieldsOf Asks
-asks beginUpdate f = tt
-asks beginQuery f = tt
-asks (read n x) f = tt
-asks (write n x v) f = f .value
-asks (commit n) f = tt
-asks (abort n) f = tt
+asks c f = fields-asks greatest c (record { kind = f .kind; number = f .number; item = f .item; value = f .value })
 
 answers-fit : (cs : List Call) (G : Tables) → Good base G → Bounded greatest base G → Every CallFits (fieldsOfAll cs) → Every AnswerFits (answersFrom G cs)
 unfolding fieldsOfAll answersFrom

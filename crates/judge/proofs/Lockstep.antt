@@ -10,8 +10,8 @@ use Rattle.names.specs.Sizes.{base}
 use Rattle.names.specs.declared.Answer.{Answer}
 use Rattle.rules.specs.Tables.{Tables}
 use Rattle.rules.specs.Step.{step}
-use Rattle.kinds.specs.Kinds.{isCall, callIn}
-use Rattle.kinds.specs.declared.Fields.{Fields}
+use Rattle.call_words.specs.Calls.{isCall, callIn}
+use Rattle.call_words.specs.declared.Fields.{Fields}
 use Rattle.journal.specs.Words.{greatest}
 use Rattle.journal.specs.Format.{recordSize, callAt, answerAt, callsIn, answersIn}
 use Rattle.judge.specs.Verdicts.{right, wrongFrom}

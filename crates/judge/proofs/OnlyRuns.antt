@@ -13,9 +13,9 @@ use Rattle.names.specs.declared.Answer.{Answer}
 use Rattle.rules.specs.Tables.{Tables, fresh}
 use Rattle.rules.specs.Step.{step}
 use Rattle.rules.proofs.Tests.{and-left, and-right, true-is, is-true, same?}
-use Rattle.kinds.specs.Kinds.{isCall, callIn, fieldsOf}
-use Rattle.kinds.specs.declared.Fields.{Fields}
-use Rattle.kinds.proofs.Words.{fieldsOf-callIn}
+use Rattle.call_words.specs.Calls.{isCall, callIn, fieldsOf}
+use Rattle.call_words.specs.declared.Fields.{Fields}
+use Rattle.call_words.proofs.Inverse.{fieldsOf-callIn}
 use Rattle.journal.specs.Format.{journalOf, callsOf, answersOf, callCount, answersPlace, answerCount, Every}
 use Rattle.journal.specs.Words.{wordSize}
 use Rattle.journal.proofs.Sections.{length-callsIn, length-answersIn}

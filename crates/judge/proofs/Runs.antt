@@ -12,9 +12,9 @@ use Rattle.names.specs.declared.Answer.{Answer}
 use Rattle.rules.specs.Tables.{Tables, fresh}
 use Rattle.rules.specs.Answers.{Call}
 use Rattle.rules.specs.Step.{step}
-use Rattle.kinds.specs.Kinds.{fieldsOf}
-use Rattle.kinds.specs.declared.Fields.{Fields}
-use Rattle.kinds.proofs.Words.{callIn-fieldsOf, isCall-fieldsOf}
+use Rattle.call_words.specs.Calls.{fieldsOf}
+use Rattle.call_words.specs.declared.Fields.{Fields}
+use Rattle.call_words.proofs.Inverse.{callIn-fieldsOf, isCall-fieldsOf}
 use Rattle.journal.specs.Words.{greatest}
 use Rattle.journal.specs.Format.{journalOf, callCount, answerCount, CallFits, AnswerFits, Every}
 use Rattle.journal.proofs.RoundTrip.{journal-length, callCount-back, answerCount-back, calls-back, answers-back}

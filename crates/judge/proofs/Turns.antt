@@ -6,7 +6,7 @@ use native.Mathlib.Omega.{arith}
 use lib.ListN.{drop}
 use lib.Seq.{drop-drop}
 use Rattle.names.specs.declared.Answer.{Answer}
-use Rattle.kinds.specs.declared.Fields.{Fields}
+use Rattle.call_words.specs.declared.Fields.{Fields}
 use Rattle.journal.specs.Format.{recordSize, callAt, answerAt}
 use Rattle.journal.proofs.RecordLaws.{call-drop, answer-drop}
 use Rattle.judge.specs.Pieces.{Progress, seenOne, seenAll}

@@ -9,8 +9,8 @@ use Rattle.names.specs.Sizes.{base}
 use Rattle.names.specs.declared.Answer.{Answer}
 use Rattle.rules.specs.Tables.{Tables, tables, fresh}
 use Rattle.rules.specs.Step.{step}
-use Rattle.kinds.specs.Kinds.{isCall, callIn}
-use Rattle.kinds.specs.declared.Fields.{Fields}
+use Rattle.call_words.specs.Calls.{isCall, callIn}
+use Rattle.call_words.specs.declared.Fields.{Fields}
 use Rattle.journal.specs.Words.{wordSize, greatest}
 use Rattle.journal.specs.Format.{recordSize, callAt, answerAt, callCount, answersPlace, answerCount, Every}
 use Rattle.judge.specs.Verdicts.{right}

@@ -12,8 +12,8 @@ use Rattle.names.specs.declared.Answer.{Answer}
 use Rattle.rules.specs.Tables.{Tables, fresh}
 use Rattle.rules.specs.Answers.{Call}
 use Rattle.rules.specs.Step.{step}
-use Rattle.kinds.specs.Kinds.{isCall, callIn, fieldsOf}
-use Rattle.kinds.specs.declared.Fields.{Fields}
+use Rattle.call_words.specs.Calls.{isCall, callIn, fieldsOf}
+use Rattle.call_words.specs.declared.Fields.{Fields}
 use Rattle.journal.specs.Words.{wordSize}
 use Rattle.journal.specs.Format.{recordSize, callCount, answerCount, answersPlace, callsOf, answersOf}
 use Rattle.judge.specs.declared.Verdict.{Verdict}

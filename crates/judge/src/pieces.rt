@@ -1,7 +1,8 @@
 // The calls and their answers, a record of each at a time.
 use crate::Judge;
+use call_words::CallOf;
+use call_words::Fields;
 use journal::RECORD;
-use kinds::Fields;
 use names::Answer;
 ghost use mathlib.Core.Path.{_≡_};
 ghost use mathlib.Core.Bool.{cond};
@@ -62,10 +63,10 @@ pub fn one(
     if wrong != 0 {
         return Judge { seen, wrong };
     }
-    if !fields.is_call() {
+    let CallOf::Known(call) = call_words::call_of(fields) else {
         return Judge { seen, wrong: seen };
-    }
-    let given = calls::make(fields, txns, locks, versions);
+    };
+    let given = keeper::call(call, txns, locks, versions);
     Judge {
         seen,
         wrong: unless(same_answer(answer, given), seen),

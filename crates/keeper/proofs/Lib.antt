@@ -1,2 +1,2 @@
--- Laws of the six calls.
+-- Laws of the keeper.
 pub mod Admitted

@@ -1,52 +1,40 @@
-// The keeper: six calls over three lent tables, transactions, locks and versions.
+// The keeper: one door over three lent tables, transactions, locks and versions.
 //
-// No call has a `requires`. Each says, for every input whatever, its four answer numbers and every
-// word of the three tables afterwards, by one equation with the rules' `step`. Each first tests all
-// tables, then judges without changing a word, then changes the tables once.
-use acts::BAD_TABLES;
-use acts::CLOCK_SPENT;
-use acts::Caller;
-use acts::EXCLUSIVE;
-use acts::GRANTED;
-use acts::Leaver;
-use acts::QUERY;
-use acts::QUERY_MAY_NOT_WRITE;
-use acts::SHARED;
-use acts::STILL_WAITING;
-use acts::TO_READ;
-use acts::UNKNOWN_ITEM;
-use acts::UNKNOWN_TRANSACTION;
-use acts::UPDATE;
-use acts::refusal;
+// `call` makes any call; the six routines are its names. None has a `requires`: each says, for every
+// input whatever, its four answer numbers and every word of the three tables afterwards, by one
+// equation with the rules' `step`. All tables are tested, then the call is judged without changing a
+// word, then the deed is done.
 use names::Answer;
-use names::NextStamp;
-use names::Stamp;
+use names::Refusal;
 ghost use mathlib.Core.Path.{_≡_};
 ghost use Rattle.names.specs.Sizes.{base};
 ghost use Rattle.rules.specs.Tables.{tables};
-ghost use Rattle.rules.specs.Answers.{outcome, beginUpdate, beginQuery};
-ghost use Rattle.rules.specs.Answers.{read as call·read, write as call·write, commit as call·commit, abort as call·abort};
+ghost use Rattle.rules.specs.Answers.{outcome, BeginUpdate, BeginQuery, Read, Write, Commit, Abort};
 ghost use Rattle.rules.specs.Step.{step};
+
+// Makes a call.
+pub fn call(call: names::Call, txns: &mut [u64], locks: &mut [u64], versions: &mut [u64]) -> Answer
+    ensures { λ r. ⌜ outcome r (now (txns .exit)) (now (locks .exit)) (now (versions .exit)) ≡ step base call (tables (now (txns .entry)) (now (locks .entry)) (now (versions .entry))) ⌝ }
+{
+    if !tables::good(&txns[..], &locks[..], &versions[..]) {
+        return Answer::refused(Refusal::BadTables);
+    }
+    let deed = judged::judged(call, &txns[..], &locks[..], &versions[..]);
+    done::done(deed, txns, locks, versions)
+}
 
 // Begins an update: the answer's number is its number.
 pub fn begin_update(txns: &mut [u64], locks: &mut [u64], versions: &mut [u64]) -> Answer
-    ensures { λ r. ⌜ outcome r (now (txns .exit)) (now (locks .exit)) (now (versions .exit)) ≡ step base beginUpdate (tables (now (txns .entry)) (now (locks .entry)) (now (versions .entry))) ⌝ }
+    ensures { λ r. ⌜ outcome r (now (txns .exit)) (now (locks .exit)) (now (versions .exit)) ≡ step base BeginUpdate (tables (now (txns .entry)) (now (locks .entry)) (now (versions .entry))) ⌝ }
 {
-    if !tables::good(&txns[..], &locks[..], &versions[..]) {
-        return refusal(BAD_TABLES);
-    }
-    acts::begin(txns, UPDATE, Stamp::FIRST)
+    call(names::Call::BeginUpdate, txns, locks, versions)
 }
 
 // Begins a query, which reads what is committed now.
 pub fn begin_query(txns: &mut [u64], locks: &mut [u64], versions: &mut [u64]) -> Answer
-    ensures { λ r. ⌜ outcome r (now (txns .exit)) (now (locks .exit)) (now (versions .exit)) ≡ step base beginQuery (tables (now (txns .entry)) (now (locks .entry)) (now (versions .entry))) ⌝ }
+    ensures { λ r. ⌜ outcome r (now (txns .exit)) (now (locks .exit)) (now (versions .exit)) ≡ step base BeginQuery (tables (now (txns .entry)) (now (locks .entry)) (now (versions .entry))) ⌝ }
 {
-    if !tables::good(&txns[..], &locks[..], &versions[..]) {
-        return refusal(BAD_TABLES);
-    }
-    let now = rows::clock(&txns[..]);
-    acts::begin(txns, QUERY, now)
+    call(names::Call::BeginQuery, txns, locks, versions)
 }
 
 // Reads an item.
@@ -57,28 +45,9 @@ pub fn read(
     number: u64,
     item: u64,
 ) -> Answer
-    ensures { λ r. ⌜ outcome r (now (txns .exit)) (now (locks .exit)) (now (versions .exit)) ≡ step base (call·read number item) (tables (now (txns .entry)) (now (locks .entry)) (now (versions .entry))) ⌝ }
+    ensures { λ r. ⌜ outcome r (now (txns .exit)) (now (locks .exit)) (now (versions .exit)) ≡ step base (Read number item) (tables (now (txns .entry)) (now (locks .entry)) (now (versions .entry))) ⌝ }
 {
-    if !tables::good(&txns[..], &locks[..], &versions[..]) {
-        return refusal(BAD_TABLES);
-    }
-    let caller = acts::who_calls(&txns[..], number, item, SHARED);
-    match caller {
-        Caller::Unknown => refusal(UNKNOWN_TRANSACTION),
-        Caller::NoItem => refusal(UNKNOWN_ITEM),
-        Caller::Waiting => refusal(STILL_WAITING),
-        Caller::Query(slot, x) => {
-            let start = rows::start(&txns[..], slot);
-            let choice = versions::chosen(&versions[..], x, start);
-            Answer {
-                code: GRANTED,
-                value: choice.value,
-                number: 0,
-                looked: choice.looked,
-            }
-        }
-        Caller::Update(slot, x) => acts::access(txns, locks, &versions[..], slot, x, TO_READ, 0),
-    }
+    call(names::Call::Read { number, item }, txns, locks, versions)
 }
 
 // Writes an item.
@@ -90,73 +59,30 @@ pub fn write(
     item: u64,
     value: u64,
 ) -> Answer
-    ensures { λ r. ⌜ outcome r (now (txns .exit)) (now (locks .exit)) (now (versions .exit)) ≡ step base (call·write number item value) (tables (now (txns .entry)) (now (locks .entry)) (now (versions .entry))) ⌝ }
+    ensures { λ r. ⌜ outcome r (now (txns .exit)) (now (locks .exit)) (now (versions .exit)) ≡ step base (Write number item value) (tables (now (txns .entry)) (now (locks .entry)) (now (versions .entry))) ⌝ }
 {
-    if !tables::good(&txns[..], &locks[..], &versions[..]) {
-        return refusal(BAD_TABLES);
-    }
-    let caller = acts::who_calls(&txns[..], number, item, EXCLUSIVE);
-    match caller {
-        Caller::Unknown => refusal(UNKNOWN_TRANSACTION),
-        Caller::NoItem => refusal(UNKNOWN_ITEM),
-        Caller::Waiting => refusal(STILL_WAITING),
-        Caller::Query(_, _) => refusal(QUERY_MAY_NOT_WRITE),
-        Caller::Update(slot, x) => {
-            acts::update_writes(txns, locks, &versions[..], slot, x, value)
-        }
-    }
+    call(
+        names::Call::Write {
+            number,
+            item,
+            value,
+        },
+        txns,
+        locks,
+        versions,
+    )
 }
 
 // Commits an update, whose stamp is the answer's number; ends a query.
 pub fn commit(txns: &mut [u64], locks: &mut [u64], versions: &mut [u64], number: u64) -> Answer
-    ensures { λ r. ⌜ outcome r (now (txns .exit)) (now (locks .exit)) (now (versions .exit)) ≡ step base (call·commit number) (tables (now (txns .entry)) (now (locks .entry)) (now (versions .entry))) ⌝ }
+    ensures { λ r. ⌜ outcome r (now (txns .exit)) (now (locks .exit)) (now (versions .exit)) ≡ step base (Commit number) (tables (now (txns .entry)) (now (locks .entry)) (now (versions .entry))) ⌝ }
 {
-    if !tables::good(&txns[..], &locks[..], &versions[..]) {
-        return refusal(BAD_TABLES);
-    }
-    let leaver = acts::who_commits(&txns[..], number);
-    match leaver {
-        Leaver::Unknown => refusal(UNKNOWN_TRANSACTION),
-        Leaver::Waiting => refusal(STILL_WAITING),
-        Leaver::Query(slot) => {
-            acts::end_query(txns, versions, slot);
-            refusal(GRANTED)
-        }
-        Leaver::Update(slot) => {
-            let next = rows::clock(&txns[..]).next();
-            let NextStamp::At(stamp) = next else {
-                return refusal(CLOCK_SPENT);
-            };
-            acts::commit_update(txns, locks, versions, slot, stamp);
-            Answer {
-                code: GRANTED,
-                value: 0,
-                number: stamp.0,
-                looked: 0,
-            }
-        }
-    }
+    call(names::Call::Commit { number }, txns, locks, versions)
 }
 
 // Aborts an update; ends a query.
 pub fn abort(txns: &mut [u64], locks: &mut [u64], versions: &mut [u64], number: u64) -> Answer
-    ensures { λ r. ⌜ outcome r (now (txns .exit)) (now (locks .exit)) (now (versions .exit)) ≡ step base (call·abort number) (tables (now (txns .entry)) (now (locks .entry)) (now (versions .entry))) ⌝ }
+    ensures { λ r. ⌜ outcome r (now (txns .exit)) (now (locks .exit)) (now (versions .exit)) ≡ step base (Abort number) (tables (now (txns .entry)) (now (locks .entry)) (now (versions .entry))) ⌝ }
 {
-    if !tables::good(&txns[..], &locks[..], &versions[..]) {
-        return refusal(BAD_TABLES);
-    }
-    let leaver = acts::who_aborts(&txns[..], number);
-    match leaver {
-        Leaver::Unknown => refusal(UNKNOWN_TRANSACTION),
-        Leaver::Waiting => refusal(STILL_WAITING),
-        Leaver::Query(slot) => {
-            acts::end_query(txns, versions, slot);
-            refusal(GRANTED)
-        }
-        Leaver::Update(slot) => {
-            rows::leave(txns, slot);
-            rows::release(locks, slot);
-            refusal(GRANTED)
-        }
-    }
+    call(names::Call::Abort { number }, txns, locks, versions)
 }

@@ -7,7 +7,7 @@ use names::Answer;
 ghost use mathlib.Core.Path.{_≡_};
 ghost use Rattle.names.specs.Sizes.{base};
 ghost use Rattle.rules.specs.Tables.{tables};
-ghost use Rattle.rules.specs.Answers.{outcome, beginUpdate, beginQuery, read, write, commit, abort};
+ghost use Rattle.rules.specs.Answers.{outcome, BeginUpdate, BeginQuery, Read, Write, Commit, Abort};
 ghost use Rattle.rules.specs.Step.{step};
 ghost use Rattle.rules.specs.Tested.{sizesExact};
 ghost use Rattle.fresh.specs.Made.{freshened};
@@ -28,7 +28,7 @@ pub extern "C" fn keeper_begin_update(
     locks: &mut [u64],
     versions: &mut [u64],
 ) -> Answer
-    ensures { λ r. ⌜ outcome r (now (txns .exit)) (now (locks .exit)) (now (versions .exit)) ≡ step base beginUpdate (tables (now (txns .entry)) (now (locks .entry)) (now (versions .entry))) ⌝ }
+    ensures { λ r. ⌜ outcome r (now (txns .exit)) (now (locks .exit)) (now (versions .exit)) ≡ step base BeginUpdate (tables (now (txns .entry)) (now (locks .entry)) (now (versions .entry))) ⌝ }
 {
     keeper::begin_update(txns, locks, versions)
 }
@@ -40,7 +40,7 @@ pub extern "C" fn keeper_begin_query(
     locks: &mut [u64],
     versions: &mut [u64],
 ) -> Answer
-    ensures { λ r. ⌜ outcome r (now (txns .exit)) (now (locks .exit)) (now (versions .exit)) ≡ step base beginQuery (tables (now (txns .entry)) (now (locks .entry)) (now (versions .entry))) ⌝ }
+    ensures { λ r. ⌜ outcome r (now (txns .exit)) (now (locks .exit)) (now (versions .exit)) ≡ step base BeginQuery (tables (now (txns .entry)) (now (locks .entry)) (now (versions .entry))) ⌝ }
 {
     keeper::begin_query(txns, locks, versions)
 }
@@ -54,7 +54,7 @@ pub extern "C" fn keeper_read(
     number: u64,
     item: u64,
 ) -> Answer
-    ensures { λ r. ⌜ outcome r (now (txns .exit)) (now (locks .exit)) (now (versions .exit)) ≡ step base (read number item) (tables (now (txns .entry)) (now (locks .entry)) (now (versions .entry))) ⌝ }
+    ensures { λ r. ⌜ outcome r (now (txns .exit)) (now (locks .exit)) (now (versions .exit)) ≡ step base (Read number item) (tables (now (txns .entry)) (now (locks .entry)) (now (versions .entry))) ⌝ }
 {
     keeper::read(txns, locks, versions, number, item)
 }
@@ -69,7 +69,7 @@ pub extern "C" fn keeper_write(
     item: u64,
     value: u64,
 ) -> Answer
-    ensures { λ r. ⌜ outcome r (now (txns .exit)) (now (locks .exit)) (now (versions .exit)) ≡ step base (write number item value) (tables (now (txns .entry)) (now (locks .entry)) (now (versions .entry))) ⌝ }
+    ensures { λ r. ⌜ outcome r (now (txns .exit)) (now (locks .exit)) (now (versions .exit)) ≡ step base (Write number item value) (tables (now (txns .entry)) (now (locks .entry)) (now (versions .entry))) ⌝ }
 {
     keeper::write(txns, locks, versions, number, item, value)
 }
@@ -82,7 +82,7 @@ pub extern "C" fn keeper_commit(
     versions: &mut [u64],
     number: u64,
 ) -> Answer
-    ensures { λ r. ⌜ outcome r (now (txns .exit)) (now (locks .exit)) (now (versions .exit)) ≡ step base (commit number) (tables (now (txns .entry)) (now (locks .entry)) (now (versions .entry))) ⌝ }
+    ensures { λ r. ⌜ outcome r (now (txns .exit)) (now (locks .exit)) (now (versions .exit)) ≡ step base (Commit number) (tables (now (txns .entry)) (now (locks .entry)) (now (versions .entry))) ⌝ }
 {
     keeper::commit(txns, locks, versions, number)
 }
@@ -95,7 +95,7 @@ pub extern "C" fn keeper_abort(
     versions: &mut [u64],
     number: u64,
 ) -> Answer
-    ensures { λ r. ⌜ outcome r (now (txns .exit)) (now (locks .exit)) (now (versions .exit)) ≡ step base (abort number) (tables (now (txns .entry)) (now (locks .entry)) (now (versions .entry))) ⌝ }
+    ensures { λ r. ⌜ outcome r (now (txns .exit)) (now (locks .exit)) (now (versions .exit)) ≡ step base (Abort number) (tables (now (txns .entry)) (now (locks .entry)) (now (versions .entry))) ⌝ }
 {
     keeper::abort(txns, locks, versions, number)
 }

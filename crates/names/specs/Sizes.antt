@@ -1,5 +1,5 @@
 -- Document 01, "Sizes: 64 items (0 to 63), 16 slots for live transactions, 16 versions an item."
--- A rule that depends on a size takes the sizes as its first argument, so that it holds of others too. Assumes nothing.
+-- A rule that depends on a size takes the sizes as its first argument, so that it holds of others too.
 use Prim.Native.Nat.{ℕ}
 use Rattle.names.specs.declared.Sizes.{Sizes}
 

@@ -1,4 +1,4 @@
--- What a word says as a stamp, an item or a transaction's number. Assumes nothing.
+-- What a word says as a stamp, an item or a transaction's number.
 use Prim.Native.Nat.{ℕ, _+_}
 use mathlib.Core.Bool.{cond, _||_}
 use lib.Dec.{eqb, ltb}

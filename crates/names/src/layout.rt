@@ -1,23 +1,61 @@
-// How the three tables are laid out: where rows begin, how many words a row has, and how many a
-// table. `rules` says the same of the lists of words (specs/Tables); the proofs of the crates above
-// hold the two together.
+// How the three tables are laid out: where each word of a head or a row stands, how many words a row
+// has, and how many a table. specs/Layout says the same for the definitions; the proofs of the
+// crates above hold the two together.
 use super::ITEMS;
 use super::PLACES;
 use super::SLOTS;
 
-// Transactions: two words, then a row for each slot.
+// Transactions: a head of two words, then a row for each slot.
+pub const LAST_NUMBER_AT: usize = 0;
+
+pub const CLOCK_AT: usize = 1;
+
 pub const TXN_HEAD: usize = 2;
+
+// A row begins with the number of the transaction; the other words stand behind it.
+pub const TXN_KIND_AT: usize = 1;
+
+pub const TXN_START_AT: usize = 2;
+
+pub const TXN_LOCK_AT: usize = 3;
+
+pub const TXN_ITEM_AT: usize = 4;
 
 pub const TXN_ROW: usize = 5;
 
 pub const TXN_WORDS: usize = TXN_HEAD + TXN_ROW * (SLOTS as usize);
 
-// Locks: a row for each item.
+// The kinds of transactions.
+pub const UPDATE_KIND: u64 = 0;
+
+pub const QUERY_KIND: u64 = 1;
+
+// The locks that are awaited.
+pub const NO_LOCK: u64 = 0;
+
+pub const SHARED_LOCK: u64 = 1;
+
+pub const EXCLUSIVE_LOCK: u64 = 2;
+
+// Locks: a row for each item. A row begins with the word of the shared holders.
+pub const LOCK_EXCLUSIVE_AT: usize = 1;
+
+pub const LOCK_WORKING_AT: usize = 2;
+
 pub const LOCK_ROW: usize = 3;
 
 pub const LOCK_WORDS: usize = LOCK_ROW * (ITEMS as usize);
 
-// Versions: a row for each item, of a count and pairs of stamp and value.
-pub const VERSION_ROW: usize = 1 + 2 * (PLACES as usize);
+// Versions: a row for each item, of a count and pairs of stamp and value. The places are those of the
+// first pair; the next pair stands a pair's words further.
+pub const VERSION_COUNT_AT: usize = 0;
+
+pub const VERSION_STAMP_AT: usize = 1;
+
+pub const VERSION_VALUE_AT: usize = 2;
+
+pub const VERSION_PAIR: usize = 2;
+
+pub const VERSION_ROW: usize = VERSION_STAMP_AT + VERSION_PAIR * (PLACES as usize);
 
 pub const VERSION_WORDS: usize = VERSION_ROW * (ITEMS as usize);

@@ -1,19 +1,43 @@
 // The words of the keeper: transaction numbers, stamps, items and slots, each a struct of its own
-// so that none can stand in for another, the four numbers of an answer, the sizes, and how the
-// tables are laid out.
+// so that none can stand in for another, a call, what it comes to, the four numbers of its answer,
+// the sizes, and how the tables are laid out.
 //
 // Every function is proved against a definition of specs/, and none has a `requires`.
+mod calls;
+mod deeds;
 mod layout;
 
+pub use calls::Call;
+pub use deeds::Cell;
+pub use deeds::Deed;
+pub use deeds::Refusal;
+pub use layout::CLOCK_AT;
+pub use layout::EXCLUSIVE_LOCK;
+pub use layout::LAST_NUMBER_AT;
+pub use layout::LOCK_EXCLUSIVE_AT;
 pub use layout::LOCK_ROW;
 pub use layout::LOCK_WORDS;
+pub use layout::LOCK_WORKING_AT;
+pub use layout::NO_LOCK;
+pub use layout::QUERY_KIND;
+pub use layout::SHARED_LOCK;
 pub use layout::TXN_HEAD;
+pub use layout::TXN_ITEM_AT;
+pub use layout::TXN_KIND_AT;
+pub use layout::TXN_LOCK_AT;
 pub use layout::TXN_ROW;
+pub use layout::TXN_START_AT;
 pub use layout::TXN_WORDS;
+pub use layout::UPDATE_KIND;
+pub use layout::VERSION_COUNT_AT;
+pub use layout::VERSION_PAIR;
 pub use layout::VERSION_ROW;
+pub use layout::VERSION_STAMP_AT;
+pub use layout::VERSION_VALUE_AT;
 pub use layout::VERSION_WORDS;
 ghost use mathlib.Core.Path.{_≡_};
 ghost use Rattle.names.specs.Sizes.{base};
+ghost use Rattle.names.specs.Answers.{refusal, plain, numbered, found};
 ghost use Rattle.names.specs.Words.{nextStamp, itemOf, numberOf};
 
 // Live transactions at most, items, and versions an item at most.
@@ -88,6 +112,50 @@ pub struct Answer {
     pub value: u64,
     pub number: u64,
     pub looked: u64,
+}
+
+impl Answer {
+    pub fn refused(why: Refusal) -> Self
+        ensures { λ r. ⌜ r ≡ refusal why ⌝ }
+    {
+        Answer {
+            code: why.code(),
+            value: 0,
+            number: 0,
+            looked: 0,
+        }
+    }
+
+    // Granted, with nothing to name.
+    pub fn granted() -> Self
+        ensures { λ r. ⌜ r ≡ plain ⌝ }
+    {
+        Answer::found(0, 0)
+    }
+
+    // Granted: a new number, or a stamp.
+    pub fn numbered(number: u64) -> Self
+        ensures { λ r. ⌜ r ≡ numbered number ⌝ }
+    {
+        Answer {
+            code: 0,
+            value: 0,
+            number,
+            looked: 0,
+        }
+    }
+
+    // Granted: a value, and at how many versions one looked for it.
+    pub fn found(value: u64, looked: u64) -> Self
+        ensures { λ r. ⌜ r ≡ found value looked ⌝ }
+    {
+        Answer {
+            code: 0,
+            value,
+            number: 0,
+            looked,
+        }
+    }
 }
 
 impl Stamp {

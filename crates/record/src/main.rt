@@ -6,19 +6,17 @@
 // does not grow with the script. Until all is written the first count is the greatest word, so that
 // an unfinished journal is judged short. Whatever fails is said on standard error, and then nothing
 // is written to standard output.
-mod answers;
-mod taken;
-
 use libc::STDIN_FILENO;
 use libc::STDOUT_FILENO;
+use lines::Lines;
 use names::LOCK_WORDS;
 use names::TXN_WORDS;
 use names::VERSION_WORDS;
-use script::Lines;
 ghost use mathlib.Core.Path.{_≡_};
 ghost use Prim.Native.Nat.{_≤_};
 ghost use lib.ListN.{length};
-ghost use Rattle.script.specs.Print.{followed, Wrote};
+ghost use Rattle.numerals.specs.Print.{followed};
+ghost use Rattle.texts.specs.Written.{Wrote};
 ghost use Rattle.journal.specs.Words.{wordBytes};
 
 // How many calls are recorded, where nothing failed.
@@ -71,20 +69,20 @@ fn take_all(file: i32, path: &[u8]) -> Count {
         if n == 0 {
             break;
         }
-        let taken = taken::take_chunk(lines, &input[..n], &mut output);
+        let taken = recording::take_chunk(lines, &input[..n], &mut output);
         lines = taken.lines;
         let used = taken.used;
         if !written(file, &output[..used], path) {
             return Count::Failed;
         }
-        count = taken::count_with(count, used);
+        count = recording::count_with(count, used);
         turns -= 1;
     }
-    let used = taken::take_last(lines, &mut output);
+    let used = recording::take_last(lines, &mut output);
     if !written(file, &output[..used], path) {
         return Count::Failed;
     }
-    Count::All(taken::count_with(count, used))
+    Count::All(recording::count_with(count, used))
 }
 
 // Reads so many calls back, and writes their answers.
@@ -108,7 +106,7 @@ fn answer_from(
             os::fail(path);
             return false;
         }
-        let used = answers::answer_piece(&input[..size], txns, locks, versions, &mut output);
+        let used = recording::answer_piece(&input[..size], txns, locks, versions, &mut output);
         if !written(file, &output[..used], path) {
             return false;
         }
@@ -190,8 +188,8 @@ fn count_line(count: u64, out: &mut [u8]) -> usize
     ensures { λ r. ⌜ r ≤ length (now (out .entry)) ⌝ }
     ensures { λ r. ⌜ Wrote (now (out .entry)) 0 (followed count 10) (now (out .exit)) r ⌝ }
 {
-    let end = script::decimal(count, out, 0);
-    script::put(out, end, b'\n')
+    let end = numerals::decimal(count, out, 0);
+    texts::put(out, end, b'\n')
 }
 
 fn print(count: u64) {

@@ -1,4 +1,4 @@
--- A bit cleared, as the code clears it. Assumes nothing.
+-- A bit cleared, as the code clears it.
 use Prim.Native.Nat.{ℕ, _-_, _*_, _/_, _%_, _^_, _≤_, _<_}
 use mathlib.Core.Path.{_≡_, refl}
 use mathlib.Core.Bool.{Bool, true, false, cond}

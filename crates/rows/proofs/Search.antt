@@ -1,4 +1,4 @@
--- A search that goes up one by one: what it has passed, and where it ends. Assumes nothing.
+-- A search that goes up one by one: what it has passed, and where it ends.
 use Prim.Native.Nat.{ℕ, zero, suc, _+_, _-_, _≤_, _<_}
 use mathlib.Core.Path.{_≡_, refl, ap, _∙_}
 use mathlib.Core.Bool.{Bool, true, false, _&&_, not}

@@ -1,7 +1,9 @@
-// The lock table: a row of three for each item.
+// The lock table: a row for each item.
 use names::ITEMS;
 use names::Item;
+use names::LOCK_EXCLUSIVE_AT;
 use names::LOCK_ROW;
+use names::LOCK_WORKING_AT;
 use names::Slot;
 ghost use mathlib.Core.Path.{_≡_};
 ghost use Prim.Native.Nat.{_<_};
@@ -27,8 +29,8 @@ pub fn lock_at(locks: &[u64], item: Item) -> LockRow
     let at = LOCK_ROW * (x as usize);
     LockRow {
         shared: locks[at],
-        exclusive: locks[at + 1],
-        working: locks[at + 2],
+        exclusive: locks[at + LOCK_EXCLUSIVE_AT],
+        working: locks[at + LOCK_WORKING_AT],
     }
 }
 
@@ -40,8 +42,8 @@ pub fn set_lock(locks: &mut [u64], item: Item, row: LockRow)
     let x = item.0;
     let at = LOCK_ROW * (x as usize);
     locks[at] = row.shared;
-    locks[at + 1] = row.exclusive;
-    locks[at + 2] = row.working;
+    locks[at + LOCK_EXCLUSIVE_AT] = row.exclusive;
+    locks[at + LOCK_WORKING_AT] = row.working;
 }
 
 // How many items a slot holds exclusively.

@@ -1,14 +1,22 @@
-// The transaction table: two words, then a row of five for each slot.
+// The transaction table: its head, and a row for each slot.
+use names::CLOCK_AT;
+use names::LAST_NUMBER_AT;
 use names::Number;
 use names::SLOTS;
 use names::Slot;
 use names::Stamp;
+use names::TXN_HEAD;
+use names::TXN_ITEM_AT;
+use names::TXN_KIND_AT;
+use names::TXN_LOCK_AT;
+use names::TXN_ROW;
+use names::TXN_START_AT;
 ghost use mathlib.Core.Path.{_≡_};
 ghost use Prim.Native.Nat.{_<_};
 ghost use lib.ListN.{length, set};
 ghost use Rattle.names.specs.Sizes.{base};
-ghost use Rattle.rules.specs.Tables.{txnWords, lastNumber, clock, txn, setTxn, setAwaited, noTxn, slotOf, freeSlot};
-ghost use Rattle.rows.specs.Founds.{foundAt, rowOfNew};
+ghost use Rattle.rules.specs.Tables.{txnWords, lastNumber, clock, txn, setTxn, setAwaited, noTxn, slotOf, freeSlot, newTxn};
+ghost use Rattle.rows.specs.Founds.{foundAt};
 
 // Where a search ended.
 pub enum Found {
@@ -16,20 +24,12 @@ pub enum Found {
     Nobody,
 }
 
-const LAST_NUMBER: usize = 0;
-
-const CLOCK: usize = 1;
-
-const ROWS: u64 = names::TXN_HEAD as u64;
-
-const ROW: u64 = names::TXN_ROW as u64;
-
 // The last number given.
 pub fn last_number(txns: &[u64]) -> u64
     requires { ⌜ length (now txns) ≡ txnWords base ⌝ }
     ensures { λ r. ⌜ r ≡ lastNumber (now (txns .entry)) ⌝ }
 {
-    txns[LAST_NUMBER]
+    txns[LAST_NUMBER_AT]
 }
 
 // The stamp of the latest update commit.
@@ -37,7 +37,7 @@ pub fn clock(txns: &[u64]) -> Stamp
     requires { ⌜ length (now txns) ≡ txnWords base ⌝ }
     ensures { λ r. ⌜ r .0 ≡ clock (now (txns .entry)) ⌝ }
 {
-    Stamp(txns[CLOCK])
+    Stamp(txns[CLOCK_AT])
 }
 
 // The slot of the live transaction with this number.
@@ -48,7 +48,7 @@ pub fn slot_of(txns: &[u64], number: Number) -> Found
     let wanted = number.0;
     let mut slot: u64 = 0;
     while slot < SLOTS {
-        let word = txns[(ROWS + ROW * slot) as usize];
+        let word = txns[TXN_HEAD + TXN_ROW * (slot as usize)];
         if word != 0 {
             if word == wanted {
                 return Found::At(Slot(slot));
@@ -66,7 +66,7 @@ pub fn free_slot(txns: &[u64]) -> Found
 {
     let mut slot: u64 = 0;
     while slot < SLOTS {
-        let word = txns[(ROWS + ROW * slot) as usize];
+        let word = txns[TXN_HEAD + TXN_ROW * (slot as usize)];
         if word == 0 {
             return Found::At(Slot(slot));
         }
@@ -80,8 +80,8 @@ pub fn kind(txns: &[u64], slot: Slot) -> u64
     requires { ⌜ (length (now txns) ≡ txnWords base) × (slot .0 < base .slots) ⌝ }
     ensures { λ r. ⌜ r ≡ (txn (now (txns .entry)) (slot .0)) .kind ⌝ }
 {
-    let s = slot.0;
-    txns[(ROWS + ROW * s + 1) as usize]
+    let at = TXN_HEAD + TXN_ROW * (slot.0 as usize);
+    txns[at + TXN_KIND_AT]
 }
 
 // The start of a query.
@@ -89,8 +89,8 @@ pub fn start(txns: &[u64], slot: Slot) -> Stamp
     requires { ⌜ (length (now txns) ≡ txnWords base) × (slot .0 < base .slots) ⌝ }
     ensures { λ r. ⌜ r .0 ≡ (txn (now (txns .entry)) (slot .0)) .start ⌝ }
 {
-    let s = slot.0;
-    Stamp(txns[(ROWS + ROW * s + 2) as usize])
+    let at = TXN_HEAD + TXN_ROW * (slot.0 as usize);
+    Stamp(txns[at + TXN_START_AT])
 }
 
 // The lock that is awaited, or 0.
@@ -98,8 +98,8 @@ pub fn awaited_lock(txns: &[u64], slot: Slot) -> u64
     requires { ⌜ (length (now txns) ≡ txnWords base) × (slot .0 < base .slots) ⌝ }
     ensures { λ r. ⌜ r ≡ (txn (now (txns .entry)) (slot .0)) .awaitedLock ⌝ }
 {
-    let s = slot.0;
-    txns[(ROWS + ROW * s + 3) as usize]
+    let at = TXN_HEAD + TXN_ROW * (slot.0 as usize);
+    txns[at + TXN_LOCK_AT]
 }
 
 // The word of the item that is awaited.
@@ -107,8 +107,8 @@ pub fn awaited_item(txns: &[u64], slot: Slot) -> u64
     requires { ⌜ (length (now txns) ≡ txnWords base) × (slot .0 < base .slots) ⌝ }
     ensures { λ r. ⌜ r ≡ (txn (now (txns .entry)) (slot .0)) .awaitedItem ⌝ }
 {
-    let s = slot.0;
-    txns[(ROWS + ROW * s + 4) as usize]
+    let at = TXN_HEAD + TXN_ROW * (slot.0 as usize);
+    txns[at + TXN_ITEM_AT]
 }
 
 // The awaited lock and item of a slot.
@@ -116,41 +116,38 @@ pub fn set_awaited(txns: &mut [u64], slot: Slot, lock: u64, item: u64)
     requires { ⌜ (length (now txns) ≡ txnWords base) × (slot .0 < base .slots) ⌝ }
     ensures { λ _. ⌜ now (txns .exit) ≡ setAwaited (now (txns .entry)) (slot .0) lock item ⌝ }
 {
-    let s = slot.0;
-    let at = (ROWS + ROW * s) as usize;
-    txns[at + 3] = lock;
-    txns[at + 4] = item;
+    let at = TXN_HEAD + TXN_ROW * (slot.0 as usize);
+    txns[at + TXN_LOCK_AT] = lock;
+    txns[at + TXN_ITEM_AT] = item;
 }
 
-// A new row: the number, which is now the last one given, the kind and the start.
-pub fn begin(txns: &mut [u64], slot: Slot, number: Number, kind: u64, start: Stamp)
-    requires { ⌜ (length (now txns) ≡ txnWords base) × (slot .0 < base .slots) ⌝ }
-    ensures { λ _. ⌜ now (txns .exit) ≡ setTxn (set (now (txns .entry)) 0 (number .0)) (slot .0) (rowOfNew (number .0) kind (start .0)) ⌝ }
-{
-    let s = slot.0;
-    let n = number.0;
-    let q = start.0;
-    let at = (ROWS + ROW * s) as usize;
-    txns[LAST_NUMBER] = n;
-    txns[at] = n;
-    txns[at + 1] = kind;
-    txns[at + 2] = q;
-    txns[at + 3] = 0;
-    txns[at + 4] = 0;
-}
-
-// The row of a slot goes.
+// The row of a slot goes: each of its words becomes 0.
 pub fn leave(txns: &mut [u64], slot: Slot)
     requires { ⌜ (length (now txns) ≡ txnWords base) × (slot .0 < base .slots) ⌝ }
     ensures { λ _. ⌜ now (txns .exit) ≡ setTxn (now (txns .entry)) (slot .0) noTxn ⌝ }
 {
-    let s = slot.0;
-    let at = (ROWS + ROW * s) as usize;
-    txns[at] = 0;
-    txns[at + 1] = 0;
-    txns[at + 2] = 0;
-    txns[at + 3] = 0;
-    txns[at + 4] = 0;
+    let at = TXN_HEAD + TXN_ROW * (slot.0 as usize);
+    let mut k: usize = 0;
+    while k < TXN_ROW {
+        txns[at + k] = 0;
+        k += 1;
+    }
+}
+
+// A new row: the number, which is now the last one given, the kind and the start; its other words
+// are 0.
+pub fn begin(txns: &mut [u64], slot: Slot, number: Number, kind: u64, start: Stamp)
+    requires { ⌜ (length (now txns) ≡ txnWords base) × (slot .0 < base .slots) ⌝ }
+    ensures { λ _. ⌜ now (txns .exit) ≡ setTxn (set (now (txns .entry)) 0 (number .0)) (slot .0) (newTxn (number .0) kind (start .0)) ⌝ }
+{
+    let n = number.0;
+    let q = start.0;
+    txns[LAST_NUMBER_AT] = n;
+    leave(txns, slot);
+    let at = TXN_HEAD + TXN_ROW * (slot.0 as usize);
+    txns[at] = n;
+    txns[at + TXN_KIND_AT] = kind;
+    txns[at + TXN_START_AT] = q;
 }
 
 // The clock, written.
@@ -159,5 +156,5 @@ pub fn set_clock(txns: &mut [u64], stamp: Stamp)
     ensures { λ _. ⌜ now (txns .exit) ≡ set (now (txns .entry)) 1 (stamp .0) ⌝ }
 {
     let c = stamp.0;
-    txns[CLOCK] = c;
+    txns[CLOCK_AT] = c;
 }

@@ -9,8 +9,8 @@ use lib.Seq.{getD-set-same, getD-set-other}
 use lib.Dec.{T}
 use Rattle.names.specs.declared.Sizes.{Sizes}
 use Rattle.names.specs.Sizes.{lastWord}
-use Rattle.rules.specs.Tables.{Tables, txnWords, lastNumber, clock, Txn, txn, setTxn, live, liveQuery}
-use Rattle.rules.specs.Tables.{anUpdate, aQuery, noLock, lock}
+use Rattle.rules.specs.Tables.{newTxn, Tables, txnWords, lastNumber, clock, Txn, txn, setTxn, live, liveQuery}
+use Rattle.rules.specs.Tables.{anUpdate, aQuery, lock}
 use Rattle.rules.specs.Waits.{waitsFor}
 use Rattle.rules.specs.Good.{Good, GoodTxn, GoodQuota}
 use Rattle.rules.specs.Step.{begun}
@@ -32,7 +32,7 @@ module _ (S : Sizes) (G : Tables) (g : Good S G) (k q s : ℕ) (inside : s < S .
   n = lastNumber t + 1
 
   abbrev R : Txn
-  R = record { number = n; kind = k; start = q; awaitedLock = noLock; awaitedItem = 0 }
+  R = newTxn n k q
 
   abbrev t′ : List ℕ
   t′ = setTxn (set t 0 n) s R

@@ -16,9 +16,9 @@ use Rattle.rules.specs.Tables.{Tables, lastNumber, clock, txn, liveUpdat
 use Rattle.rules.specs.Versions.{Version, noVersion, pairs, versionsIn, versionsOf, newest, place, choice, readBySome, keptFrom, kept}
 use Rattle.rules.specs.Good.{Good}
 use Rattle.rules.specs.Tested.{good}
-use Rattle.rules.specs.Answers.{Call, beginUpdate, beginQuery, read, write, commit, abort, Outcome, Refusal, code}
-use Rattle.rules.specs.Answers.{wait}
-use Rattle.rules.specs.Step.{locked, replaced, sharedToo, taken, withNew, committed, ended, aborted, begun, queryRead, act, step}
+use Rattle.rules.specs.Answers.{Call, BeginUpdate, BeginQuery, Read, Write, Commit, Abort, Outcome, Refusal, code, Deed}
+use Rattle.rules.specs.Answers.{Wait}
+use Rattle.rules.specs.Step.{locked, replaced, sharedToo, taken, withNew, committed, ended, aborted, begun, queryRead, judged, done, act, step}
 use Rattle.rules.proofs.Tests.{is-true, same?}
 use Rattle.rules.proofs.Choice.{length-versionsIn, place-le}
 use Rattle.rules.proofs.Views.{lock-setLock, lock-setLock-other, lock-release}
@@ -26,17 +26,18 @@ use Rattle.rules.proofs.Equal.{Good→good}
 use Rattle.rules.proofs.Steps.{step-good, cond-case}
 use Rattle.rules.proofs.Fresh.{zeros, fresh-row, fresh-row-zero}
 use Rattle.rules.proofs.ChangedVersions.{ended-versions, committed-versions}
-use Rattle.rules.proofs.Ways.{refusal-most, Way, way, refused, waited, beganUpdate, beganQuery, readOwn, readNewest, readShared, readQuery}
+use Rattle.rules.proofs.Judged.{way}
+use Rattle.rules.proofs.Ways.{refusal-most, Way, refused, waited, beganUpdate, beganQuery, readOwn, readNewest, readShared, readQuery}
 use Rattle.rules.proofs.Ways.{wroteOwn, wroteTaken, committedUpdate, committedQuery, abortedUpdate, abortedQuery}
 
 -- the value of a write, if it is one, is at most B
 unfoldable pub Asks : ℕ → Call → Type 0
-Asks B (write n x v) = v ≤ B
-Asks B beginUpdate = T true
-Asks B beginQuery = T true
-Asks B (read n x) = T true
-Asks B (commit n) = T true
-Asks B (abort n) = T true
+Asks B (Write n x v) = v ≤ B
+Asks B BeginUpdate = T true
+Asks B BeginQuery = T true
+Asks B (Read n x) = T true
+Asks B (Commit n) = T true
+Asks B (Abort n) = T true
 
 pub record Within (B : ℕ) (a : Answer) : Type 0 where
   pub code : a .code ≤ B
@@ -145,31 +146,32 @@ module _ (B : ℕ) where
             let p = place-le q (versionsIn r) in
             omega arith
 
-        way-bounded : (c : Call) (o : Outcome) → Asks B c → Way S G c o → Both o
-        unfolding queryRead choice begun Asks
-        way-bounded c o a (refused r l) = (no r, b)
-        way-bounded c o a (waited s k x i u) = (no wait, record { working = b .working; values = b .values })
-        way-bounded c o a (beganUpdate s free) = (bare (lastNumber (G .txns) + 1) (let m = g .lastMost in omega arith), record { working = b .working; values = b .values })
-        way-bounded c o a (beganQuery s free) = (bare (lastNumber (G .txns) + 1) (let m = g .lastMost in omega arith), record { working = b .working; values = b .values })
-        way-bounded c o a (readOwn n s x u h) = (found _ 0 (b .working x (u .known)) (omega arith), record { working = b .working; values = b .values })
-        way-bounded c o a (readNewest n s x u h) = (found _ 1 (newest-bound x (u .known)) (omega arith), record { working = b .working; values = b .values })
-        way-bounded c o a (readShared n s x u h) =
+        way-bounded : (c : Call) (d : Deed) → Asks B c → Way S G c d → Both (done S d G)
+        unfolding done queryRead choice begun Asks
+        way-bounded c d a (refused r l) = (no r, b)
+        way-bounded c d a (waited s k x w) = (no Wait, record { working = b .working; values = b .values })
+        way-bounded c d a (beganUpdate s free l) = (bare (lastNumber (G .txns) + 1) (let m = g .lastMost in omega arith), record { working = b .working; values = b .values })
+        way-bounded c d a (beganQuery s free l) = (bare (lastNumber (G .txns) + 1) (let m = g .lastMost in omega arith), record { working = b .working; values = b .values })
+        way-bounded c d a (readOwn n s x u h) = (found _ 0 (b .working x (u .known)) (omega arith), record { working = b .working; values = b .values })
+        way-bounded c d a (readNewest n s x u h) = (found _ 1 (newest-bound x (u .known)) (omega arith), record { working = b .working; values = b .values })
+        way-bounded c d a (readShared n s x u h f) =
             (found _ 1 (newest-bound x (u .known)) (omega arith), locked-bounded s x (u .known) (sharedToo (lock (G .locks) x) s) (b .working x (u .known)))
-        way-bounded c o a (readQuery n s x d q i) =
+        way-bounded c d a (readQuery n s x C q i) =
             let start = (txn (G .txns) s) .start in
             let vs = versionsOf S (G .versions) x in
             (found _ _ (value-at vs (b .values x i) (place start vs)) (place-bound start x i), b)
-        way-bounded c o a (wroteOwn n s x v u h) = (bare 0 (omega arith), locked-bounded s x (u .known) (replaced (lock (G .locks) x) v) a)
-        way-bounded c o a (wroteTaken n s x v u h) = (bare 0 (omega arith), locked-bounded s x (u .known) (taken (lock (G .locks) x) s v) a)
-        way-bounded c o a (committedUpdate n s d u) = (bare (clock (G .txns) + 1) (let m = g .clockMost in omega arith), committed-bounded s (d .inside) u)
-        way-bounded c o a (committedQuery n s d q) = (bare 0 (omega arith), ended-bounded s (d .inside))
-        way-bounded c o a (abortedUpdate n s d u) = (bare 0 (omega arith), aborted-bounded s)
-        way-bounded c o a (abortedQuery n s d q) = (bare 0 (omega arith), ended-bounded s (d .inside))
+        way-bounded c d a (wroteOwn n s x v u h) = (bare 0 (omega arith), locked-bounded s x (u .known) (replaced (lock (G .locks) x) v) a)
+        way-bounded c d a (wroteTaken n s x v u h f r) = (bare 0 (omega arith), locked-bounded s x (u .known) (taken (lock (G .locks) x) s v) a)
+        way-bounded c d a (committedUpdate n s C u l) = (bare (clock (G .txns) + 1) (let m = g .clockMost in omega arith), committed-bounded s (C .inside) u)
+        way-bounded c d a (committedQuery n s C q) = (bare 0 (omega arith), ended-bounded s (C .inside))
+        way-bounded c d a (abortedUpdate n s C u) = (bare 0 (omega arith), aborted-bounded s)
+        way-bounded c d a (abortedQuery n s C q) = (bare 0 (omega arith), ended-bounded s (C .inside))
 
         -- a call whose value is within the bound is answered so, and leaves the tables so
         pub step-bounded : (c : Call) → Asks B c → Both (step S c G)
+        unfolding act
         step-bounded c a =
-            subst Both (sym (step-good S c G (is-true (good S G) (Good→good S G g)))) (way-bounded c (act S c G) a (way S G g c))
+            subst Both (sym (step-good S c G (is-true (good S G) (Good→good S G g)))) (way-bounded c (judged S c G) a (way S G g c))
 
 -- fresh tables hold zeros
 pub fresh-bounded : (B : ℕ) (S : Sizes) → Bounded B S (fresh S)

@@ -9,13 +9,13 @@ use borrow.Author.Tests.{ne-eqb, eq-eqb, lt-leb}
 use Rattle.names.specs.declared.Sizes.{Sizes}
 use Rattle.names.specs.Sizes.{lastWord}
 use Rattle.rules.specs.Tables.{Tables, lastNumber, clock, txn, liveUpdate, liveQuery, anUpdate, aQuery, noLock, sharedLock, exclusiveLock}
-use Rattle.rules.specs.Tables.{slotOf, freeSlot, lock}
+use Rattle.rules.specs.Tables.{slotOf, freeSlot}
 use Rattle.rules.specs.Versions.{versionsOf, place, choice}
 use Rattle.rules.specs.Good.{Good}
 use Rattle.rules.specs.Tested.{good}
-use Rattle.rules.specs.Locks.{toRead, toWrite, decision}
-use Rattle.rules.specs.Answers.{Call, beginUpdate, beginQuery, read, write, commit, abort, says, granted, refuses, quotaSpent}
-use Rattle.rules.specs.Step.{step, act, begin, begun, readBy, writeBy, commitBy, abortBy, queryRead, access, carriedOut, awaitsOther, writesFurther}
+use Rattle.rules.specs.Locks.{toRead, toWrite}
+use Rattle.rules.specs.Answers.{Call, BeginUpdate, BeginQuery, Read, Write, Commit, Abort, says, granted, refuses, QuotaSpent}
+use Rattle.rules.specs.Step.{step, act, judged, done, beginBy, begun, readBy, writeBy, commitBy, abortBy, queryRead, access, awaitsOther, writesFurther}
 use Rattle.rules.specs.Step.{committed, ended, aborted}
 use Rattle.rules.proofs.Tests.{is-true}
 use Rattle.rules.proofs.Equal.{Good→good}
@@ -29,18 +29,18 @@ module _ (S : Sizes) (G : Tables) (g : Good S G) where
   -- ---- begin
   module _ (room : freeSlot S (G .txns) < S .slots) (left : lastNumber (G .txns) ≢ lastWord) where
     pub update-begins :
-        step S beginUpdate G ≡ says granted 0 (lastNumber (G .txns) + 1) 0 (begun anUpdate 0 (freeSlot S (G .txns)) G)
-    unfolding act begin
+        step S BeginUpdate G ≡ says granted 0 (lastNumber (G .txns) + 1) 0 (begun anUpdate 0 (freeSlot S (G .txns)) G)
+    unfolding act judged done beginBy
     update-begins =
-        on-good beginUpdate
+        on-good BeginUpdate
         ∙ rw (ne-eqb (freeSlot S (G .txns)) (S .slots) (omega arith), ne-eqb (lastNumber (G .txns)) lastWord left)
 
     pub query-begins :
-        step S beginQuery G
+        step S BeginQuery G
         ≡ says granted 0 (lastNumber (G .txns) + 1) 0 (begun aQuery (clock (G .txns)) (freeSlot S (G .txns)) G)
-    unfolding act begin
+    unfolding act judged done beginBy
     query-begins =
-        on-good beginQuery
+        on-good BeginQuery
         ∙ rw (ne-eqb (freeSlot S (G .txns)) (S .slots) (omega arith), ne-eqb (lastNumber (G .txns)) lastWord left)
 
   -- ---- the transaction with the number n, in slot s
@@ -61,58 +61,58 @@ module _ (S : Sizes) (G : Tables) (g : Good S G) where
 
       pub query-reads :
           (x : ℕ) → x < S .items
-          → step S (read n x) G
+          → step S (Read n x) G
           ≡ says granted
           ((choice ((txn (G .txns) s) .start) (versionsOf S (G .versions) x)) .value)
           0
           (suc (place ((txn (G .txns) s) .start) (versionsOf S (G .versions) x)))
           G
-      unfolding act readBy queryRead awaitsOther
-      query-reads x known = on-good (read n x) ∙ rw (found, within, lt-leb (S .items) x known, none, a-query)
+      unfolding act judged done readBy queryRead awaitsOther
+      query-reads x known = on-good (Read n x) ∙ rw (found, within, lt-leb (S .items) x known, none, a-query)
 
-      pub query-commits : step S (commit n) G ≡ says granted 0 0 0 (ended S s G)
-      unfolding act commitBy
-      query-commits = on-good (commit n) ∙ rw (found, within, none, a-query)
+      pub query-commits : step S (Commit n) G ≡ says granted 0 0 0 (ended S s G)
+      unfolding act judged done commitBy
+      query-commits = on-good (Commit n) ∙ rw (found, within, none, a-query)
 
-      pub query-aborts : step S (abort n) G ≡ says granted 0 0 0 (ended S s G)
-      unfolding act abortBy
-      query-aborts = on-good (abort n) ∙ rw (found, within, a-query)
+      pub query-aborts : step S (Abort n) G ≡ says granted 0 0 0 (ended S s G)
+      unfolding act judged done abortBy
+      query-aborts = on-good (Abort n) ∙ rw (found, within, a-query)
 
     -- ---- an update
     module _ (update : T (liveUpdate (txn (G .txns) s))) where
       no-query : eqb ((txn (G .txns) s) .kind) aQuery ≡ false
       no-query = ne-eqb ((txn (G .txns) s) .kind) aQuery (λ e. let u = update-kind (G .txns) s update in omega arith)
 
-      -- the cell of the table, carried out
+      -- what the cell of the table comes to, done
       pub update-reads :
           (x : ℕ) → x < S .items → awaitsOther (G .txns) s sharedLock x ≡ false
-          → step S (read n x) G ≡ carriedOut S s sharedLock x 0 G (decision S toRead (lock (G .locks) x) s)
-      unfolding act readBy access
-      update-reads x known free = on-good (read n x) ∙ rw (found, within, lt-leb (S .items) x known, free, no-query)
+          → step S (Read n x) G ≡ done S (access S toRead s x 0 G) G
+      unfolding act judged done readBy
+      update-reads x known free = on-good (Read n x) ∙ rw (found, within, lt-leb (S .items) x known, free, no-query)
 
       pub update-writes :
           (x v : ℕ) → x < S .items → awaitsOther (G .txns) s exclusiveLock x ≡ false → writesFurther S (G .locks) s x ≡ false
-          → step S (write n x v) G ≡ carriedOut S s exclusiveLock x v G (decision S toWrite (lock (G .locks) x) s)
-      unfolding act writeBy access
+          → step S (Write n x v) G ≡ done S (access S toWrite s x v G) G
+      unfolding act judged done writeBy
       update-writes x v known free room =
-          on-good (write n x v) ∙ rw (found, within, lt-leb (S .items) x known, no-query, free, room)
+          on-good (Write n x v) ∙ rw (found, within, lt-leb (S .items) x known, no-query, free, room)
 
       -- request E2: the quota is spent
       pub update-spent :
           (x v : ℕ) → x < S .items → awaitsOther (G .txns) s exclusiveLock x ≡ false → writesFurther S (G .locks) s x ≡ true
-          → step S (write n x v) G ≡ refuses quotaSpent G
-      unfolding act writeBy
+          → step S (Write n x v) G ≡ refuses QuotaSpent G
+      unfolding act judged done writeBy
       update-spent x v known free full =
-          on-good (write n x v) ∙ rw (found, within, lt-leb (S .items) x known, no-query, free, full)
+          on-good (Write n x v) ∙ rw (found, within, lt-leb (S .items) x known, no-query, free, full)
 
       pub update-commits :
           (txn (G .txns) s) .awaitedLock ≡ noLock → clock (G .txns) ≢ lastWord
-          → step S (commit n) G ≡ says granted 0 (clock (G .txns) + 1) 0 (committed S s G)
-      unfolding act commitBy
+          → step S (Commit n) G ≡ says granted 0 (clock (G .txns) + 1) 0 (committed S s G)
+      unfolding act judged done commitBy
       update-commits idle left =
-          on-good (commit n)
+          on-good (Commit n)
           ∙ rw (found, within, eq-eqb ((txn (G .txns) s) .awaitedLock) noLock idle, no-query, ne-eqb (clock (G .txns)) lastWord left)
 
-      pub update-aborts : step S (abort n) G ≡ says granted 0 0 0 (aborted S s G)
-      unfolding act abortBy
-      update-aborts = on-good (abort n) ∙ rw (found, within, no-query)
+      pub update-aborts : step S (Abort n) G ≡ says granted 0 0 0 (aborted S s G)
+      unfolding act judged done abortBy
+      update-aborts = on-good (Abort n) ∙ rw (found, within, no-query)

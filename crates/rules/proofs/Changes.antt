@@ -11,14 +11,12 @@ use lib.Seq.{getD-set-same, getD-set-other}
 use lib.Dec.{T, eqb, eqb→eq}
 use Rattle.names.specs.declared.Sizes.{Sizes}
 use Rattle.rules.specs.Words.{bit, withoutBit}
-use Rattle.rules.specs.Tables.{Tables, txnAt, txnWords, lockRow, lockWords, lastNumber, Txn, txn, setTxn, setAwaited, noTxn}
+use Rattle.rules.specs.Tables.{Tables, txnAt, txnWords, lockRow, lockWords, lastNumber, Txn, txn, setTxn, setAwaited, noTxn, newTxn}
 use Rattle.rules.specs.Tables.{noLock, sharedLock, exclusiveLock, Lock, lock, setLock, holds, holdsShared, holdsExclusive, released, release}
 use Rattle.rules.specs.Good.{Good}
-use Rattle.rules.specs.Locks.{toRead, Decision, decision}
-use Rattle.rules.specs.Step.{begun, cleared, locked, aborted, awaitsOther, access, carriedOut, replaced, withTxns, withLocks}
+use Rattle.rules.specs.Step.{begun, cleared, locked, aborted, awaitsOther, replaced, withTxns, withLocks}
 use Rattle.rules.proofs.Tests.{and-left, and-right, and-both, or-left, or-right, is-false, false-is, not-make, ne-make, same?}
 use Rattle.rules.proofs.Views.{length-setTxn, word-setTxn, txn-setTxn, setAwaited-same, lock-setLock, length-setLock, lock-release, length-release}
-use Rattle.rules.proofs.Decisions.{Cell, ownCell, newestCell, shareCell, readConflict, cell}
 
 -- ---- what is said of two lists of words, t before and t′ after
 -- word j is none of the five words of row s
@@ -140,7 +138,7 @@ release-changes S s l e =
 -- ---- the calls' own
 -- the row that a begin writes
 abbrev pub newcomer : Tables → ℕ → ℕ → Txn
-newcomer G k q = record { number = lastNumber (G .txns) + 1; kind = k; start = q; awaitedLock = noLock; awaitedItem = 0 }
+newcomer G k q = newTxn (lastNumber (G .txns) + 1) k q
 
 -- "The lowest free slot gets last number plus 1.": two places in the transactions, and nothing else at all
 pub record Begun (s k q : ℕ) (G G′ : Tables) : Type 0 where
@@ -229,18 +227,8 @@ module _ (S : Sizes) (G : Tables) (g : Good S G) (s : ℕ) (inside : s < S .slot
 
     -- a granted read of an item that the caller holds leaves the very same tables
     pub own-unchanged :
-        T (holds (lock (G .locks) x) s) → awaitsOther (G .txns) s sharedLock x ≡ false → (access S toRead s x 0 G) .after ≡ G
-    unfolding access carriedOut
-    own-unchanged a e = go (decision S toRead h s) (cell S G g x known s toRead)
-      where
-        same : withTxns G (cleared (G .txns) s) ≡ G
-        same = ap (withTxns G) (read-idle a e)
-
-        go : (d : Decision) → Cell S h s toRead d → (carriedOut S s sharedLock x 0 G d) .after ≡ G
-        go d (ownCell o) = same
-        go d (newestCell o) = same
-        go d (shareCell n b) = absurd (n a)
-        go d (readConflict n b) = absurd (n a)
+        T (holds (lock (G .locks) x) s) → awaitsOther (G .txns) s sharedLock x ≡ false → withTxns G (cleared (G .txns) s) ≡ G
+    own-unchanged a e = ap (withTxns G) (read-idle a e)
 
     -- and a granted write of one that it holds exclusively writes the working value alone
     pub replace-unchanged :

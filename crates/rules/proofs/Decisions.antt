@@ -11,10 +11,10 @@ use Rattle.rules.specs.Tables.{Tables, Lock, lock, holds, holdsShared, h
 use Rattle.rules.specs.Waits.{conflicts, blocks, blocked}
 use Rattle.rules.specs.Good.{Good}
 use Rattle.rules.specs.Locks.{Asked, toRead, toWrite, wanted, exclusively, sharing, nothing, heldBy, decide, decision}
-use Rattle.rules.specs.Locks.{Decision, ownValue, replaceValue, newestValue, exchangeLock, takeShared, takeExclusive, conflict}
+use Rattle.rules.specs.Locks.{Cell, OwnValue, ReplaceValue, NewestValue, ExchangeLock, TakeShared, TakeExclusive, Conflict}
 use Rattle.rules.specs.Locks.{anotherShares, anotherExcludes}
 use Rattle.rules.specs.Answers.{granted}
-use Rattle.rules.specs.Step.{carriedOut, conflicted, access}
+use Rattle.rules.specs.Step.{cellDeed, conflicted, access, done}
 use Rattle.rules.proofs.Tests.{and-left, and-right, and-both, or-cases, or-left, or-right, true-is, false-is, ne-make, ne-use, eq-make, is-false, same?}
 use Rattle.rules.proofs.Counts.{someBelow→, →someBelow}
 use Rattle.rules.proofs.Bits.{bit-none, no-bits, withoutBit-here, withoutBit-there}
@@ -150,33 +150,33 @@ holder-alone S G g x i a b e f = go (or-cases (holdsShared (lock (G .locks) x) b
     go (inr t) = exclusive-one (lock (G .locks) x) a b e t
 
 -- a cell that grants is not the conflict
-unfoldable grants : Decision → Bool
-grants ownValue = true
-grants replaceValue = true
-grants newestValue = true
-grants exchangeLock = true
-grants takeShared = true
-grants takeExclusive = true
-grants conflict = false
+unfoldable grants : Cell → Bool
+grants OwnValue = true
+grants ReplaceValue = true
+grants NewestValue = true
+grants ExchangeLock = true
+grants TakeShared = true
+grants TakeExclusive = true
+grants Conflict = false
 
-grants? : {d : Decision} → T (grants d) → d ≡ conflict → ⊥
+grants? : {d : Cell} → T (grants d) → d ≡ Conflict → ⊥
 unfolding grants
-grants? t e = subst (λ (d : Decision). T (grants d)) e t
+grants? t e = subst (λ (d : Cell). T (grants d)) e t
 
 -- ---- the six cells: what each says of the caller's holding and of the others. d is what is decided for slot s that asks a
-pub data Cell (S : Sizes) (h : Lock) (s : ℕ) : Asked → Decision → Type 0 where
-  ownCell : T (holdsExclusive h s) → Cell S h s toRead ownValue
-  replaceCell : T (holdsExclusive h s) → Cell S h s toWrite replaceValue
-  newestCell : T (holdsShared h s) → Cell S h s toRead newestValue
-  exchangeCell : T (holdsShared h s) → (T (blocked S h exclusiveLock s) → ⊥) → Cell S h s toWrite exchangeLock
-  shareCell : (T (holds h s) → ⊥) → (T (blocked S h sharedLock s) → ⊥) → Cell S h s toRead takeShared
-  excludeCell : (T (holds h s) → ⊥) → (T (blocked S h exclusiveLock s) → ⊥) → Cell S h s toWrite takeExclusive
-  readConflict : (T (holds h s) → ⊥) → T (blocked S h sharedLock s) → Cell S h s toRead conflict
-  writeConflict : (T (holdsExclusive h s) → ⊥) → T (blocked S h exclusiveLock s) → Cell S h s toWrite conflict
+pub data CellIs (S : Sizes) (h : Lock) (s : ℕ) : Asked → Cell → Type 0 where
+  ownCell : T (holdsExclusive h s) → CellIs S h s toRead OwnValue
+  replaceCell : T (holdsExclusive h s) → CellIs S h s toWrite ReplaceValue
+  newestCell : T (holdsShared h s) → CellIs S h s toRead NewestValue
+  exchangeCell : T (holdsShared h s) → (T (blocked S h exclusiveLock s) → ⊥) → CellIs S h s toWrite ExchangeLock
+  shareCell : (T (holds h s) → ⊥) → (T (blocked S h sharedLock s) → ⊥) → CellIs S h s toRead TakeShared
+  excludeCell : (T (holds h s) → ⊥) → (T (blocked S h exclusiveLock s) → ⊥) → CellIs S h s toWrite TakeExclusive
+  readConflict : (T (holds h s) → ⊥) → T (blocked S h sharedLock s) → CellIs S h s toRead Conflict
+  writeConflict : (T (holdsExclusive h s) → ⊥) → T (blocked S h exclusiveLock s) → CellIs S h s toWrite Conflict
 
 module _ (S : Sizes) (G : Tables) (g : Good S G) (x : ℕ) (known : x < S .items) (s : ℕ) where
   -- who holds exclusively is in no conflict
-  own-unblocked : T (holdsExclusive (lock (G .locks) x) s) → (k : ℕ) → T (blocked S (lock (G .locks) x) k s) → ⊥
+  pub own-unblocked : T (holdsExclusive (lock (G .locks) x) s) → (k : ℕ) → T (blocked S (lock (G .locks) x) k s) → ⊥
   own-unblocked e k t =
       let r = blocked-other S (lock (G .locks) x) k s .0 t in
       let d = blocks-other (lock (G .locks) x) k s (r .0) (r .2) in
@@ -195,8 +195,13 @@ module _ (S : Sizes) (G : Tables) (g : Good S G) (x : ℕ) (known : x < S .items
       let r = excludes-another S (lock (G .locks) x) s t in
       never-both S G g x known (r .0) s (r .3) e
 
+  -- so who shares reads without one
+  pub shared-unblocked : T (holdsShared (lock (G .locks) x) s) → T (blocked S (lock (G .locks) x) sharedLock s) → ⊥
+  unfolding against
+  shared-unblocked e t = shared-open e (blocked-against S (lock (G .locks) x) s toRead t)
+
   -- the decision is that of one of the cells
-  pub cell : (a : Asked) → Cell S (lock (G .locks) x) s a (decision S a (lock (G .locks) x) s)
+  pub cell : (a : Asked) → CellIs S (lock (G .locks) x) s a (decision S a (lock (G .locks) x) s)
   unfolding decision heldBy decide
   cell a = go a (holdsExclusive h s) (holdsShared h s) (anotherShares S h s) (anotherExcludes S h s) refl refl refl refl
     where
@@ -211,7 +216,7 @@ module _ (S : Sizes) (G : Tables) (g : Good S G) (x : ℕ) (known : x < S .items
 
       go :
           (a : Asked) (e w o p : Bool) → holdsExclusive h s ≡ e → holdsShared h s ≡ w → anotherShares S h s ≡ o
-          → anotherExcludes S h s ≡ p → Cell S h s a (decide a (cond e exclusively (cond w sharing nothing)) o p)
+          → anotherExcludes S h s ≡ p → CellIs S h s a (decide a (cond e exclusively (cond w sharing nothing)) o p)
       go toRead true w o p e f m n = ownCell (true-is e)
       go toWrite true w o p e f m n = replaceCell (true-is e)
       go toRead false true o p e f m n = newestCell (true-is f)
@@ -226,17 +231,17 @@ module _ (S : Sizes) (G : Tables) (g : Good S G) (x : ℕ) (known : x < S .items
 
   -- the table says conflict exactly where another holder's lock conflicts with the wanted one
   pub decision-conflict :
-      (a : Asked) → (decision S a (lock (G .locks) x) s ≡ conflict) ↔ T (blocked S (lock (G .locks) x) (wanted a) s)
+      (a : Asked) → (decision S a (lock (G .locks) x) s ≡ Conflict) ↔ T (blocked S (lock (G .locks) x) (wanted a) s)
   unfolding grants
   decision-conflict a = go a (decision S a (lock (G .locks) x) s) (cell a)
     where
       h : Lock
       h = lock (G .locks) x
 
-      go : (a : Asked) (d : Decision) → Cell S h s a d → (d ≡ conflict) ↔ T (blocked S h (wanted a) s)
+      go : (a : Asked) (d : Cell) → CellIs S h s a d → (d ≡ Conflict) ↔ T (blocked S h (wanted a) s)
       go a d (ownCell e) = (λ q. absurd (grants? tt q), λ t. absurd (own-unblocked e sharedLock t))
       go a d (replaceCell e) = (λ q. absurd (grants? tt q), λ t. absurd (own-unblocked e exclusiveLock t))
-      go a d (newestCell e) = (λ q. absurd (grants? tt q), λ t. absurd (shared-open e (unfold against in blocked-against S h s toRead t)))
+      go a d (newestCell e) = (λ q. absurd (grants? tt q), λ t. absurd (shared-unblocked e t))
       go a d (exchangeCell e n) = (λ q. absurd (grants? tt q), λ t. absurd (n t))
       go a d (shareCell e n) = (λ q. absurd (grants? tt q), λ t. absurd (n t))
       go a d (excludeCell e n) = (λ q. absurd (grants? tt q), λ t. absurd (n t))
@@ -246,22 +251,22 @@ module _ (S : Sizes) (G : Tables) (g : Good S G) (x : ℕ) (known : x < S .items
   -- ---- so a call is granted, or carried on as a conflict
   pub access-conflict :
       (a : Asked) (v : ℕ) → T (blocked S (lock (G .locks) x) (wanted a) s) → access S a s x v G ≡ conflicted S s (wanted a) x G
-  unfolding access carriedOut
-  access-conflict a v t = ap (carriedOut S s (wanted a) x v G) (decision-conflict a .1 t)
+  unfolding access cellDeed
+  access-conflict a v t = ap (cellDeed S s (wanted a) x v G) (decision-conflict a .1 t)
 
   pub access-free :
-      (a : Asked) (v : ℕ) → (T (blocked S (lock (G .locks) x) (wanted a) s) → ⊥) → (access S a s x v G) .answer .code ≡ granted
-  unfolding access carriedOut
+      (a : Asked) (v : ℕ) → (T (blocked S (lock (G .locks) x) (wanted a) s) → ⊥) → (done S (access S a s x v G) G) .answer .code ≡ granted
+  unfolding access cellDeed done
   access-free a v n = go (decision S a (lock (G .locks) x) s) refl
     where
-      go : (d : Decision) → decision S a (lock (G .locks) x) s ≡ d → (carriedOut S s (wanted a) x v G d) .answer .code ≡ granted
-      go ownValue e = refl
-      go replaceValue e = refl
-      go newestValue e = refl
-      go exchangeLock e = refl
-      go takeShared e = refl
-      go takeExclusive e = refl
-      go conflict e = absurd (n (decision-conflict a .0 e))
+      go : (d : Cell) → decision S a (lock (G .locks) x) s ≡ d → (done S (cellDeed S s (wanted a) x v G d) G) .answer .code ≡ granted
+      go OwnValue e = refl
+      go ReplaceValue e = refl
+      go NewestValue e = refl
+      go ExchangeLock e = refl
+      go TakeShared e = refl
+      go TakeExclusive e = refl
+      go Conflict e = absurd (n (decision-conflict a .0 e))
 
   -- ---- what a lock that is not in the way looks like
   -- without a conflict, and not held exclusively by s, it is held exclusively by nobody

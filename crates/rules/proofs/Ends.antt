@@ -15,7 +15,7 @@ use Rattle.rules.specs.Tables.{Tables, tables, txnWords, versionWords, v
 use Rattle.rules.specs.Tables.{liveUpdate, liveQuery, starts, lock, holds, holdsExclusive, release}
 use Rattle.rules.specs.Versions.{Version, versionsIn, stampAt, rowOf, kept, rewritten}
 use Rattle.rules.specs.Good.{Good, GoodVersions}
-use Rattle.rules.specs.Tested.{falls, lastOld, versionsGood}
+use Rattle.rules.specs.Tested.{lastOld, versionsGood}
 use Rattle.rules.specs.Step.{committed, ended, aborted, withNew}
 use Rattle.rules.proofs.Tests.{same?}
 use Rattle.rules.proofs.Counts.{mem-every}

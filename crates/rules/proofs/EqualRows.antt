@@ -8,7 +8,7 @@ use native.Mathlib.Omega.{arith}
 use lib.Dec.{T, eqb, leb, ltb, eqb→eq, leb→le, le→leb, ltb→lt, lt→ltb}
 use borrow.Author.Tests.{eq-eqb, ne-eqb}
 use Rattle.names.specs.declared.Sizes.{Sizes}
-use Rattle.rules.specs.Words.{implies, everyBelow, bit}
+use Rattle.rules.specs.Words.{implies, bit}
 use Rattle.rules.specs.Tables.{lastNumber, clock, Txn, txn, noTxn, live, liveUpdate, liveQuery}
 use Rattle.rules.specs.Tables.{anUpdate, aQuery, noLock, sharedLock, exclusiveLock, Lock, lock, holdsShared, holdsExclusive, holds}
 use Rattle.rules.specs.Good.{GoodTxn, GoodLock}

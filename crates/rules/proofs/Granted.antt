@@ -11,8 +11,8 @@ use Rattle.rules.specs.Tables.{Tables, txn, setAwaited, liveUpdate, lock
 use Rattle.rules.specs.Waits.{blocks, blocked, circleAt}
 use Rattle.rules.specs.Good.{Good}
 use Rattle.rules.specs.Locks.{Asked, wanted}
-use Rattle.rules.specs.Answers.{Outcome, granted, code, wait, deadlock}
-use Rattle.rules.specs.Step.{access, conflicted}
+use Rattle.rules.specs.Answers.{Deed, granted, code, Wait, Deadlock}
+use Rattle.rules.specs.Step.{access, conflicted, done}
 use Rattle.rules.specs.Conditions.{Circle}
 use Rattle.rules.proofs.Tests.{true-is, false-is}
 use Rattle.rules.proofs.Deadlock.{circle-is}
@@ -24,7 +24,7 @@ module _ (S : Sizes) (G : Tables) (g : Good S G) (a : Asked) (s x v : ℕ) (insi
   Blocked = (b : ℕ) × (b < S .slots) × T (blocks (lock (G .locks) x) (wanted a) s b)
 
   abbrev answers : ℕ
-  answers = (access S a s x v G) .answer .code
+  answers = (done S (access S a s x v G) G) .answer .code
 
   -- ---- what is computed
   abbrev held : Bool
@@ -36,13 +36,13 @@ module _ (S : Sizes) (G : Tables) (g : Good S G) (a : Asked) (s x v : ℕ) (insi
   free-code : held ≡ false → answers ≡ granted
   free-code e = access-free S G g x known s a v (false-is e)
 
-  circle-code : held ≡ true → turns ≡ true → answers ≡ code deadlock
-  unfolding conflicted
-  circle-code e f = ap (λ (o : Outcome). o .answer .code) (access-conflict S G g x known s a v (true-is e)) ∙ rw f
+  circle-code : held ≡ true → turns ≡ true → answers ≡ code Deadlock
+  unfolding conflicted done
+  circle-code e f = ap (λ (d : Deed). (done S d G) .answer .code) (access-conflict S G g x known s a v (true-is e)) ∙ rw f
 
-  wait-code : held ≡ true → turns ≡ false → answers ≡ code wait
-  unfolding conflicted
-  wait-code e f = ap (λ (o : Outcome). o .answer .code) (access-conflict S G g x known s a v (true-is e)) ∙ rw f
+  wait-code : held ≡ true → turns ≡ false → answers ≡ code Wait
+  unfolding conflicted done
+  wait-code e f = ap (λ (d : Deed). (done S d G) .answer .code) (access-conflict S G g x known s a v (true-is e)) ∙ rw f
 
   -- ---- and what it stands for
   others : T held ↔ Blocked
@@ -52,7 +52,7 @@ module _ (S : Sizes) (G : Tables) (g : Good S G) (a : Asked) (s x v : ℕ) (insi
   circles = circle-is S G g s (wanted a) x inside known (wanted-lock a)
 
   pub granted-exactly :
-      ((access S a s x v G) .answer .code ≡ granted)
+      ((done S (access S a s x v G) G) .answer .code ≡ granted)
       ↔ ((b : ℕ) → b < S .slots → T (blocks (lock (G .locks) x) (wanted a) s b) → ⊥)
   granted-exactly = go held turns refl refl
     where
@@ -62,21 +62,21 @@ module _ (S : Sizes) (G : Tables) (g : Good S G) (a : Asked) (s x v : ℕ) (insi
       go false z e f = (λ q b i t. false-is e (others .1 (b, i, t)), λ n. free-code e)
 
   pub deadlock-exactly :
-      ((access S a s x v G) .answer .code ≡ code deadlock)
+      ((done S (access S a s x v G) G) .answer .code ≡ code Deadlock)
       ↔ (((b : ℕ) × (b < S .slots) × T (blocks (lock (G .locks) x) (wanted a) s b)) × Circle G s (wanted a) x)
   deadlock-exactly = go held turns refl refl
     where
-      go : (y z : Bool) → held ≡ y → turns ≡ z → (answers ≡ code deadlock) ↔ (Blocked × Circle G s (wanted a) x)
+      go : (y z : Bool) → held ≡ y → turns ≡ z → (answers ≡ code Deadlock) ↔ (Blocked × Circle G s (wanted a) x)
       go true true e f = (λ q. (others .0 (true-is e), circles .0 (true-is f)), λ n. circle-code e f)
       go true false e f = (λ q. absurd (let c = wait-code e f in omega arith), λ n. absurd (false-is f (circles .1 (n .1))))
       go false z e f = (λ q. absurd (let c = free-code e in omega arith), λ n. absurd (false-is e (others .1 (n .0))))
 
   pub wait-exactly :
-      ((access S a s x v G) .answer .code ≡ code wait)
+      ((done S (access S a s x v G) G) .answer .code ≡ code Wait)
       ↔ (((b : ℕ) × (b < S .slots) × T (blocks (lock (G .locks) x) (wanted a) s b)) × (Circle G s (wanted a) x → ⊥))
   wait-exactly = go held turns refl refl
     where
-      go : (y z : Bool) → held ≡ y → turns ≡ z → (answers ≡ code wait) ↔ (Blocked × (Circle G s (wanted a) x → ⊥))
+      go : (y z : Bool) → held ≡ y → turns ≡ z → (answers ≡ code Wait) ↔ (Blocked × (Circle G s (wanted a) x → ⊥))
       go true true e f = (λ q. absurd (let c = circle-code e f in omega arith), λ n. absurd (n .1 (circles .0 (true-is f))))
       go true false e f = (λ q. (others .0 (true-is e), λ w. false-is f (circles .1 w)), λ n. wait-code e f)
       go false z e f = (λ q. absurd (let c = free-code e in omega arith), λ n. absurd (false-is e (others .1 (n .0))))

@@ -9,14 +9,14 @@ use Rattle.rules.specs.Words.{bit, withBit}
 use Rattle.rules.specs.Tables.{Tables, setAwaited, Lock, lock, holds, holdsShared, holdsExclusive}
 use Rattle.rules.specs.Waits.{circleAt}
 use Rattle.rules.specs.Good.{Good}
-use Rattle.rules.specs.Locks.{Asked, toRead, toWrite, wanted, Decision, decision}
+use Rattle.rules.specs.Locks.{Asked, toRead, toWrite, wanted, Cell, decision}
 use Rattle.rules.specs.Answers.{Outcome, granted}
-use Rattle.rules.specs.Step.{access, carriedOut, conflicted, locked, sharedToo, taken, replaced}
+use Rattle.rules.specs.Step.{access, cellDeed, conflicted, done, locked, sharedToo, taken, replaced}
 use Rattle.rules.proofs.Tests.{or-left, or-right, true-is, eq-make}
 use Rattle.rules.proofs.Bits.{withBit-here}
 use Rattle.rules.proofs.Views.{lock-setLock}
 use Rattle.rules.proofs.Steps.{cond-case}
-use Rattle.rules.proofs.Decisions.{Cell, ownCell, newestCell, shareCell, replaceCell, exchangeCell, excludeCell, readConflict, writeConflict, cell}
+use Rattle.rules.proofs.Decisions.{CellIs, ownCell, newestCell, shareCell, replaceCell, exchangeCell, excludeCell, readConflict, writeConflict, cell}
 
 -- the lock that a grant of a leaves slot s
 abbrev pub HoldsFor : Asked → Lock → ℕ → Type 0
@@ -37,16 +37,16 @@ module _ (S : Sizes) (G : Tables) (g : Good S G) (s x v : ℕ) (known : x < S .i
   by-taken = rw (written (taken h s v)) (eq-make (suc s) (suc s) refl)
 
   -- a conflict is no grant
-  no-grant : (k : ℕ) (P : Outcome → Type 0) → (conflicted S s k x G) .answer .code ≡ granted → P (conflicted S s k x G)
-  unfolding conflicted
+  no-grant : (k : ℕ) (P : Outcome → Type 0) → (done S (conflicted S s k x G) G) .answer .code ≡ granted → P (done S (conflicted S s k x G) G)
+  unfolding conflicted done
   no-grant k P =
-      cond-case (λ o. o .answer .code ≡ granted → P o) (circleAt S (setAwaited (G .txns) s k x) (G .locks) s) _ _
+      cond-case (λ d. (done S d G) .answer .code ≡ granted → P (done S d G)) (circleAt S (setAwaited (G .txns) s k x) (G .locks) s) _ _
       (λ e z. absurd (omega arith)) (λ e z. absurd (omega arith))
 
   cell-holds :
-      (a : Asked) (d : Decision) → Cell S h s a d → (carriedOut S s (wanted a) x v G d) .answer .code ≡ granted
-      → HoldsFor a (lock ((carriedOut S s (wanted a) x v G d) .after .locks) x) s
-  unfolding carriedOut
+      (a : Asked) (d : Cell) → CellIs S h s a d → (done S (cellDeed S s (wanted a) x v G d) G) .answer .code ≡ granted
+      → HoldsFor a (lock ((done S (cellDeed S s (wanted a) x v G d) G) .after .locks) x) s
+  unfolding cellDeed done
   cell-holds a d (ownCell k) z = unfold holds in (or-right (holdsShared h s) _ k)
   cell-holds a d (newestCell k) z = unfold holds in (or-left (holdsShared h s) _ k)
   cell-holds a d (shareCell k f) z =
@@ -58,6 +58,6 @@ module _ (S : Sizes) (G : Tables) (g : Good S G) (s x v : ℕ) (known : x < S .i
   cell-holds a d (writeConflict k b) z = no-grant _ (λ o. T (holdsExclusive (lock (o .after .locks) x) s)) z
 
   pub granted-holds :
-      (a : Asked) → (access S a s x v G) .answer .code ≡ granted → HoldsFor a (lock ((access S a s x v G) .after .locks) x) s
+      (a : Asked) → (done S (access S a s x v G) G) .answer .code ≡ granted → HoldsFor a (lock ((done S (access S a s x v G) G) .after .locks) x) s
   unfolding access
   granted-holds a = cell-holds a (decision S a h s) (cell S G g x known s a)

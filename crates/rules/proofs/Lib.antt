@@ -26,6 +26,9 @@ pub mod Ends
 pub mod Steps
 pub mod Callers
 pub mod Decisions
+pub mod Ways
+pub mod Testing
+pub mod Judged
 pub mod Answered
 pub mod Granted
 pub mod Refused
@@ -38,5 +41,4 @@ pub mod Outcomes
 pub mod Calls
 pub mod Spent
 pub mod Queries
-pub mod Ways
 pub mod Bounded

@@ -15,7 +15,7 @@ use Rattle.rules.specs.Tables.{starts, lock, holdsExclusive}
 use Rattle.rules.specs.Versions.{Version, versionsOf, stampAt, place, choice}
 use Rattle.rules.specs.Good.{Good}
 use Rattle.rules.specs.Tested.{allRead}
-use Rattle.rules.specs.Answers.{read, says, granted}
+use Rattle.rules.specs.Answers.{Read, says, granted}
 use Rattle.rules.specs.Step.{step, committed, ended, withNew}
 use Rattle.rules.proofs.Choice.{choice-miss}
 use Rattle.rules.proofs.Trim.{kept-choice, kept-read, length-kept, reader}
@@ -35,7 +35,7 @@ module _
     pub query-read :
         let q = (txn (G .txns) s) .start in
         let vs = versionsOf S (G .versions) x in
-        (step S (read n x) G ≡ says granted ((choice q vs) .value) 0 (suc (place q vs)) G)
+        (step S (Read n x) G ≡ says granted ((choice q vs) .value) 0 (suc (place q vs)) G)
         × (place q vs < length vs)
         × (stampAt vs (place q vs) ≤ q)
         × ((k : ℕ) → k < length vs → stampAt vs k ≤ q → place q vs ≤ k)

@@ -4,14 +4,14 @@ use mathlib.Core.Bool.{Bool, true, false, cond}
 use Rattle.names.specs.declared.Sizes.{Sizes}
 use Rattle.rules.specs.Tables.{Tables}
 use Rattle.rules.specs.Tested.{good}
-use Rattle.rules.specs.Answers.{Call, Outcome, refuses, badTables}
+use Rattle.rules.specs.Answers.{Call, Outcome, refuses, BadTables}
 use Rattle.rules.specs.Step.{act, step}
 
 pub step-good : (S : Sizes) (c : Call) (G : Tables) → good S G ≡ true → step S c G ≡ act S c G
 unfolding step
 step-good S c G e = rw e
 
-pub step-bad : (S : Sizes) (c : Call) (G : Tables) → good S G ≡ false → step S c G ≡ refuses badTables G
+pub step-bad : (S : Sizes) (c : Call) (G : Tables) → good S G ≡ false → step S c G ≡ refuses BadTables G
 unfolding step
 step-bad S c G e = rw e
 

@@ -1,111 +1,173 @@
--- The records that the tables' words are read as, after rows were written. Assumes nothing.
-use Prim.Native.Nat.{ℕ, _+_, _*_, _≤_, _<_}
-use mathlib.Core.Path.{_≡_, refl, sym, ap, _∙_}
-use mathlib.Core.Logic.{_≢_}
-use mathlib.Core.List.{List}
+-- The records that the tables' words are read as, after rows were written. The laws of a row are those of its words, however
+-- many they are: a word more in a row changes nothing here.
+use Prim.Native.Nat.{ℕ, zero, suc, _+_, _*_, _≤_, _<_}
+use mathlib.Core.Path.{_≡_, refl, sym, ap, ap₂, _∙_}
+use mathlib.Core.Logic.{_≢_, _⊎_, inl, inr, ⊎-elim}
+use mathlib.Core.Bool.{Bool, true, false}
+use mathlib.Core.List.{List, [], _∷_}
 use native.Mathlib.Omega.{arith}
 use native.Mathlib.Nat.{add-zero}
-use lib.ListN.{length, getD, set, length-set, List·getD-eq-default}
-use lib.Seq.{getD-set-same, getD-set-other, set-getD}
+use lib.ListN.{length, getD, set, replicate, length-set, List·getD-eq-default}
+use lib.Seq.{getD-set-same, getD-set-other, set-getD, set-set, set-comm}
+use lib.Dec.{ltb}
+use borrow.Author.Tests.{ltb-true, ltb-false}
 use Rattle.names.specs.declared.Sizes.{Sizes}
+use Rattle.names.specs.Layout.{txnHead, txnNumberAt, txnKindAt, txnStartAt, txnLockAt, txnItemAt, txnRow}
 use Rattle.rules.specs.Words.{row}
-use Rattle.rules.specs.Tables.{Txn, txn, setTxn, txnAt, txnWords, lastNumber, clock, setAwaited}
-use Rattle.rules.specs.Tables.{Lock, lock, setLock, lockWords, lockIn, lockWordsOf, released, release}
+use Rattle.rules.specs.Tables.{behind, wordsFrom, putFrom, Txn, txnIn, txnWordsOf, txn, setTxn, noTxn, newTxn, txnAt, txnWords, lastNumber, clock, setAwaited}
+use Rattle.rules.specs.Tables.{Lock, lock, setLock, lockRow, lockWords, lockIn, lockWordsOf, released, release}
 use Rattle.rules.proofs.Rows.{row-word, row-mapRows, length-mapRows}
 
+below? : (a b : ℕ) → (a < b) ⊎ (b ≤ a)
+below? a b = go (ltb a b) refl
+  where
+    go : (c : Bool) → ltb a b ≡ c → (a < b) ⊎ (b ≤ a)
+    go true e = inl (ltb-true a b e)
+    go false e = inr (ltb-false a b e)
+
+-- ---- words behind b, written one after the other from the k-th on, and read
+module _ (b : ℕ) where
+  behind-is : (k : ℕ) → behind b k ≡ b + k
+  behind-is zero = sym (add-zero b)
+  behind-is (suc k) = refl
+
+  length-put : (ws l : List ℕ) (k : ℕ) → length (putFrom l b k ws) ≡ length l
+  length-put [] l k = refl
+  length-put (w ∷ ws) l k = length-put ws (set l (behind b k) w) (suc k) ∙ length-set l (behind b k) w
+
+  -- a word that is none of them
+  put-out : (ws l : List ℕ) (k j : ℕ) → (j < b + k) ⊎ (b + k + length ws ≤ j) → getD (putFrom l b k ws) j 0 ≡ getD l j 0
+  put-out [] l k j o = refl
+  put-out (w ∷ ws) l k j o =
+      put-out ws (set l (behind b k) w) (suc k) j (⊎-elim (λ h. inl (omega arith)) (λ h. inr (omega arith)) o)
+      ∙ getD-set-other l (behind b k) j w 0 (λ e. ⊎-elim (λ h. omega (arith, behind-is k)) (λ h. omega (arith, behind-is k)) o)
+
+  -- they are read back
+  words-put : (ws l : List ℕ) (k : ℕ) → b + k + length ws ≤ length l → wordsFrom (putFrom l b k ws) b k (length ws) ≡ ws
+  words-put [] l k f = refl
+  words-put (w ∷ ws) l k f =
+      ap₂ {C = List ℕ} _∷_
+      (put-out ws (set l (behind b k) w) (suc k) (behind b k) (inl (omega (arith, behind-is k)))
+      ∙ getD-set-same l (behind b k) w 0 (omega (arith, behind-is k)))
+      (words-put ws (set l (behind b k) w) (suc k) (simp length-set (omega arith)))
+
+  -- to write what is there changes nothing
+  put-words : (n : ℕ) (l : List ℕ) (k : ℕ) → putFrom l b k (wordsFrom l b k n) ≡ l
+  put-words zero l k = refl
+  put-words (suc n) l k =
+      ap (λ (u : List ℕ). putFrom u b (suc k) (wordsFrom l b (suc k) n)) (set-getD l (behind b k) 0) ∙ put-words n l (suc k)
+
+  -- a word that was written before, and one of them that is changed
+  put-after : (ws l : List ℕ) (k j v : ℕ) → j < b + k → putFrom (set l j v) b k ws ≡ set (putFrom l b k ws) j v
+  put-after [] l k j v h = refl
+  put-after (w ∷ ws) l k j v h =
+      ap (λ (u : List ℕ). putFrom u b (suc k) ws) (set-comm l j (behind b k) v w (λ e. omega (arith, behind-is k)))
+      ∙ put-after ws (set l (behind b k) w) (suc k) j v (omega arith)
+
+  put-set : (ws l : List ℕ) (k m v : ℕ) → m < length ws → putFrom l b k (set ws m v) ≡ set (putFrom l b k ws) (b + (k + m)) v
+  put-set [] l k m v h = absurd (omega arith)
+  put-set (w ∷ ws) l k zero v h =
+      ap (λ (u : List ℕ). putFrom u b (suc k) ws) (sym (set-set l (behind b k) w v))
+      ∙ put-after ws (set l (behind b k) w) (suc k) (behind b k) v (omega (arith, behind-is k))
+      ∙ ap (λ (j : ℕ). set (putFrom (set l (behind b k) w) b (suc k) ws) j v) (behind-is k ∙ ap (λ (j : ℕ). b + j) (sym (add-zero k)))
+  put-set (w ∷ ws) l k (suc m) v h =
+      put-set ws (set l (behind b k) w) (suc k) m v (omega arith)
+      ∙ ap (λ (j : ℕ). set (putFrom (set l (behind b k) w) b (suc k) ws) (b + j) v) (let e : suc k + m ≡ k + suc m = omega arith in e)
+
+  -- zeros, one more
+  pub put-more : (n : ℕ) (l : List ℕ) (k : ℕ) → putFrom l b k (replicate (suc n) 0) ≡ set (putFrom l b k (replicate n 0)) (b + (k + n)) 0
+  put-more zero l k = ap (λ (j : ℕ). set l j 0) (behind-is k ∙ ap (λ (j : ℕ). b + j) (sym (add-zero k)))
+  put-more (suc n) l k =
+      put-more n (set l (behind b k) 0) (suc k)
+      ∙ ap (λ (j : ℕ). set (putFrom (set l (behind b k) 0) b (suc k) (replicate n 0)) (b + j) 0) (let e : suc k + n ≡ k + suc n = omega arith in e)
+
+-- words behind b and words behind c that are the same
+words-same :
+    (n b c k : ℕ) (l m : List ℕ) → ((i : ℕ) → i < k + n → getD l (b + i) 0 ≡ getD m (c + i) 0) → wordsFrom l b k n ≡ wordsFrom m c k n
+words-same zero b c k l m f = refl
+words-same (suc n) b c k l m f =
+    ap₂ {C = List ℕ} _∷_
+    (ap (λ (j : ℕ). getD l j 0) (behind-is b k) ∙ f k (omega arith) ∙ ap (λ (j : ℕ). getD m j 0) (sym (behind-is c k)))
+    (words-same n b c (suc k) l m (λ i h. f i (omega arith)))
+
 -- ---- rows of the transactions
--- five words from b on, set one after the other
-module _ (t : List ℕ) (b v₀ v₁ v₂ v₃ v₄ : ℕ) where
-  abbrev five : List ℕ
-  five = set (set (set (set (set t b v₀) (b + 1) v₁) (b + 2) v₂) (b + 3) v₃) (b + 4) v₄
-
-  five-out : (j : ℕ) → j ≢ b → j ≢ b + 1 → j ≢ b + 2 → j ≢ b + 3 → j ≢ b + 4 → getD five j 0 ≡ getD t j 0
-  five-out j n₀ n₁ n₂ n₃ n₄ = rw (getD-set-other _ (b + 4) j v₄ 0 n₄, getD-set-other _ (b + 3) j v₃ 0 n₃, getD-set-other _ (b + 2) j v₂ 0 n₂, getD-set-other _ (b + 1) j v₁ 0 n₁, getD-set-other _ b j v₀ 0 n₀)
-
-  five-length : length five ≡ length t
-  five-length = simp length-set
-
-  -- each of the five is read back
-  module _ (fits : b + 4 < length t) where
-    five-0 : getD five b 0 ≡ v₀
-    five-0 = rw (getD-set-other _ (b + 4) b v₄ 0 (omega arith), getD-set-other _ (b + 3) b v₃ 0 (omega arith), getD-set-other _ (b + 2) b v₂ 0 (omega arith), getD-set-other _ (b + 1) b v₁ 0 (omega arith)) (getD-set-same t b v₀ 0 (omega arith))
-
-    five-1 : getD five (b + 1) 0 ≡ v₁
-    five-1 = rw (getD-set-other _ (b + 4) (b + 1) v₄ 0 (omega arith), getD-set-other _ (b + 3) (b + 1) v₃ 0 (omega arith), getD-set-other _ (b + 2) (b + 1) v₂ 0 (omega arith)) (getD-set-same (set t b v₀) (b + 1) v₁ 0 (simp length-set (omega arith)))
-
-    five-2 : getD five (b + 2) 0 ≡ v₂
-    five-2 = rw (getD-set-other _ (b + 4) (b + 2) v₄ 0 (omega arith), getD-set-other _ (b + 3) (b + 2) v₃ 0 (omega arith)) (getD-set-same (set (set t b v₀) (b + 1) v₁) (b + 2) v₂ 0 (simp length-set (omega arith)))
-
-    five-3 : getD five (b + 3) 0 ≡ v₃
-    five-3 = rw (getD-set-other _ (b + 4) (b + 3) v₄ 0 (omega arith)) (getD-set-same (set (set (set t b v₀) (b + 1) v₁) (b + 2) v₂) (b + 3) v₃ 0 (simp length-set (omega arith)))
-
-    five-4 : getD five (b + 4) 0 ≡ v₄
-    five-4 = getD-set-same (set (set (set (set t b v₀) (b + 1) v₁) (b + 2) v₂) (b + 3) v₃) (b + 4) v₄ 0 (simp length-set (omega arith))
-
 module _ (t : List ℕ) (s : ℕ) (r : Txn) where
   pub length-setTxn : length (setTxn t s r) ≡ length t
   unfolding setTxn
-  length-setTxn = simp length-set
+  length-setTxn = length-put (txnAt s) (txnWordsOf r) t 0
 
   -- a word that is not of row s
-  pub word-setTxn : (j : ℕ) → j ≢ txnAt s → j ≢ txnAt s + 1 → j ≢ txnAt s + 2 → j ≢ txnAt s + 3 → j ≢ txnAt s + 4 → getD (setTxn t s r) j 0 ≡ getD t j 0
+  pub outside-setTxn : (j : ℕ) → (j < txnAt s) ⊎ (txnAt s + txnRow ≤ j) → getD (setTxn t s r) j 0 ≡ getD t j 0
   unfolding setTxn
-  word-setTxn j n₀ n₁ n₂ n₃ n₄ = five-out t (txnAt s) (r .number) (r .kind) (r .start) (r .awaitedLock) (r .awaitedItem) j n₀ n₁ n₂ n₃ n₄
+  outside-setTxn j o = put-out (txnAt s) (txnWordsOf r) t 0 j (⊎-elim (λ h. inl (omega arith)) (λ h. inr (omega arith)) o)
+
+  pub word-setTxn : (j : ℕ) → j ≢ txnAt s → j ≢ txnAt s + 1 → j ≢ txnAt s + 2 → j ≢ txnAt s + 3 → j ≢ txnAt s + 4 → getD (setTxn t s r) j 0 ≡ getD t j 0
+  word-setTxn j n₀ n₁ n₂ n₃ n₄ = outside-setTxn j (⊎-elim (λ h. inl h) (λ h. inr (omega arith)) (below? j (txnAt s)))
 
   pub lastNumber-setTxn : lastNumber (setTxn t s r) ≡ lastNumber t
-  lastNumber-setTxn = word-setTxn 0 (omega arith) (omega arith) (omega arith) (omega arith) (omega arith)
+  lastNumber-setTxn = outside-setTxn _ (inl (omega arith))
 
   pub clock-setTxn : clock (setTxn t s r) ≡ clock t
-  clock-setTxn = word-setTxn 1 (omega arith) (omega arith) (omega arith) (omega arith) (omega arith)
+  clock-setTxn = outside-setTxn _ (inl (omega arith))
 
   pub txn-setTxn-other : (q : ℕ) → q ≢ s → txn (setTxn t s r) q ≡ txn t q
   unfolding txn
   txn-setTxn-other q d =
-      let e₀ = word-setTxn (txnAt q) (omega arith) (omega arith) (omega arith) (omega arith) (omega arith) in
-      let e₁ = word-setTxn (txnAt q + 1) (omega arith) (omega arith) (omega arith) (omega arith) (omega arith) in
-      let e₂ = word-setTxn (txnAt q + 2) (omega arith) (omega arith) (omega arith) (omega arith) (omega arith) in
-      let e₃ = word-setTxn (txnAt q + 3) (omega arith) (omega arith) (omega arith) (omega arith) (omega arith) in
-      let e₄ = word-setTxn (txnAt q + 4) (omega arith) (omega arith) (omega arith) (omega arith) (omega arith) in
-      λ i. record { number = e₀ i; kind = e₁ i; start = e₂ i; awaitedLock = e₃ i; awaitedItem = e₄ i }
+      ap txnIn
+      (words-same txnRow (txnAt q) (txnAt q) 0 (setTxn t s r) t
+      (λ i h. outside-setTxn (txnAt q + i) (⊎-elim (λ (l : q < s). inl (omega arith)) (λ (l : s ≤ q). inr (omega arith)) (below? q s))))
 
   pub txn-setTxn : (S : Sizes) → length t ≡ txnWords S → s < S .slots → txn (setTxn t s r) s ≡ r
   unfolding txn setTxn
-  txn-setTxn S e h =
-      let f : txnAt s + 4 < length t = omega arith in
-      λ i. record {
-        number = five-0 t (txnAt s) (r .number) (r .kind) (r .start) (r .awaitedLock) (r .awaitedItem) f i;
-        kind = five-1 t (txnAt s) (r .number) (r .kind) (r .start) (r .awaitedLock) (r .awaitedItem) f i;
-        start = five-2 t (txnAt s) (r .number) (r .kind) (r .start) (r .awaitedLock) (r .awaitedItem) f i;
-        awaitedLock = five-3 t (txnAt s) (r .number) (r .kind) (r .start) (r .awaitedLock) (r .awaitedItem) f i;
-        awaitedItem = five-4 t (txnAt s) (r .number) (r .kind) (r .start) (r .awaitedLock) (r .awaitedItem) f i;
-      }
+  txn-setTxn S e h = ap txnIn (words-put (txnAt s) (txnWordsOf r) t 0 (omega arith))
+
+-- a free row is zeros; the row of one that begins is a free row with three words written
+pub setTxn-none : (t : List ℕ) (s : ℕ) → setTxn t s noTxn ≡ putFrom t (txnAt s) 0 (replicate txnRow 0)
+unfolding setTxn
+setTxn-none t s = refl
+
+pub setTxn-new :
+    (t : List ℕ) (s n k q : ℕ)
+    → setTxn t s (newTxn n k q) ≡ set (set (set (setTxn t s noTxn) (txnAt s) n) (txnAt s + txnKindAt) k) (txnAt s + txnStartAt) q
+unfolding setTxn
+setTxn-new t s n k q =
+    put-set (txnAt s) (set (set free txnNumberAt n) txnKindAt k) t 0 txnStartAt q (omega arith)
+    ∙ ap (λ (u : List ℕ). set u (txnAt s + txnStartAt) q)
+    (put-set (txnAt s) (set free txnNumberAt n) t 0 txnKindAt k (omega arith)
+    ∙ ap (λ (u : List ℕ). set u (txnAt s + txnKindAt) k)
+    (put-set (txnAt s) free t 0 txnNumberAt n (omega arith)
+    ∙ ap (λ (j : ℕ). set (putFrom t (txnAt s) 0 free) j n) (add-zero (txnAt s))))
+  where
+    free : List ℕ
+    free = txnWordsOf noTxn
 
 -- the row with other awaited fields
 abbrev pub awaiting : Txn → ℕ → ℕ → Txn
-awaiting r k x = record { number = r .number; kind = r .kind; start = r .start; awaitedLock = k; awaitedItem = x }
+awaiting r k x = txnIn (set (set (txnWordsOf r) txnLockAt k) txnItemAt x)
 
 -- to write the awaited fields is to write the row with these fields
 pub setAwaited-row : (t : List ℕ) (s k x : ℕ) → setAwaited t s k x ≡ setTxn t s (awaiting (txn t s) k x)
 unfolding setAwaited setTxn txn
-setAwaited-row t s k x = rw (set-getD t (txnAt s) 0, set-getD t (txnAt s + 1) 0, set-getD t (txnAt s + 2) 0)
+setAwaited-row t s k x =
+    sym
+    (put-set (txnAt s) (set ws txnLockAt k) t 0 txnItemAt x (omega arith)
+    ∙ ap (λ (u : List ℕ). set u (txnAt s + txnItemAt) x)
+    (put-set (txnAt s) ws t 0 txnLockAt k (omega arith)
+    ∙ ap (λ (u : List ℕ). set u (txnAt s + txnLockAt) k) (put-words (txnAt s) txnRow t 0)))
+  where
+    ws : List ℕ
+    ws = wordsFrom t (txnAt s) 0 txnRow
 
 -- to write back what is there changes nothing
 pub setAwaited-same : (t : List ℕ) (s : ℕ) → setAwaited t s ((txn t s) .awaitedLock) ((txn t s) .awaitedItem) ≡ t
 unfolding setAwaited txn
-setAwaited-same t s = rw (set-getD t (txnAt s + 3) 0, set-getD t (txnAt s + 4) 0)
+setAwaited-same t s = rw (set-getD t (txnAt s + txnLockAt) 0, set-getD t (txnAt s + txnItemAt) 0)
 
 -- a word before the rows changes no row
-pub txn-top : (t : List ℕ) (j w q : ℕ) → j < 2 → txn (set t j w) q ≡ txn t q
+pub txn-top : (t : List ℕ) (j w q : ℕ) → j < txnHead → txn (set t j w) q ≡ txn t q
 unfolding txn
 txn-top t j w q h =
-    λ i.
-    record {
-      number = getD-set-other t j (txnAt q) w 0 (omega arith) i;
-      kind = getD-set-other t j (txnAt q + 1) w 0 (omega arith) i;
-      start = getD-set-other t j (txnAt q + 2) w 0 (omega arith) i;
-      awaitedLock = getD-set-other t j (txnAt q + 3) w 0 (omega arith) i;
-      awaitedItem = getD-set-other t j (txnAt q + 4) w 0 (omega arith) i;
-    }
+    ap txnIn (words-same txnRow (txnAt q) (txnAt q) 0 (set t j w) t (λ i _. getD-set-other t j (txnAt q + i) w 0 (omega arith)))
 
 -- past the rows there is nothing
 pub beyond : (S : Sizes) (t : List ℕ) → length t ≡ txnWords S → (a : ℕ) → S .slots ≤ a → (txn t a) .awaitedLock ≡ 0
@@ -117,44 +179,36 @@ module _ (l : List ℕ) (x : ℕ) (r : Lock) where
   pub lock-setLock-other : (y : ℕ) → y ≢ x → lock (setLock l x r) y ≡ lock l y
   unfolding lock setLock
   lock-setLock-other y d =
-      let e₀ : getD (setLock l x r) (3 * y) 0 ≡ getD l (3 * y) 0 = rw (getD-set-other _ (3 * x + 2) (3 * y) (r .working) 0 (omega arith), getD-set-other _ (3 * x + 1) (3 * y) (r .exclusive) 0 (omega arith), getD-set-other _ (3 * x) (3 * y) (r .shared) 0 (omega arith)) in
-      let e₁ : getD (setLock l x r) (3 * y + 1) 0 ≡ getD l (3 * y + 1) 0 = rw (getD-set-other _ (3 * x + 2) (3 * y + 1) (r .working) 0 (omega arith), getD-set-other _ (3 * x + 1) (3 * y + 1) (r .exclusive) 0 (omega arith), getD-set-other _ (3 * x) (3 * y + 1) (r .shared) 0 (omega arith)) in
-      let e₂ : getD (setLock l x r) (3 * y + 2) 0 ≡ getD l (3 * y + 2) 0 = rw (getD-set-other _ (3 * x + 2) (3 * y + 2) (r .working) 0 (omega arith), getD-set-other _ (3 * x + 1) (3 * y + 2) (r .exclusive) 0 (omega arith), getD-set-other _ (3 * x) (3 * y + 2) (r .shared) 0 (omega arith)) in
-      λ i. record { shared = e₀ i; exclusive = e₁ i; working = e₂ i }
+      ap lockIn
+      (words-same lockRow (lockRow * y) (lockRow * y) 0 (setLock l x r) l
+      (λ i h.
+      put-out (lockRow * x) (lockWordsOf r) l 0 (lockRow * y + i)
+      (⊎-elim (λ (k : y < x). inl (omega arith)) (λ (k : x ≤ y). inr (omega arith)) (below? y x))))
 
   pub lock-setLock : (S : Sizes) → length l ≡ lockWords S → x < S .items → lock (setLock l x r) x ≡ r
   unfolding lock setLock
-  lock-setLock S e h =
-      let e₀ : getD (setLock l x r) (3 * x) 0 ≡ r .shared = rw (getD-set-other _ (3 * x + 2) (3 * x) (r .working) 0 (omega arith), getD-set-other _ (3 * x + 1) (3 * x) (r .exclusive) 0 (omega arith)) (getD-set-same l (3 * x) (r .shared) 0 (omega arith)) in
-      let e₁ : getD (setLock l x r) (3 * x + 1) 0 ≡ r .exclusive = rw (getD-set-other _ (3 * x + 2) (3 * x + 1) (r .working) 0 (omega arith)) (getD-set-same (set l (3 * x) (r .shared)) (3 * x + 1) (r .exclusive) 0 (simp length-set (omega arith))) in
-      let e₂ : getD (setLock l x r) (3 * x + 2) 0 ≡ r .working = getD-set-same (set (set l (3 * x) (r .shared)) (3 * x + 1) (r .exclusive)) (3 * x + 2) (r .working) 0 (simp length-set (omega arith)) in
-      λ i. record { shared = e₀ i; exclusive = e₁ i; working = e₂ i }
+  lock-setLock S e h = ap lockIn (words-put (lockRow * x) (lockWordsOf r) l 0 (omega arith))
+
+pub length-setLock : (l : List ℕ) (x : ℕ) (h : Lock) → length (setLock l x h) ≡ length l
+unfolding setLock
+length-setLock l x h = length-put (lockRow * x) (lockWordsOf h) l 0
 
 -- ---- locks read off a row's words
-lock-row : (l : List ℕ) (x : ℕ) → lockIn (row 3 x l) ≡ lock l x
-unfolding lock lockIn
-lock-row l x = λ i. record { shared = (row-word 3 x 0 l (omega arith) ∙ ap (λ (m : ℕ). getD l m 0) (add-zero (3 * x))) i; exclusive = row-word 3 x 1 l (omega arith) i; working = row-word 3 x 2 l (omega arith) i }
-
-in-row : (r : Lock) → lockIn (lockWordsOf r) ≡ r
-unfolding lockIn lockWordsOf
-in-row r = refl
+lock-row : (l : List ℕ) (x : ℕ) → lockIn (row lockRow x l) ≡ lock l x
+unfolding lock
+lock-row l x =
+    ap lockIn
+    (words-same lockRow 0 (lockRow * x) 0 (row lockRow x l) l
+    (λ i h. ap (λ (j : ℕ). getD (row lockRow x l) j 0) (let e : 0 + i ≡ i = omega arith in e) ∙ row-word lockRow x i l (omega arith)))
 
 pub lock-release : (S : Sizes) (s : ℕ) (l : List ℕ) → length l ≡ lockWords S → (x : ℕ) → x < S .items → lock (release S s l) x ≡ released s (lock l x)
 unfolding release
 lock-release S s l e x h =
     sym (lock-row (release S s l) x)
-    ∙ ap lockIn (row-mapRows 3 (λ x r. lockWordsOf (released s (lockIn r))) (λ i r k. len (released s (lockIn r))) (S .items) 0 l (omega arith) x h)
-    ∙ in-row (released s (lockIn (row 3 x l)))
+    ∙ ap lockIn (row-mapRows lockRow (λ x r. lockWordsOf (released s (lockIn r))) (λ i r k. refl) (S .items) 0 l (omega arith) x h)
     ∙ ap (released s) (lock-row l x)
-  where
-    len : (r : Lock) → length (lockWordsOf r) ≡ 3
-    len r = unfold lockWordsOf in refl
-
-pub length-setLock : (l : List ℕ) (x : ℕ) (h : Lock) → length (setLock l x h) ≡ length l
-unfolding setLock
-length-setLock l x h = simp length-set
 
 pub length-release : (S : Sizes) (s : ℕ) (l : List ℕ) → length l ≡ lockWords S → length (release S s l) ≡ lockWords S
-unfolding release lockWordsOf
+unfolding release
 length-release S s l e =
-    length-mapRows 3 (λ x r. lockWordsOf (released s (lockIn r))) (λ x r k. refl) (S .items) 0 l (omega arith) ∙ e
+    length-mapRows lockRow (λ x r. lockWordsOf (released s (lockIn r))) (λ x r k. refl) (S .items) 0 l (omega arith) ∙ e

@@ -1,11 +1,14 @@
 -- Document 01, "Three lent tables of 64-bit words". A table is the list of its words; rows are read and written through
--- the records below, so that where a word stands is said here alone. Assumes nothing.
+-- the records below. Where a word stands in its row is said in names/specs/Layout.
 use Prim.Native.Nat.{ℕ, zero, suc, _+_, _*_}
 use mathlib.Core.Bool.{Bool, _&&_, _||_, not, cond}
 use mathlib.Core.List.{List, [], _∷_}
 use lib.ListN.{getD, set, drop, replicate}
 use lib.Dec.{eqb}
 use Rattle.names.specs.declared.Sizes.{Sizes}
+pub use Rattle.names.specs.Layout.{anUpdate, aQuery, noLock, sharedLock, exclusiveLock, lockRow}
+use Rattle.names.specs.Layout.{lastNumberAt, clockAt, txnHead, txnNumberAt, txnKindAt, txnStartAt, txnLockAt, txnItemAt, txnRow}
+use Rattle.names.specs.Layout.{lockSharedAt, lockExclusiveAt, lockWorkingAt, versionStampAt, versionPair}
 use Rattle.rules.specs.Words.{countBelow, firstFrom, mapRows, bit, withoutBit}
 
 pub record Tables : Type 0 where
@@ -16,15 +19,30 @@ pub record Tables : Type 0 where
 abbrev pub tables : List ℕ → List ℕ → List ℕ → Tables
 tables t l v = record { txns = t; locks = l; versions = v }
 
+-- ---- the words of a row that begins at b
+-- the place k words behind b
+abbrev pub behind : ℕ → ℕ → ℕ
+behind b zero = b
+behind b (suc k) = b + suc k
+
+-- n words from the k-th on, read as a list; words written there
+abbrev pub wordsFrom : List ℕ → ℕ → ℕ → ℕ → List ℕ
+wordsFrom l b k zero = []
+wordsFrom l b k (suc n) = getD l (behind b k) 0 ∷ wordsFrom l b (suc k) n
+
+abbrev pub putFrom : List ℕ → ℕ → ℕ → List ℕ → List ℕ
+putFrom l b k [] = l
+putFrom l b k (w ∷ ws) = putFrom (set l (behind b k) w) b (suc k) ws
+
 -- ---- "Transactions, 82 words: last number given; clock (stamp of the latest update commit); then 16 rows of 5"
 abbrev pub lastNumber : List ℕ → ℕ
-lastNumber t = getD t 0 0
+lastNumber t = getD t lastNumberAt 0
 
 abbrev pub clock : List ℕ → ℕ
-clock t = getD t 1 0
+clock t = getD t clockAt 0
 
 abbrev pub txnAt : ℕ → ℕ
-txnAt s = 2 + 5 * s
+txnAt s = txnHead + txnRow * s
 
 abbrev pub txnWords : Sizes → ℕ
 txnWords S = txnAt (S .slots)
@@ -38,49 +56,37 @@ pub record Txn : Type 0 where
   pub awaitedLock : ℕ
   pub awaitedItem : ℕ
 
-abbrev pub anUpdate : ℕ
-anUpdate = 0
+-- the words of a row as a transaction, and back
+abbrev pub txnIn : List ℕ → Txn
+txnIn ws =
+    record {
+      number = getD ws txnNumberAt 0;
+      kind = getD ws txnKindAt 0;
+      start = getD ws txnStartAt 0;
+      awaitedLock = getD ws txnLockAt 0;
+      awaitedItem = getD ws txnItemAt 0;
+    }
 
-abbrev pub aQuery : ℕ
-aQuery = 1
-
-abbrev pub noLock : ℕ
-noLock = 0
-
-abbrev pub sharedLock : ℕ
-sharedLock = 1
-
-abbrev pub exclusiveLock : ℕ
-exclusiveLock = 2
+abbrev pub txnWordsOf : Txn → List ℕ
+txnWordsOf r = r .number ∷ r .kind ∷ r .start ∷ r .awaitedLock ∷ r .awaitedItem ∷ []
 
 -- the row of slot s, read and written
 unfoldable pub txn : List ℕ → ℕ → Txn
-txn t s =
-    record {
-      number = getD t (txnAt s) 0;
-      kind = getD t (txnAt s + 1) 0;
-      start = getD t (txnAt s + 2) 0;
-      awaitedLock = getD t (txnAt s + 3) 0;
-      awaitedItem = getD t (txnAt s + 4) 0;
-    }
+txn t s = txnIn (wordsFrom t (txnAt s) 0 txnRow)
 
 unfoldable pub setTxn : List ℕ → ℕ → Txn → List ℕ
-setTxn t s r =
-    set
-    (set
-    (set (set (set t (txnAt s) (r .number)) (txnAt s + 1) (r .kind)) (txnAt s + 2) (r .start))
-    (txnAt s + 3)
-    (r .awaitedLock))
-    (txnAt s + 4)
-    (r .awaitedItem)
+setTxn t s r = putFrom t (txnAt s) 0 (txnWordsOf r)
 
 -- the awaited fields alone
 unfoldable pub setAwaited : List ℕ → ℕ → ℕ → ℕ → List ℕ
-setAwaited t s k x = set (set t (txnAt s + 3) k) (txnAt s + 4) x
+setAwaited t s k x = set (set t (txnAt s + txnLockAt) k) (txnAt s + txnItemAt) x
 
--- a free row
+-- a free row, and the row of one that begins: its number, its kind and its start
 abbrev pub noTxn : Txn
 noTxn = record { number = 0; kind = 0; start = 0; awaitedLock = 0; awaitedItem = 0 }
+
+abbrev pub newTxn : ℕ → ℕ → ℕ → Txn
+newTxn n k q = record { number = n; kind = k; start = q; awaitedLock = noLock; awaitedItem = 0 }
 
 unfoldable pub live : Txn → Bool
 live r = not (eqb (r .number) 0)
@@ -116,24 +122,22 @@ pub record Lock : Type 0 where
   pub exclusive : ℕ
   pub working : ℕ
 
-abbrev pub lockRow : ℕ
-lockRow = 3
-
 abbrev pub lockWords : Sizes → ℕ
 lockWords S = lockRow * S .items
 
+-- the words of a row as a lock, and back
+abbrev pub lockIn : List ℕ → Lock
+lockIn r = record { shared = getD r lockSharedAt 0; exclusive = getD r lockExclusiveAt 0; working = getD r lockWorkingAt 0 }
+
+abbrev pub lockWordsOf : Lock → List ℕ
+lockWordsOf h = h .shared ∷ h .exclusive ∷ h .working ∷ []
+
 -- the row of item x, read and written
 unfoldable pub lock : List ℕ → ℕ → Lock
-lock l x =
-    record {
-      shared = getD l (lockRow * x) 0;
-      exclusive = getD l (lockRow * x + 1) 0;
-      working = getD l (lockRow * x + 2) 0;
-    }
+lock l x = lockIn (wordsFrom l (lockRow * x) 0 lockRow)
 
 unfoldable pub setLock : List ℕ → ℕ → Lock → List ℕ
-setLock l x h =
-    set (set (set l (lockRow * x) (h .shared)) (lockRow * x + 1) (h .exclusive)) (lockRow * x + 2) (h .working)
+setLock l x h = putFrom l (lockRow * x) 0 (lockWordsOf h)
 
 unfoldable pub holdsShared : Lock → ℕ → Bool
 holdsShared h s = bit (h .shared) s
@@ -148,13 +152,6 @@ holds h s = holdsShared h s || holdsExclusive h s
 unfoldable pub exclusivesOf : Sizes → List ℕ → ℕ → ℕ
 exclusivesOf S l s = countBelow (S .items) (λ x. holdsExclusive (lock l x) s)
 
--- the words of a row as a lock, and back
-unfoldable pub lockIn : List ℕ → Lock
-lockIn r = record { shared = getD r 0 0; exclusive = getD r 1 0; working = getD r 2 0 }
-
-unfoldable pub lockWordsOf : Lock → List ℕ
-lockWordsOf h = h .shared ∷ h .exclusive ∷ h .working ∷ []
-
 -- a lock without the slot s: "Its locks, working values .. go"
 unfoldable pub released : ℕ → Lock → Lock
 released s h =
@@ -167,7 +164,7 @@ release S s l = mapRows (S .items) lockRow (λ x r. lockWordsOf (released s (loc
 
 -- ---- "Versions, 2,112 words: 64 rows of 33: a count, then 16 pairs of stamp and value, newest first, unused pairs zero."
 abbrev pub versionRow : Sizes → ℕ
-versionRow S = 1 + 2 * S .places
+versionRow S = versionStampAt + versionPair * S .places
 
 abbrev pub versionWords : Sizes → ℕ
 versionWords S = versionRow S * S .items

@@ -1,4 +1,4 @@
--- A call's reply and the tables after it; a chunk's lines one by one. Assumes nothing.
+-- A call's reply and the tables after it; a chunk's lines one by one.
 use Prim.Native.Nat.{ℕ, _-_, _≤_, _<_}
 use mathlib.Core.Path.{_≡_, refl, sym, ap}
 use mathlib.Core.Bool.{true, false}
@@ -8,15 +8,16 @@ use borrow.Author.Tests.{lt-ltb, le-ltb}
 use Rattle.names.specs.declared.Answer.{Answer}
 use Rattle.names.specs.Sizes.{base}
 use Rattle.rules.specs.Tables.{Tables, tables}
+use Rattle.rules.specs.Answers as rules
 use Rattle.rules.specs.Answers.{Outcome, outcome}
 use Rattle.rules.specs.Step.{step}
-use Rattle.script.specs.Parse.{callOf}
-use Rattle.script.specs.Print.{answerLine, badLine, Wrote}
-use Rattle.script.specs.Lines.{Held, short, readAs, heldBy, Goes}
-use Rattle.script.specs.declared.calls.Command.{Command}
+use Rattle.numerals.specs.Print.{answerLine, badLine}
+use Rattle.texts.specs.Written.{Wrote}
+use Rattle.lines.specs.Lines.{Held, short, heldBy, Goes}
+use Rattle.script.specs.Inputs.{readAs}
 use Rattle.script.specs.declared.calls.Parsed.{Parsed}
 use Rattle.script.specs.declared.calls.Parsed.the-variants.{Call, Bad}
-use Rattle.script.specs.declared.input.Next.{Next}
+use Rattle.lines.specs.declared.Next.{Next}
 use Rattle.script.proofs.Turns.{readsFrom, line-reads, end-reads, none-reads}
 use Rattle.runner.specs.Replies.{replyTo, afterLine, afterAll, place}
 
@@ -26,11 +27,11 @@ pub wrote-as : {l m text text′ : List ℕ} {at end : ℕ} → text ≡ text′
 wrote-as e w = rw e at w
 
 -- a line that is a call
-pub call-reply : {p : Parsed} (m : Command) (a : Answer) (t l v : List ℕ) (G : Tables) → p ≡ Call m → outcome a t l v ≡ step base (callOf m) G → answerLine a ≡ replyTo p G
+pub call-reply : {p : Parsed} (m : rules.Call) (a : Answer) (t l v : List ℕ) (G : Tables) → p ≡ Call m → outcome a t l v ≡ step base m G → answerLine a ≡ replyTo p G
 unfolding replyTo
 call-reply m a t l v G q e = rw q (ap (λ (o : Outcome). answerLine (o .answer)) e)
 
-pub call-after : {p : Parsed} (m : Command) (a : Answer) (t l v : List ℕ) (G : Tables) → p ≡ Call m → outcome a t l v ≡ step base (callOf m) G → tables t l v ≡ afterLine p G
+pub call-after : {p : Parsed} (m : rules.Call) (a : Answer) (t l v : List ℕ) (G : Tables) → p ≡ Call m → outcome a t l v ≡ step base m G → tables t l v ≡ afterLine p G
 unfolding afterLine
 call-after m a t l v G q e = rw q (ap (λ (o : Outcome). o .after) e)
 

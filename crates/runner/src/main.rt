@@ -1,38 +1,26 @@
 // The script runner: reads calls from standard input, one a line, and answers each on a line of
 // standard output, from fresh tables on.
 //
-// It is thin: the lines, their calls and the printed answers are those of `script`, the answers
-// those of `keeper`. Input is read and output written in large pieces.
+// It is thin: the lines are those of `lines`, their calls those of `script`, the answers those of
+// `keeper`, printed by `numerals`. Input is read and output written in large pieces.
 use libc::STDIN_FILENO;
 use libc::STDOUT_FILENO;
-use names::Answer;
+use lines::Lines;
 use names::LOCK_WORDS;
 use names::TXN_WORDS;
 use names::VERSION_WORDS;
-use script::Command;
-use script::Lines;
 use script::Parsed;
 ghost use mathlib.Core.Path.{_≡_};
 ghost use Prim.Native.Nat.{_+_, _≤_};
 ghost use lib.ListN.{length};
-ghost use Rattle.names.specs.Sizes.{base};
 ghost use Rattle.rules.specs.Tables.{tables};
-ghost use Rattle.rules.specs.Answers.{outcome};
-ghost use Rattle.rules.specs.Step.{step};
-ghost use Rattle.script.specs.Parse.{callOf};
-ghost use Rattle.script.specs.Print.{Wrote};
-ghost use Rattle.script.specs.Lines.{readAs, heldBy, reads, left};
+ghost use Rattle.texts.specs.Written.{Wrote};
+ghost use Rattle.lines.specs.Lines.{heldBy, left};
+ghost use Rattle.script.specs.Inputs.{readAs, reads};
 ghost use Rattle.runner.specs.Replies.{replyTo, afterLine, afterAll, place};
 
 // The longest answer: four numbers of 20 digits, each with a byte behind it.
 const ANSWER: usize = 84;
-
-// The call of a line, made.
-fn call(command: Command, txns: &mut [u64], locks: &mut [u64], versions: &mut [u64]) -> Answer
-    ensures { λ r. ⌜ outcome r (now (txns .exit)) (now (locks .exit)) (now (versions .exit)) ≡ step base (callOf command) (tables (now (txns .entry)) (now (locks .entry)) (now (versions .entry))) ⌝ }
-{
-    calls::make(script::fields(command), txns, locks, versions)
-}
 
 // A line's answer, written behind `used` bytes of the output; how many are used then.
 fn respond(
@@ -48,11 +36,11 @@ fn respond(
     ensures { λ r. ⌜ Wrote (now (out .entry)) used (replyTo parsed (tables (now (txns .entry)) (now (locks .entry)) (now (versions .entry)))) (now (out .exit)) r ⌝ }
     ensures { λ _. ⌜ tables (now (txns .exit)) (now (locks .exit)) (now (versions .exit)) ≡ afterLine parsed (tables (now (txns .entry)) (now (locks .entry)) (now (versions .entry))) ⌝ }
 {
-    let Parsed::Call(command) = parsed else {
-        return script::print_bad(out, used);
+    let Parsed::Call(call) = parsed else {
+        return numerals::print_bad(out, used);
     };
-    let answer = call(command, txns, locks, versions);
-    script::print(answer, out, used)
+    let answer = keeper::call(call, txns, locks, versions);
+    numerals::print(answer, out, used)
 }
 
 // Room for one more answer: what is used is written out where there is none.
@@ -83,7 +71,7 @@ fn answer_line(
     ensures { λ _. ⌜ tables (now (txns .exit)) (now (locks .exit)) (now (versions .exit)) ≡ afterLine (readAs (heldBy lines)) (tables (now (txns .entry)) (now (locks .entry)) (now (versions .entry))) ⌝ }
 {
     let free = room(&out[..], used);
-    respond(lines.parsed(), txns, locks, versions, out, free)
+    respond(script::read_as(lines), txns, locks, versions, out, free)
 }
 
 // The lines that end in a chunk, answered; what is left of the last one.

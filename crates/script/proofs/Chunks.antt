@@ -1,4 +1,4 @@
--- However the input is cut into chunks, the lines read are those of the whole input. Assumes nothing.
+-- However the input is cut into chunks, the lines read are those of the whole input.
 use Prim.Native.Nat.{ℕ, _+_, _<_, _≤_}
 use mathlib.Core.Path.{_≡_, refl, sym, ap, ap₂, _∙_}
 use mathlib.Core.Bool.{Bool, true, false, cond}
@@ -8,7 +8,8 @@ use lib.Dec.{eqb, leb, ltb}
 use lib.ListN.{length, length-append}
 use borrow.Author.Tests.{le-leb, lt-leb, lt-ltb, le-ltb, leb-true, leb-false}
 use Rattle.script.specs.Parse.{parsed}
-use Rattle.script.specs.Lines.{Held, short, long, more, begun, readAs, gather, ends, unended, reads, left, last, chunked, joined, linesFrom, linesOf, parsedLines}
+use Rattle.lines.specs.Lines.{Held, short, long, more, begun, gather, ends, unended, left, joined, linesFrom, linesOf}
+use Rattle.script.specs.Inputs.{readAs, reads, last, chunked, parsedLines}
 use Rattle.script.specs.declared.calls.Parsed.{Parsed}
 
 -- ---- what is kept of a line is enough

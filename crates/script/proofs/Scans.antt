@@ -1,39 +1,15 @@
--- How the words and the numbers of a line are read by an index: what stands from it on. Assumes nothing.
-use Prim.Native.Nat.{ℕ, _+_, _-_, _*_, _<_, _≤_}
-use mathlib.Core.Path.{_≡_, refl}
-use mathlib.Core.Bool.{Bool, true, false, _&&_, false≢true}
-use mathlib.Core.List.{List, [], _∷_}
-use native.Mathlib.Numerals.{add-one}
-use lib.Dec.{leb}
-use lib.ListN.{length, getD, drop, drop-of-length-le}
-use lib.Seq.{drop-cons}
-use borrow.Author.Tests.{eq-eqb, ne-eqb, le-leb, lt-leb, leb-true}
+-- How the words of a line are read by an index: what stands from it on.
+use Prim.Native.Nat.{ℕ, _+_, _<_, _≤_}
+use mathlib.Core.Path.{_≡_}
+use mathlib.Core.Bool.{true, false}
+use mathlib.Core.List.{List, _∷_}
+use lib.ListN.{length, getD, drop}
+use borrow.Author.Tests.{eq-eqb, ne-eqb}
+use Rattle.rules.specs.Answers as rules
+use Rattle.texts.proofs.Places.{ended, opened}
 use Rattle.script.specs.Words.{starts}
-use Rattle.script.specs.Numbers.{upto, no, digit, digitsFrom, someDigits, number, greatest}
-use Rattle.script.specs.Parse.{bareOf}
-use Rattle.script.specs.declared.calls.Command.{Command}
+use Rattle.script.specs.Parse.{bareOf, Spelled, firstOf}
 use Rattle.script.specs.declared.calls.Parsed.the-variants.{Call, Bad}
-
-pub and-left : (a b : Bool) → (a && b) ≡ true → a ≡ true
-and-left true b e = refl
-and-left false b e = e
-
-pub and-right : (a b : Bool) → (a && b) ≡ true → b ≡ true
-and-right true b e = e
-and-right false b e = absurd (false≢true e)
-
--- past the end nothing is left; before it, the byte and what follows
-pub ended : (l : List ℕ) (k : ℕ) → length l ≤ k → drop k l ≡ []
-ended l k h = drop-of-length-le l h
-
-pub opened : (l : List ℕ) (k : ℕ) → k < length l → drop k l ≡ getD l k 0 ∷ drop (k + 1) l
-opened l k h = rw (add-one k) (drop-cons l k 0 h)
-
-pub digit-low : (b : ℕ) → digit b ≡ true → 48 ≤ b
-digit-low b e = leb-true 48 b (and-left (leb 48 b) (leb b 57) e)
-
-pub digit-high : (b : ℕ) → digit b ≡ true → b ≤ 57
-digit-high b e = leb-true b 57 (and-right (leb 48 b) (leb b 57) e)
 
 module _ (ws bs : List ℕ) (k : ℕ) where
   pub starts-end : length ws ≤ k → starts (drop k ws) (drop k bs) ≡ true
@@ -52,48 +28,22 @@ module _ (ws bs : List ℕ) (k : ℕ) where
   unfolding starts
   starts-more h s e = rw (opened ws k h, opened bs k s, eq-eqb (getD bs k 0) (getD ws k 0) e)
 
-module _ (l : List ℕ) (k v : ℕ) where
-  pub digits-end : length l ≤ k → digitsFrom v (drop k l) ≡ upto v (drop k l)
-  unfolding digitsFrom
-  digits-end h = rw (ended l k h)
-
-  pub digits-stop : k < length l → digit (getD l k 0) ≡ false → digitsFrom v (drop k l) ≡ upto v (drop k l)
-  unfolding digitsFrom
-  digits-stop h e = rw (opened l k h, e)
-
-  pub digits-large : k < length l → digit (getD l k 0) ≡ true → greatest < v * 10 + (getD l k 0 - 48) → digitsFrom v (drop k l) ≡ no
-  unfolding digitsFrom
-  digits-large h e g = rw (opened l k h, e, lt-leb (v * 10 + (getD l k 0 - 48)) greatest g)
-
-  pub digits-more : k < length l → digit (getD l k 0) ≡ true → v * 10 + (getD l k 0 - 48) ≤ greatest → digitsFrom v (drop k l) ≡ digitsFrom (v * 10 + (getD l k 0 - 48)) (drop (k + 1) l)
-  unfolding digitsFrom
-  digits-more h e g = rw (opened l k h, e, le-leb (v * 10 + (getD l k 0 - 48)) greatest g)
-
 module _ (l : List ℕ) (k : ℕ) where
-  pub number-end : length l ≤ k → number (drop k l) ≡ no
-  unfolding number
-  number-end h = rw (ended l k h)
-
-  pub number-other : k < length l → (getD l k 0 ≡ 32 → ⊥) → number (drop k l) ≡ no
-  unfolding number
-  number-other h d = rw (opened l k h, ne-eqb (getD l k 0) 32 d)
-
-  pub number-none : k < length l → getD l k 0 ≡ 32 → length l ≤ k + 1 → number (drop k l) ≡ no
-  unfolding number someDigits
-  number-none h e s = rw (opened l k h, eq-eqb (getD l k 0) 32 e, ended l (k + 1) s)
-
-  pub number-no-digit : k < length l → getD l k 0 ≡ 32 → k + 1 < length l → digit (getD l (k + 1) 0) ≡ false → number (drop k l) ≡ no
-  unfolding number someDigits
-  number-no-digit h e s d = rw (opened l k h, eq-eqb (getD l k 0) 32 e, opened l (k + 1) s, d)
-
-  pub number-some : k < length l → getD l k 0 ≡ 32 → k + 1 < length l → digit (getD l (k + 1) 0) ≡ true → number (drop k l) ≡ digitsFrom 0 (drop (k + 1) l)
-  unfolding number someDigits
-  number-some h e s d = rw (opened l k h, eq-eqb (getD l k 0) 32 e, opened l (k + 1) s, d)
-
-  pub bare-end : (c : Command) → length l ≤ k → Call c ≡ bareOf c (drop k l)
+  pub bare-end : (c : rules.Call) → length l ≤ k → Call c ≡ bareOf c (drop k l)
   unfolding bareOf
   bare-end c h = rw (ended l k h)
 
-  pub bare-more : (c : Command) → k < length l → Bad ≡ bareOf c (drop k l)
+  pub bare-more : (c : rules.Call) → k < length l → Bad ≡ bareOf c (drop k l)
   unfolding bareOf
   bare-more c h = rw (opened l k h)
+
+-- ---- word by word
+
+module _ (w : Spelled) (ws : List Spelled) (l : List ℕ) where
+  pub first-taken : starts (w .word) l ≡ true → firstOf (w ∷ ws) l ≡ w .rest (drop (length (w .word)) l)
+  unfolding firstOf
+  first-taken h = rw h
+
+  pub first-passed : starts (w .word) l ≡ false → firstOf (w ∷ ws) l ≡ firstOf ws l
+  unfolding firstOf
+  first-passed h = rw h

@@ -1,13 +1,14 @@
--- A chunk from an index on, a line at a turn: what its lines are read as, and what is kept at its end. Assumes nothing.
+-- A chunk from an index on, a line at a turn: what its lines are read as, and what is kept at its end.
 use Prim.Native.Nat.{ℕ, _≤_}
 use mathlib.Core.Path.{_≡_, refl, sym, _∙_}
 use mathlib.Core.Bool.{true, false}
 use mathlib.Core.List.{List, [], _∷_}
 use native.Mathlib.Omega.{arith}
 use lib.ListN.{length, drop, drop-of-length-le}
-use Rattle.script.specs.Lines.{Held, short, readAs, heldBy, gather, ends, unended, foundBy, Goes, reads, left}
+use Rattle.lines.specs.Lines.{Held, short, heldBy, gather, ends, unended, foundBy, Goes, left}
+use Rattle.script.specs.Inputs.{readAs, reads}
 use Rattle.script.specs.declared.calls.Parsed.{Parsed}
-use Rattle.script.specs.declared.input.Next.{Next}
+use Rattle.lines.specs.declared.Next.{Next}
 use Rattle.script.proofs.Chunks.{gather-reads, gather-left}
 
 abbrev pub leftFrom : Held → List ℕ → ℕ → Held

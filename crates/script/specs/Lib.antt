@@ -1,7 +1,5 @@
--- What the script runner's lines say, how answers are printed, and how input is cut into lines.
+-- What the lines of a script say, and what they are read as.
 pub mod Words
-pub mod Numbers
 pub mod Says
 pub mod Parse
-pub mod Print
-pub mod Lines
+pub mod Inputs

@@ -1,37 +1,18 @@
--- What a line is read as. Assumes nothing.
+-- What a line is read as: `parsed`.
 use Prim.Native.Nat.{ℕ}
 use mathlib.Core.Bool.{cond}
 use mathlib.Core.List.{List, [], _∷_}
 use lib.Dec.{leb}
 use lib.ListN.{length, drop}
 use Rattle.rules.specs.Answers as rules
+use Rattle.numerals.specs.Numbers.{Read, upto, no, number}
 use Rattle.script.specs.Words.{starts}
 use Rattle.script.specs.Words as words
-use Rattle.script.specs.Numbers.{Read, upto, no, number}
-use Rattle.script.specs.declared.calls.Command.{Command}
-use Rattle.script.specs.declared.calls.Command.the-variants.{Update, Query, Read as Reads, Write, Commit, Abort}
 use Rattle.script.specs.declared.calls.Parsed.{Parsed}
 use Rattle.script.specs.declared.calls.Parsed.the-variants.{Call, Bad}
 
--- the rules' call that a command is, and back
-abbrev pub callOf : Command → rules.Call
-callOf Update = rules.beginUpdate
-callOf Query = rules.beginQuery
-callOf (Reads n x) = rules.read n x
-callOf (Write n x v) = rules.write n x v
-callOf (Commit n) = rules.commit n
-callOf (Abort n) = rules.abort n
-
-abbrev pub commandOf : rules.Call → Command
-commandOf rules.beginUpdate = Update
-commandOf rules.beginQuery = Query
-commandOf (rules.read n x) = Reads n x
-commandOf (rules.write n x v) = Write n x v
-commandOf (rules.commit n) = Commit n
-commandOf (rules.abort n) = Abort n
-
 -- nothing may follow
-unfoldable pub bareOf : Command → List ℕ → Parsed
+unfoldable pub bareOf : rules.Call → List ℕ → Parsed
 bareOf c [] = Call c
 bareOf c (b ∷ bs) = Bad
 
@@ -40,28 +21,39 @@ abbrev pub andThen : Read → (ℕ → List ℕ → Parsed) → Parsed
 andThen (upto n rest) f = f n rest
 andThen no f = Bad
 
-unfoldable pub commitOf : List ℕ → Parsed
-commitOf bs = andThen (number bs) (λ n end. bareOf (Commit n) end)
+-- one number, two, three, and nothing more
+unfoldable pub oneOf : (ℕ → rules.Call) → List ℕ → Parsed
+oneOf c bs = andThen (number bs) (λ n end. bareOf (c n) end)
 
-unfoldable pub abortOf : List ℕ → Parsed
-abortOf bs = andThen (number bs) (λ n end. bareOf (Abort n) end)
+unfoldable pub twoOf : (ℕ → ℕ → rules.Call) → List ℕ → Parsed
+twoOf c bs = andThen (number bs) (λ n rest. oneOf (c n) rest)
 
-unfoldable pub readOf : List ℕ → Parsed
-readOf bs = andThen (number bs) (λ n cs. andThen (number cs) (λ x end. bareOf (Reads n x) end))
+unfoldable pub threeOf : (ℕ → ℕ → ℕ → rules.Call) → List ℕ → Parsed
+threeOf c bs = andThen (number bs) (λ n rest. twoOf (c n) rest)
 
-unfoldable pub writeOf : List ℕ → Parsed
-writeOf bs =
-    andThen (number bs) (λ n cs. andThen (number cs) (λ x ds. andThen (number ds) (λ v end. bareOf (Write n x v) end)))
+-- a word, and how what follows it is read
+pub record Spelled : Type 0 where
+  pub word : List ℕ
+  pub rest : List ℕ → Parsed
 
 -- the six words, each with its numbers
+abbrev pub spelled : List Spelled
+spelled =
+    record { word = words.update; rest = bareOf rules.BeginUpdate }
+    ∷ record { word = words.query; rest = bareOf rules.BeginQuery }
+    ∷ record { word = words.read; rest = twoOf (λ n x. rules.Read n x) }
+    ∷ record { word = words.write; rest = threeOf (λ n x v. rules.Write n x v) }
+    ∷ record { word = words.commit; rest = oneOf (λ n. rules.Commit n) }
+    ∷ record { word = words.abort; rest = oneOf (λ n. rules.Abort n) }
+    ∷ []
+
+-- the first of them that the line starts with
+unfoldable pub firstOf : List Spelled → List ℕ → Parsed
+firstOf [] l = Bad
+firstOf (w ∷ ws) l = let next = firstOf ws l in cond (starts (w .word) l) (w .rest (drop (length (w .word)) l)) next
+
 unfoldable pub spoken : List ℕ → Parsed
-spoken l =
-    cond (starts words.update l) (bareOf Update (drop 6 l))
-    (cond (starts words.query l) (bareOf Query (drop 5 l))
-    (cond (starts words.read l) (readOf (drop 4 l))
-    (cond (starts words.write l) (writeOf (drop 5 l))
-    (cond (starts words.commit l) (commitOf (drop 6 l))
-    (cond (starts words.abort l) (abortOf (drop 5 l)) Bad)))))
+spoken l = firstOf spelled l
 
 -- "lines of at most 80 bytes"; a longer one is bad
 unfoldable pub parsed : List ℕ → Parsed

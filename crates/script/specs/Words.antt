@@ -1,4 +1,4 @@
--- The six words of the script, as bytes. Assumes nothing.
+-- The six words of the script, as bytes.
 use Prim.Native.Nat.{ℕ}
 use mathlib.Core.Bool.{Bool, true, false, _&&_}
 use mathlib.Core.List.{List, [], _∷_}

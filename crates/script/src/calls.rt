@@ -1,29 +1,30 @@
-// A line as a call.
-use crate::numbers::Taken;
-use crate::numbers::number;
+// A line as a call: its word, then as many numbers as the call has. Here a call goes by its kind.
 use crate::words::starts_with;
+use call_words::ABORT;
+use call_words::BEGIN_QUERY;
+use call_words::BEGIN_UPDATE;
+use call_words::COMMIT;
+use call_words::Fields;
+use call_words::READ;
+use call_words::WRITE;
+use call_words::call_in;
+use lines::LONGEST;
+use lines::Lines;
+use names::Call;
+use numerals::Taken;
+use numerals::number;
 ghost use mathlib.Core.Path.{_≡_};
 ghost use lib.ListN.{drop};
-ghost use Rattle.script.specs.Parse.{bareOf, readOf, writeOf, commitOf, abortOf, spoken, parsed};
-
-// A call with its numbers.
-pub enum Command {
-    Update,
-    Query,
-    Read(u64, u64),
-    Write(u64, u64, u64),
-    Commit(u64),
-    Abort(u64),
-}
+ghost use Rattle.lines.specs.Lines.{heldBy};
+ghost use Rattle.call_words.specs.Calls.{fields, callIn};
+ghost use Rattle.script.specs.Parse.{bareOf, oneOf, twoOf, threeOf, spoken, parsed};
+ghost use Rattle.script.specs.Inputs.{readAs};
 
 // What a line says.
 pub enum Parsed {
-    Call(Command),
+    Call(Call),
     Bad,
 }
-
-// The longest line that can be a call.
-pub(crate) const LONGEST: usize = 80;
 
 // The call that the line is. A line over 80 bytes is bad, whatever it says.
 pub fn parse(line: &[u8]) -> Parsed
@@ -36,43 +37,84 @@ pub fn parse(line: &[u8]) -> Parsed
     }
 }
 
-fn spoken(line: &[u8]) -> Parsed
-    ensures { λ r. ⌜ r ≡ spoken (now (line .entry)) ⌝ }
+// What a line is read as, once it is ended.
+pub fn read_as(line: Lines) -> Parsed
+    ensures { λ r. ⌜ r ≡ readAs (heldBy line) ⌝ }
 {
-    if starts_with(line, b"update") {
-        return bare(line, 6, Command::Update);
-    }
-    if starts_with(line, b"query") {
-        return bare(line, 5, Command::Query);
-    }
-    if starts_with(line, b"read") {
-        return read(line, 4);
-    }
-    if starts_with(line, b"write") {
-        return write(line, 5);
-    }
-    if starts_with(line, b"commit") {
-        return commit(line, 6);
-    }
-    if starts_with(line, b"abort") {
-        return abort(line, 5);
-    }
-    Parsed::Bad
-}
-
-// The command, where nothing stands from an index on.
-fn bare(line: &[u8], at: usize, command: Command) -> Parsed
-    ensures { λ r. ⌜ r ≡ bareOf command (drop at (now (line .entry))) ⌝ }
-{
-    if line.len() <= at {
-        Parsed::Call(command)
+    let count = line.count;
+    let bytes = line.bytes;
+    if count <= LONGEST {
+        parse(&bytes[..count])
     } else {
         Parsed::Bad
     }
 }
 
-fn read(line: &[u8], at: usize) -> Parsed
-    ensures { λ r. ⌜ r ≡ readOf (drop at (now (line .entry))) ⌝ }
+fn spoken(line: &[u8]) -> Parsed
+    ensures { λ r. ⌜ r ≡ spoken (now (line .entry)) ⌝ }
+{
+    if starts_with(line, b"update") {
+        return none(line, 6, BEGIN_UPDATE);
+    }
+    if starts_with(line, b"query") {
+        return none(line, 5, BEGIN_QUERY);
+    }
+    if starts_with(line, b"read") {
+        return two(line, 4, READ);
+    }
+    if starts_with(line, b"write") {
+        return three(line, 5, WRITE);
+    }
+    if starts_with(line, b"commit") {
+        return one(line, 6, COMMIT);
+    }
+    if starts_with(line, b"abort") {
+        return one(line, 5, ABORT);
+    }
+    Parsed::Bad
+}
+
+// The call, where nothing stands from an index on.
+fn bare(line: &[u8], at: usize, call: Call) -> Parsed
+    ensures { λ r. ⌜ r ≡ bareOf call (drop at (now (line .entry))) ⌝ }
+{
+    if line.len() <= at {
+        Parsed::Call(call)
+    } else {
+        Parsed::Bad
+    }
+}
+
+// The call of a kind with no numbers; with one, two or three.
+fn none(line: &[u8], at: usize, kind: u64) -> Parsed
+    ensures { λ r. ⌜ r ≡ bareOf (callIn (fields kind 0 0 0)) (drop at (now (line .entry))) ⌝ }
+{
+    let call = call_in(Fields {
+        kind,
+        number: 0,
+        item: 0,
+        value: 0,
+    });
+    bare(line, at, call)
+}
+
+fn one(line: &[u8], at: usize, kind: u64) -> Parsed
+    ensures { λ r. ⌜ r ≡ oneOf (λ n. callIn (fields kind n 0 0)) (drop at (now (line .entry))) ⌝ }
+{
+    let Taken::Upto(n, e) = number(line, at) else {
+        return Parsed::Bad;
+    };
+    let call = call_in(Fields {
+        kind,
+        number: n,
+        item: 0,
+        value: 0,
+    });
+    bare(line, e, call)
+}
+
+fn two(line: &[u8], at: usize, kind: u64) -> Parsed
+    ensures { λ r. ⌜ r ≡ twoOf (λ n x. callIn (fields kind n x 0)) (drop at (now (line .entry))) ⌝ }
 {
     let Taken::Upto(n, k) = number(line, at) else {
         return Parsed::Bad;
@@ -80,11 +122,17 @@ fn read(line: &[u8], at: usize) -> Parsed
     let Taken::Upto(item, e) = number(line, k) else {
         return Parsed::Bad;
     };
-    bare(line, e, Command::Read(n, item))
+    let call = call_in(Fields {
+        kind,
+        number: n,
+        item,
+        value: 0,
+    });
+    bare(line, e, call)
 }
 
-fn write(line: &[u8], at: usize) -> Parsed
-    ensures { λ r. ⌜ r ≡ writeOf (drop at (now (line .entry))) ⌝ }
+fn three(line: &[u8], at: usize, kind: u64) -> Parsed
+    ensures { λ r. ⌜ r ≡ threeOf (λ n x v. callIn (fields kind n x v)) (drop at (now (line .entry))) ⌝ }
 {
     let Taken::Upto(n, k) = number(line, at) else {
         return Parsed::Bad;
@@ -95,23 +143,11 @@ fn write(line: &[u8], at: usize) -> Parsed
     let Taken::Upto(value, e) = number(line, m) else {
         return Parsed::Bad;
     };
-    bare(line, e, Command::Write(n, item, value))
-}
-
-fn commit(line: &[u8], at: usize) -> Parsed
-    ensures { λ r. ⌜ r ≡ commitOf (drop at (now (line .entry))) ⌝ }
-{
-    let Taken::Upto(n, e) = number(line, at) else {
-        return Parsed::Bad;
-    };
-    bare(line, e, Command::Commit(n))
-}
-
-fn abort(line: &[u8], at: usize) -> Parsed
-    ensures { λ r. ⌜ r ≡ abortOf (drop at (now (line .entry))) ⌝ }
-{
-    let Taken::Upto(n, e) = number(line, at) else {
-        return Parsed::Bad;
-    };
-    bare(line, e, Command::Abort(n))
+    let call = call_in(Fields {
+        kind,
+        number: n,
+        item,
+        value,
+    });
+    bare(line, e, call)
 }

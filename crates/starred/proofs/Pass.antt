@@ -1,14 +1,14 @@
--- The starred trials pass. Assumes nothing.
+-- The starred trials pass.
 use mathlib.Core.Bool.{Bool}
 use mathlib.Core.List.{List}
 use lib.Dec.{T}
 use Rattle.rules.specs.Words.{implies, everyBelow, someBelow, countBelow, firstFrom, every, some, tabulateFrom, row, everyRow, mapRows, bit, withBit, withoutBit}
-use Rattle.rules.specs.Tables.{txn, setTxn, setAwaited, live, liveUpdate, liveQuery, slotOf, freeSlot, startsFrom, starts, lock, setLock, holdsShared, holdsExclusive, holds, exclusivesOf, lockIn, lockWordsOf, released, release, fresh}
+use Rattle.rules.specs.Tables.{txn, setTxn, setAwaited, live, liveUpdate, liveQuery, slotOf, freeSlot, startsFrom, starts, lock, setLock, holdsShared, holdsExclusive, holds, exclusivesOf, released, release, fresh}
 use Rattle.rules.specs.Versions.{pairs, versionsIn, versionsOf, pairWords, rowOf, stampAt, newest, place, choice, readBySome, keptFrom, kept, rewritten}
 use Rattle.rules.specs.Waits.{conflicts, blocks, blocked, waitsFor, marked, spread, rounds, reached, circleAt, noCircle}
 use Rattle.rules.specs.Tested.{sizesExact, topsMost, freeZero, listed, startGood, awaitedGood, awaiterGood, txnGood, distinct, holdersLive, lockGood, quotaMost, fullIdle, quotaGood, falls, lastOld, allRead, versionsGood, good}
 use Rattle.rules.specs.Locks.{heldBy, decide, anotherShares, anotherExcludes, decision}
-use Rattle.rules.specs.Step.{begun, begin, conflicted, cleared, locked, carriedOut, access, awaitsOther, writesFurther, queryRead, readBy, writeBy, withNew, committed, ended, commitBy, aborted, abortBy, act, step}
+use Rattle.rules.specs.Step.{begun, beginBy, conflicted, cleared, locked, cellDeed, access, awaitsOther, writesFurther, queryRead, readBy, writeBy, withNew, committed, ended, commitBy, aborted, abortBy, judged, done, act, step}
 use Rattle.rules.specs.Tables.{Tables}
 use Rattle.names.specs.Sizes.{base}
 use Rattle.starred.specs.Plays.{Line, answers, passes, AllPass, none, also}
@@ -17,7 +17,7 @@ use Rattle.starred.specs.Quotas.{writes, trialQ, trialR}
 
 -- a trial, as it is computed: whoever unfolds this computes with all the rules
 unfoldable computed : List Line → (Tables → Bool) → Tables → Bool
-unfolding passes answers implies everyBelow someBelow countBelow firstFrom every some tabulateFrom row everyRow mapRows bit withBit withoutBit txn setTxn setAwaited live liveUpdate liveQuery slotOf freeSlot startsFrom starts lock setLock holdsShared holdsExclusive holds exclusivesOf lockIn lockWordsOf released release fresh pairs versionsIn versionsOf pairWords rowOf stampAt newest place choice readBySome keptFrom kept rewritten conflicts blocks blocked waitsFor marked spread rounds reached circleAt noCircle sizesExact topsMost freeZero listed startGood awaitedGood awaiterGood txnGood distinct holdersLive lockGood quotaMost fullIdle quotaGood falls lastOld allRead versionsGood good heldBy decide anotherShares anotherExcludes decision begun begin conflicted cleared locked carriedOut access awaitsOther writesFurther queryRead readBy writeBy withNew committed ended commitBy aborted abortBy act step
+unfolding passes answers implies everyBelow someBelow countBelow firstFrom every some tabulateFrom row everyRow mapRows bit withBit withoutBit txn setTxn setAwaited live liveUpdate liveQuery slotOf freeSlot startsFrom starts lock setLock holdsShared holdsExclusive holds exclusivesOf released release fresh pairs versionsIn versionsOf pairWords rowOf stampAt newest place choice readBySome keptFrom kept rewritten conflicts blocks blocked waitsFor marked spread rounds reached circleAt noCircle sizesExact topsMost freeZero listed startGood awaitedGood awaiterGood txnGood distinct holdersLive lockGood quotaMost fullIdle quotaGood falls lastOld allRead versionsGood good heldBy decide anotherShares anotherExcludes decision begun beginBy conflicted cleared locked cellDeed access awaitsOther writesFurther queryRead readBy writeBy withNew committed ended commitBy aborted abortBy judged done act step
 computed ls end G = passes ls end G
 
 pass-A : T (passes trialA anyEnd (fresh base))

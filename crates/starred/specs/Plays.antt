@@ -1,4 +1,4 @@
--- What a trial is: a script of calls, each with the four numbers that it must be answered. Assumes nothing.
+-- What a trial is: a script of calls, each with the four numbers that it must be answered.
 use Prim.Native.Nat.{ℕ}
 use mathlib.Core.Bool.{Bool, _&&_}
 use mathlib.Core.List.{List, [], _∷_}

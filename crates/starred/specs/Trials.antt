@@ -1,4 +1,4 @@
--- Document 01, "Trials on both sides of each limit": the starred ones. T1, T2, .. are the transactions 1, 2, .. Assumes nothing.
+-- Document 01, "Trials on both sides of each limit": the starred ones. T1, T2, .. are the transactions 1, 2, ..
 use Prim.Native.Nat.{ℕ, zero, suc, _+_}
 use mathlib.Core.Bool.{Bool, true}
 use mathlib.Core.List.{List, [], _∷_, _++_}
@@ -6,94 +6,94 @@ use lib.ListN.{getD, set}
 use lib.Dec.{eqb}
 use Rattle.names.specs.Sizes.{base, lastWord}
 use Rattle.rules.specs.Tables.{Tables, tables, fresh, versionRow}
-use Rattle.rules.specs.Answers.{beginUpdate, beginQuery, read, write, commit, abort}
+use Rattle.rules.specs.Answers.{BeginUpdate, BeginQuery, Read, Write, Commit, Abort}
 use Rattle.starred.specs.Plays.{Line, _⇒_, Trial}
 use Rattle.starred.specs.Quotas.{trialQ, trialR}
 
 -- "A. The run above."
 unfoldable pub trialA : List Line
 trialA =
-    (beginUpdate ⇒ (0, 0, 1, 0))
-    ∷ (write 1 5 77 ⇒ (0, 0, 0, 0))
-    ∷ (beginQuery ⇒ (0, 0, 2, 0))
-    ∷ (read 2 5 ⇒ (0, 0, 0, 1))
-    ∷ (commit 1 ⇒ (0, 0, 1, 0))
-    ∷ (read 2 5 ⇒ (0, 0, 0, 2))
-    ∷ (commit 2 ⇒ (0, 0, 0, 0))
-    ∷ (read 2 5 ⇒ (3, 0, 0, 0))
+    (BeginUpdate ⇒ (0, 0, 1, 0))
+    ∷ (Write 1 5 77 ⇒ (0, 0, 0, 0))
+    ∷ (BeginQuery ⇒ (0, 0, 2, 0))
+    ∷ (Read 2 5 ⇒ (0, 0, 0, 1))
+    ∷ (Commit 1 ⇒ (0, 0, 1, 0))
+    ∷ (Read 2 5 ⇒ (0, 0, 0, 2))
+    ∷ (Commit 2 ⇒ (0, 0, 0, 0))
+    ∷ (Read 2 5 ⇒ (3, 0, 0, 0))
     ∷ []
 
 -- "B. Fresh, query, read item 63: granted, 0, looked 1; item 64: code 4."
 unfoldable pub trialB : List Line
-trialB = (beginQuery ⇒ (0, 0, 1, 0)) ∷ (read 1 63 ⇒ (0, 0, 0, 1)) ∷ (read 1 64 ⇒ (4, 0, 0, 0)) ∷ []
+trialB = (BeginQuery ⇒ (0, 0, 1, 0)) ∷ (Read 1 63 ⇒ (0, 0, 0, 1)) ∷ (Read 1 64 ⇒ (4, 0, 0, 0)) ∷ []
 
 -- "C. T1 writes x, T2 reads x: 1. T1 commits, T2 reads x: 0 with T1's value."
 unfoldable pub trialC : List Line
 trialC =
-    (beginUpdate ⇒ (0, 0, 1, 0))
-    ∷ (beginUpdate ⇒ (0, 0, 2, 0))
-    ∷ (write 1 7 42 ⇒ (0, 0, 0, 0))
-    ∷ (read 2 7 ⇒ (1, 0, 0, 0))
-    ∷ (commit 1 ⇒ (0, 0, 1, 0))
-    ∷ (read 2 7 ⇒ (0, 42, 0, 1))
+    (BeginUpdate ⇒ (0, 0, 1, 0))
+    ∷ (BeginUpdate ⇒ (0, 0, 2, 0))
+    ∷ (Write 1 7 42 ⇒ (0, 0, 0, 0))
+    ∷ (Read 2 7 ⇒ (1, 0, 0, 0))
+    ∷ (Commit 1 ⇒ (0, 0, 1, 0))
+    ∷ (Read 2 7 ⇒ (0, 42, 0, 1))
     ∷ []
 
 -- "D. T1 reads x, then writes x: granted."
 unfoldable pub trialD : List Line
-trialD = (beginUpdate ⇒ (0, 0, 1, 0)) ∷ (read 1 9 ⇒ (0, 0, 0, 1)) ∷ (write 1 9 5 ⇒ (0, 0, 0, 0)) ∷ []
+trialD = (BeginUpdate ⇒ (0, 0, 1, 0)) ∷ (Read 1 9 ⇒ (0, 0, 0, 1)) ∷ (Write 1 9 5 ⇒ (0, 0, 0, 0)) ∷ []
 
 -- "E. T1 and T2 read x. T1 writes x: 1. T2 writes x: 2. T2 aborts. T1 writes x: 0."
 unfoldable pub trialE : List Line
 trialE =
-    (beginUpdate ⇒ (0, 0, 1, 0))
-    ∷ (beginUpdate ⇒ (0, 0, 2, 0))
-    ∷ (read 1 3 ⇒ (0, 0, 0, 1))
-    ∷ (read 2 3 ⇒ (0, 0, 0, 1))
-    ∷ (write 1 3 8 ⇒ (1, 0, 0, 0))
-    ∷ (write 2 3 9 ⇒ (2, 0, 0, 0))
-    ∷ (abort 2 ⇒ (0, 0, 0, 0))
-    ∷ (write 1 3 8 ⇒ (0, 0, 0, 0))
+    (BeginUpdate ⇒ (0, 0, 1, 0))
+    ∷ (BeginUpdate ⇒ (0, 0, 2, 0))
+    ∷ (Read 1 3 ⇒ (0, 0, 0, 1))
+    ∷ (Read 2 3 ⇒ (0, 0, 0, 1))
+    ∷ (Write 1 3 8 ⇒ (1, 0, 0, 0))
+    ∷ (Write 2 3 9 ⇒ (2, 0, 0, 0))
+    ∷ (Abort 2 ⇒ (0, 0, 0, 0))
+    ∷ (Write 1 3 8 ⇒ (0, 0, 0, 0))
     ∷ []
 
 -- "F. T2 awaits x: its commit, its read of y and its other kind of call on x: 6."
 unfoldable pub trialF : List Line
 trialF =
-    (beginUpdate ⇒ (0, 0, 1, 0))
-    ∷ (beginUpdate ⇒ (0, 0, 2, 0))
-    ∷ (write 1 3 8 ⇒ (0, 0, 0, 0))
-    ∷ (read 2 3 ⇒ (1, 0, 0, 0))
-    ∷ (commit 2 ⇒ (6, 0, 0, 0))
-    ∷ (read 2 4 ⇒ (6, 0, 0, 0))
-    ∷ (write 2 3 1 ⇒ (6, 0, 0, 0))
+    (BeginUpdate ⇒ (0, 0, 1, 0))
+    ∷ (BeginUpdate ⇒ (0, 0, 2, 0))
+    ∷ (Write 1 3 8 ⇒ (0, 0, 0, 0))
+    ∷ (Read 2 3 ⇒ (1, 0, 0, 0))
+    ∷ (Commit 2 ⇒ (6, 0, 0, 0))
+    ∷ (Read 2 4 ⇒ (6, 0, 0, 0))
+    ∷ (Write 2 3 1 ⇒ (6, 0, 0, 0))
     ∷ []
 
 -- "G. 16 live: begin gives 7; one aborts; begin gives number 17."
 unfoldable pub begins : ℕ → ℕ → List Line
 begins n zero = []
-begins n (suc k) = (beginUpdate ⇒ (0, 0, n, 0)) ∷ begins (suc n) k
+begins n (suc k) = (BeginUpdate ⇒ (0, 0, n, 0)) ∷ begins (suc n) k
 
 unfoldable pub trialG : List Line
 trialG =
     begins 1 (base .slots)
-    ++ ((beginUpdate ⇒ (7, 0, 0, 0)) ∷ (abort 5 ⇒ (0, 0, 0, 0)) ∷ (beginUpdate ⇒ (0, 0, suc (base .slots), 0)) ∷ [])
+    ++ ((BeginUpdate ⇒ (7, 0, 0, 0)) ∷ (Abort 5 ⇒ (0, 0, 0, 0)) ∷ (BeginUpdate ⇒ (0, 0, suc (base .slots), 0)) ∷ [])
 
 -- "H. A query writes: 5; writes item 64: 4."
 unfoldable pub trialH : List Line
-trialH = (beginQuery ⇒ (0, 0, 1, 0)) ∷ (write 1 3 8 ⇒ (5, 0, 0, 0)) ∷ (write 1 64 8 ⇒ (4, 0, 0, 0)) ∷ []
+trialH = (BeginQuery ⇒ (0, 0, 1, 0)) ∷ (Write 1 3 8 ⇒ (5, 0, 0, 0)) ∷ (Write 1 64 8 ⇒ (4, 0, 0, 0)) ∷ []
 
 -- "I. A query at each stamp 0 to 14, an update writing item 0 after each: row 0 has count 16, and the first query looks at 16.":
 -- n queries and updates, the first number being n + 1, the clock c
 unfoldable pub turns : ℕ → ℕ → ℕ → List Line
 turns n c zero = []
 turns n c (suc k) =
-    (beginQuery ⇒ (0, 0, n + 1, 0))
-    ∷ (beginUpdate ⇒ (0, 0, n + 2, 0))
-    ∷ (write (n + 2) 0 (c + 100) ⇒ (0, 0, 0, 0))
-    ∷ (commit (n + 2) ⇒ (0, 0, c + 1, 0))
+    (BeginQuery ⇒ (0, 0, n + 1, 0))
+    ∷ (BeginUpdate ⇒ (0, 0, n + 2, 0))
+    ∷ (Write (n + 2) 0 (c + 100) ⇒ (0, 0, 0, 0))
+    ∷ (Commit (n + 2) ⇒ (0, 0, c + 1, 0))
     ∷ turns (n + 2) (c + 1) k
 
 unfoldable pub trialI : List Line
-trialI = turns 0 0 15 ++ ((read 1 0 ⇒ (0, 0, 0, 16)) ∷ [])
+trialI = turns 0 0 15 ++ ((Read 1 0 ⇒ (0, 0, 0, 16)) ∷ [])
 
 unfoldable pub fullRow : Tables → Bool
 fullRow G = eqb (getD (G .versions) 0 0) 16
@@ -101,11 +101,11 @@ fullRow G = eqb (getD (G .versions) 0 0) 16
 -- "J. Clock spent: update commit 9 and it lives on; query commit 0."
 unfoldable pub trialJ : List Line
 trialJ =
-    (beginUpdate ⇒ (0, 0, 1, 0))
-    ∷ (beginQuery ⇒ (0, 0, 2, 0))
-    ∷ (commit 1 ⇒ (9, 0, 0, 0))
-    ∷ (read 1 0 ⇒ (0, 0, 0, 1))
-    ∷ (commit 2 ⇒ (0, 0, 0, 0))
+    (BeginUpdate ⇒ (0, 0, 1, 0))
+    ∷ (BeginQuery ⇒ (0, 0, 2, 0))
+    ∷ (Commit 1 ⇒ (9, 0, 0, 0))
+    ∷ (Read 1 0 ⇒ (0, 0, 0, 1))
+    ∷ (Commit 2 ⇒ (0, 0, 0, 0))
     ∷ []
 
 unfoldable pub clockSpent : Tables
@@ -114,18 +114,18 @@ clockSpent = tables (set ((fresh base) .txns) 1 lastWord) ((fresh base) .locks) 
 -- "K. An aborted write is never read."
 unfoldable pub trialK : List Line
 trialK =
-    (beginUpdate ⇒ (0, 0, 1, 0))
-    ∷ (write 1 3 8 ⇒ (0, 0, 0, 0))
-    ∷ (abort 1 ⇒ (0, 0, 0, 0))
-    ∷ (beginUpdate ⇒ (0, 0, 2, 0))
-    ∷ (read 2 3 ⇒ (0, 0, 0, 1))
-    ∷ (beginQuery ⇒ (0, 0, 3, 0))
-    ∷ (read 3 3 ⇒ (0, 0, 0, 1))
+    (BeginUpdate ⇒ (0, 0, 1, 0))
+    ∷ (Write 1 3 8 ⇒ (0, 0, 0, 0))
+    ∷ (Abort 1 ⇒ (0, 0, 0, 0))
+    ∷ (BeginUpdate ⇒ (0, 0, 2, 0))
+    ∷ (Read 2 3 ⇒ (0, 0, 0, 1))
+    ∷ (BeginQuery ⇒ (0, 0, 3, 0))
+    ∷ (Read 3 3 ⇒ (0, 0, 0, 1))
     ∷ []
 
 -- "L. A version count of 0: code 10."
 unfoldable pub trialL : List Line
-trialL = (beginUpdate ⇒ (10, 0, 0, 0)) ∷ []
+trialL = (BeginUpdate ⇒ (10, 0, 0, 0)) ∷ []
 
 unfoldable pub uncounted : Tables
 uncounted = tables ((fresh base) .txns) ((fresh base) .locks) (set ((fresh base) .versions) (versionRow base) 0)

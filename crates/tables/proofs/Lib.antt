@@ -1,11 +1,3 @@
--- Laws of the parts of the test, and of the whole.
-pub mod Masks
-pub mod Seeing
-pub mod Holders
-pub mod Blocking
-pub mod Linking
-pub mod Counting
+-- Laws of the test of all tables.
 pub mod Reading
-pub mod Quotas
-pub mod Rounds
 pub mod Whole

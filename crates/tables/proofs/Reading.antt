@@ -1,4 +1,4 @@
--- What is known of the tables once the rows and the locks passed. Assumes nothing.
+-- What is known of the tables once the rows and the locks passed.
 use Prim.Native.Nat.{ℕ, suc, _<_}
 use mathlib.Core.Path.{_≡_, refl, sym, ap, subst}
 use mathlib.Core.Logic.{_≢_, _⊎_, inl, inr}
@@ -8,18 +8,18 @@ use lib.ListN.{length}
 use lib.Dec.{T, eqb, leb, eqb·zero-suc}
 use Rattle.names.specs.Sizes.{base}
 use Rattle.rules.specs.Words.{bit, implies}
-use Rattle.rules.specs.Tables.{tables, txnWords, lockWords, lastNumber, clock, Txn, txn, live, liveUpdate, anUpdate, aQuery, noLock, sharedLock, exclusiveLock}
+use Rattle.rules.specs.Tables.{txnWords, lockWords, lastNumber, clock, Txn, txn, live, liveUpdate, anUpdate, aQuery, noLock, sharedLock, exclusiveLock}
 use Rattle.rules.specs.Tables.{lock, holds, holdsShared, holdsExclusive}
-use Rattle.rules.specs.Good.{Good, GoodTxn, GoodLock}
+use Rattle.rules.specs.Good.{GoodTxn}
 use Rattle.rules.specs.Tested.{topsMost, freeZero, listed, startGood, awaitedGood, awaiterGood, txnGood, lockGood}
-use Rattle.rules.proofs.Tests.{and-left, and-right, and-both, or-cases, or-right, not-make, implies-make, ne-make, false-is}
-use Rattle.rules.proofs.Counts.{everyBelow→, →everyBelow}
+use Rattle.rules.proofs.Tests.{and-right, and-both, or-cases, or-right, not-make, implies-make, ne-make, false-is}
+use Rattle.rules.proofs.Counts.{everyBelow→}
 use Rattle.rules.proofs.Bits.{bit-none}
-use Rattle.rules.proofs.EqualRows.{txn→Good, Good→txn, lock→Good, Good→lock, free-or-live, live-update, live-query}
-use Rattle.tables.specs.Shape.{rowGood, rowsGood, waits, waitingIn}
-use Rattle.tables.specs.Holding.{locksGood}
-use Rattle.tables.specs.Waiting.{Readable, Awaiting, awaitersGood}
-use Rattle.tables.proofs.Masks.{slots-at, slots-lt}
+use Rattle.rules.proofs.EqualRows.{txn→Good, lock→Good, free-or-live, live-update, live-query}
+use Rattle.shapes.specs.Shape.{rowGood, rowsGood, waits, waitingIn}
+use Rattle.holdings.specs.Holding.{locksGood}
+use Rattle.waiting.specs.Waiting.{Readable, Awaiting}
+use Rattle.shapes.proofs.Masks.{slots-at, slots-lt}
 
 -- ---- the rules' test of a row, in two parts
 and-out : (a b c d e f : Bool) → (a && (b && (c && (d && (e && f))))) ≡ ((a && (b && (c && (d && e)))) && f)
@@ -93,42 +93,3 @@ module _ (t : List ℕ) (h : T (rowsGood base t)) where
         itemKnown = λ s i. row-at s i .itemKnown;
         inside = λ x i b a. lock→Good base t (lock l x) (everyBelow→ (base .items) (λ x. lockGood base t (lock l x)) k x i) .holders b a .0;
       }
-
--- good tables can be read
-pub good-readable : (t l v : List ℕ) → Good base (tables t l v) → Readable t l
-good-readable t l v g =
-    record {
-      txnsExact = g .txnsExact;
-      locksExact = g .locksExact;
-      lockListed = λ s i. g .txnGood s i .lockListed;
-      itemKnown = λ s i. g .txnGood s i .itemKnown;
-      inside = λ x i b a. g .lockGood x i .holders b a .0;
-    }
-
--- ---- the results of the parts are the clauses of Good
-pub rows→Good : (t l : List ℕ) → T (rowsGood base t) → T (awaitersGood base t l) → (s : ℕ) → s < base .slots → GoodTxn base t l s (txn t s)
-unfolding rowsGood awaitersGood
-rows→Good t l h a s i =
-    txn→Good base t l s (txn t s)
-    (subst T (sym (row-parts t l s (txn t s)))
-    (and-both (rowGood base t (txn t s)) _
-    (everyBelow→ (base .slots) (λ s. rowGood base t (txn t s)) (and-right (topsMost t) _ h) s i)
-    (everyBelow→ (base .slots) (λ s. awaiterGood s (txn t s) (lock l ((txn t s) .awaitedItem))) a s i)))
-
-pub Good→rows : (t l : List ℕ) → T (topsMost t) → ((s : ℕ) → s < base .slots → GoodTxn base t l s (txn t s)) → T (rowsGood base t) × T (awaitersGood base t l)
-unfolding rowsGood awaitersGood
-Good→rows t l h g = (
-  and-both (topsMost t) _ h (→everyBelow (base .slots) (λ s. rowGood base t (txn t s)) (λ s i. and-left (rowGood base t (txn t s)) _ (both s i))),
-  →everyBelow (base .slots) (λ s. awaiterGood s (txn t s) (lock l ((txn t s) .awaitedItem))) (λ s i. and-right (rowGood base t (txn t s)) _ (both s i)),
-)
-  where
-    both : (s : ℕ) → s < base .slots → T (rowGood base t (txn t s) && awaiterGood s (txn t s) (lock l ((txn t s) .awaitedItem)))
-    both s i = subst T (row-parts t l s (txn t s)) (Good→txn base t l s (txn t s) (g s i))
-
-pub locks→Good : (t l : List ℕ) → T (locksGood base t l) → (x : ℕ) → x < base .items → GoodLock base t (lock l x)
-unfolding locksGood
-locks→Good t l h x i = lock→Good base t (lock l x) (everyBelow→ (base .items) (λ x. lockGood base t (lock l x)) h x i)
-
-pub Good→locks : (t l : List ℕ) → ((x : ℕ) → x < base .items → GoodLock base t (lock l x)) → T (locksGood base t l)
-unfolding locksGood
-Good→locks t l g = →everyBelow (base .items) (λ x. lockGood base t (lock l x)) (λ x i. Good→lock base t (lock l x) (g x i))

@@ -1,4 +1,4 @@
--- The test of all tables, put together from what its parts say. Assumes nothing.
+-- The test of all tables, put together from what its parts say.
 use Prim.Native.Nat.{ℕ, _<_}
 use mathlib.Core.Path.{_≡_, sym, _∙_, subst}
 use mathlib.Core.Bool.{Bool, false, _&&_}
@@ -12,10 +12,10 @@ use Rattle.rules.specs.Waits.{noCircle}
 use Rattle.rules.specs.Tested.{good, sizesExact, topsMost, txnGood, awaiterGood, distinct, lockGood, quotaGood, versionsGood}
 use Rattle.rules.proofs.Tests.{and-left, and-right, and-both, is-false, eq-make}
 use Rattle.rules.proofs.Counts.{everyBelow→, →everyBelow}
-use Rattle.versions.proofs.Zeros.{iff-eq}
-use Rattle.tables.specs.Shape.{rowGood, rowsGood}
-use Rattle.tables.specs.Holding.{locksGood, quotasGood}
-use Rattle.tables.specs.Waiting.{awaitersGood}
+use Rattle.words.proofs.Turns.{iff-eq}
+use Rattle.shapes.specs.Shape.{rowGood, rowsGood}
+use Rattle.holdings.specs.Holding.{locksGood, quotasGood}
+use Rattle.waiting.specs.Waiting.{awaitersGood}
 use Rattle.tables.proofs.Reading.{row-parts}
 
 -- the test of the versions, as the rules make it

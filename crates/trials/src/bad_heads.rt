@@ -1,7 +1,7 @@
 // Every part of good that speaks of no row, broken alone: the sizes, the last number and the clock.
 use crate::play::play;
 use crate::set::OF_NO_ROW;
-use counting::Tally;
+use tally::Tally;
 
 // Beside a limit stands what is still good.
 pub fn heads(tally: Tally) -> Tally {

@@ -2,7 +2,7 @@
 // stands what is still good.
 use crate::play::play;
 use crate::set::OF_ITEMS;
-use counting::Tally;
+use tally::Tally;
 
 // Holders and working values.
 fn holders(row: u64, tally: Tally) -> Tally {

@@ -2,7 +2,7 @@
 // still good.
 use crate::play::play;
 use crate::set::OF_SLOTS;
-use counting::Tally;
+use tally::Tally;
 
 // Free rows, numbers, kinds and awaited locks.
 fn numbers(row: u64, tally: Tally) -> Tally {

@@ -4,18 +4,12 @@ use crate::say;
 use crate::set::OF_ITEMS;
 use crate::set::OF_SLOTS;
 use crate::set::Rows;
-use crate::state::ABORT;
-use crate::state::COMMIT;
-use crate::state::Call;
-use crate::state::QUERY;
-use crate::state::READ;
 use crate::state::Tables;
-use crate::state::UPDATE;
-use crate::state::WRITE;
-use counting::Score;
-use counting::Tally;
-use counting::equal;
 use names::Answer;
+use names::Call;
+use tally::Score;
+use tally::Tally;
+use tally::equal;
 
 const BAD_TABLES: u64 = 10;
 
@@ -27,13 +21,8 @@ const SOMEBODY: u64 = 11;
 const NOBODY: u64 = 0;
 
 // A call on the tables as they are.
-fn tried(tables: Tables, kind: u8, number: u64, code: u64, score: Score) -> Score {
-    let called = tables.call(Call {
-        kind,
-        number,
-        item: 0,
-        value: 1,
-    });
+fn tried(tables: Tables, call: Call, code: u64, score: Score) -> Score {
+    let called = tables.call(call);
     let wanted = Answer {
         code,
         value: 0,
@@ -47,10 +36,16 @@ fn tried(tables: Tables, kind: u8, number: u64, code: u64, score: Score) -> Scor
 }
 
 fn four(tables: Tables, number: u64, code: u64, score: Score) -> Score {
-    let mut s = tried(tables, READ, number, code, score);
-    s = tried(tables, WRITE, number, code, s);
-    s = tried(tables, COMMIT, number, code, s);
-    tried(tables, ABORT, number, code, s)
+    let read = Call::Read { number, item: 0 };
+    let write = Call::Write {
+        number,
+        item: 0,
+        value: 1,
+    };
+    let mut s = tried(tables, read, code, score);
+    s = tried(tables, write, code, s);
+    s = tried(tables, Call::Commit { number }, code, s);
+    tried(tables, Call::Abort { number }, code, s)
 }
 
 fn scored(tables: Tables, bad: bool) -> Score {
@@ -59,9 +54,9 @@ fn scored(tables: Tables, bad: bool) -> Score {
         changed: 0,
     };
     if bad {
-        let s = tried(tables, UPDATE, 0, BAD_TABLES, none);
-        let six = tried(tables, QUERY, 0, BAD_TABLES, s);
-        return four(tables, SOMEBODY, BAD_TABLES, six);
+        let s = tried(tables, Call::BeginUpdate, BAD_TABLES, none);
+        let begun = tried(tables, Call::BeginQuery, BAD_TABLES, s);
+        return four(tables, SOMEBODY, BAD_TABLES, begun);
     }
     four(tables, NOBODY, UNKNOWN_TRANSACTION, none)
 }

@@ -2,7 +2,7 @@
 // word 0 is the last number.
 use crate::play::TRIALS;
 use crate::play::play;
-use counting::Tally;
+use tally::Tally;
 
 // Numbers and sizes.
 pub fn m_and_n(tally: Tally) -> Tally {

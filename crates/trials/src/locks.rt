@@ -2,7 +2,7 @@
 // and y any two are taken; T1 and T2 are the transactions 1 and 2.
 use crate::play::TRIALS;
 use crate::play::play;
-use counting::Tally;
+use tally::Tally;
 
 // Reads, writes, and waits.
 pub fn a_to_e(tally: Tally) -> Tally {

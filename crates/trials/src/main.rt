@@ -8,6 +8,7 @@ mod bad_heads;
 mod bad_items;
 mod bad_slots;
 mod damage;
+mod letters;
 mod limits;
 mod line;
 mod locks;
@@ -20,7 +21,7 @@ mod stamps;
 mod state;
 mod steps;
 
-use counting::Tally;
+use tally::Tally;
 
 fn trials(tally: Tally) -> Tally {
     let mut t = locks::f_to_h(locks::a_to_e(tally));

@@ -11,6 +11,9 @@
 // and the lines of `set`, which try nothing. A line is written out as it is read, and its end is
 // what was found; of the sample and its changes nothing is written.
 use crate::damage::judge;
+use crate::letters::Meant;
+use crate::letters::is_call;
+use crate::letters::lettered;
 use crate::line::LINE_END;
 use crate::line::Line;
 use crate::sample::first_row;
@@ -18,19 +21,13 @@ use crate::sample::sample;
 use crate::say;
 use crate::set::Rows;
 use crate::set::set;
-use crate::state::ABORT;
-use crate::state::COMMIT;
-use crate::state::Call;
-use crate::state::QUERY;
-use crate::state::READ;
 use crate::state::Tables;
-use crate::state::UPDATE;
-use crate::state::WRITE;
 use crate::state::place;
 use crate::steps::expect;
 use crate::steps::head;
-use counting::Tally;
 use names::Answer;
+use names::Call;
+use tally::Tally;
 
 const TRIAL: u8 = b't';
 
@@ -51,15 +48,6 @@ pub struct Stage {
     pub rows: Rows,
 }
 
-fn is_call(kind: u8) -> bool {
-    (kind == UPDATE)
-        | (kind == QUERY)
-        | (kind == READ)
-        | (kind == WRITE)
-        | (kind == COMMIT)
-        | (kind == ABORT)
-}
-
 // A byte of a line, written out: before the first the head of the line, after the colon what comes.
 fn echo(stage: Stage, line: Line, byte: u8) {
     let kind = if line.kind == 0 { byte } else { line.kind };
@@ -78,7 +66,7 @@ fn echo(stage: Stage, line: Line, byte: u8) {
     }
 }
 
-fn call(stage: Stage, line: Line) -> Stage {
+fn made(stage: Stage, line: Line, call: Call) -> Stage {
     let numbers = line.numbers;
     let wanted = Answer {
         code: numbers[3],
@@ -87,12 +75,7 @@ fn call(stage: Stage, line: Line) -> Stage {
         looked: numbers[6],
     };
     let before = stage.tables;
-    let called = before.call(Call {
-        kind: line.kind,
-        number: numbers[0],
-        item: numbers[1],
-        value: numbers[2],
-    });
+    let called = before.call(call);
     let after = called.tables;
     let changed = after.changed(before);
     let tally = stage.tally;
@@ -162,8 +145,10 @@ fn change(stage: Stage, line: Line) -> Stage {
 // What a line says.
 fn step(stage: Stage, line: Line) -> Stage {
     let kind = line.kind;
-    if is_call(kind) {
-        return call(stage, line);
+    let numbers = line.numbers;
+    let word = lettered(kind, numbers[0], numbers[1], numbers[2]);
+    if let Meant::Call(call) = word {
+        return made(stage, line, call);
     }
     if kind == SEE {
         return see(stage, line);

@@ -3,7 +3,7 @@
 use crate::play::TRIALS;
 use crate::play::play;
 use crate::set::OF_SLOTS;
-use counting::Tally;
+use tally::Tally;
 
 // The 32nd item, and the 33rd.
 pub fn q(tally: Tally) -> Tally {

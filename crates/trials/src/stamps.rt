@@ -2,7 +2,7 @@
 // clock; in a row of versions word 0 is the count.
 use crate::play::TRIALS;
 use crate::play::play;
-use counting::Tally;
+use tally::Tally;
 
 // A full row.
 pub fn i(tally: Tally) -> Tally {

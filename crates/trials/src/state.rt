@@ -3,6 +3,7 @@
 // Each has a word to spare, and says how many of its words are lent to a call, so that tables of
 // wrong sizes are tried like others.
 use names::Answer;
+use names::Call;
 use names::ITEMS;
 use names::LOCK_WORDS;
 use names::SLOTS;
@@ -10,7 +11,7 @@ use names::TXN_WORDS;
 use names::VERSION_WORDS;
 ghost use mathlib.Core.Path.{_≡_};
 ghost use Prim.Native.Nat.{_+_, _≤_};
-ghost use Rattle.counting.specs.Counts.{differing};
+ghost use Rattle.tally.specs.Counts.{differing};
 
 // Where the words stand.
 const TXN_HEAD: u64 = names::TXN_HEAD as u64;
@@ -38,27 +39,6 @@ pub const LOCKS: u8 = b'l';
 
 pub const VERSIONS: u8 = b'v';
 
-// How it calls the calls: by their first letters.
-pub const UPDATE: u8 = b'u';
-
-pub const QUERY: u8 = b'q';
-
-pub const READ: u8 = b'r';
-
-pub const WRITE: u8 = b'w';
-
-pub const COMMIT: u8 = b'c';
-
-pub const ABORT: u8 = b'a';
-
-// A call; what it does not take is 0.
-pub struct Call {
-    pub kind: u8,
-    pub number: u64,
-    pub item: u64,
-    pub value: u64,
-}
-
 // How many words of each table are lent.
 pub struct Lent {
     pub txns: usize,
@@ -85,19 +65,6 @@ fn least(a: usize, b: usize) -> usize
     if a < b { a } else { b }
 }
 
-// The call on tables as they are lent.
-fn make(txns: &mut [u64], locks: &mut [u64], versions: &mut [u64], call: Call) -> Answer {
-    let kind = call.kind;
-    match kind {
-        UPDATE => keeper::begin_update(txns, locks, versions),
-        QUERY => keeper::begin_query(txns, locks, versions),
-        READ => keeper::read(txns, locks, versions, call.number, call.item),
-        WRITE => keeper::write(txns, locks, versions, call.number, call.item, call.value),
-        COMMIT => keeper::commit(txns, locks, versions, call.number),
-        _ => keeper::abort(txns, locks, versions, call.number),
-    }
-}
-
 // The call on so many words of each.
 fn make_on(
     txns: &mut [u64],
@@ -109,7 +76,7 @@ fn make_on(
     let t = least(lent.txns, txns.len());
     let l = least(lent.locks, locks.len());
     let v = least(lent.versions, versions.len());
-    make(&mut txns[..t], &mut locks[..l], &mut versions[..v], call)
+    keeper::call(call, &mut txns[..t], &mut locks[..l], &mut versions[..v])
 }
 
 // Where a word of a row stands in its table.
@@ -167,9 +134,9 @@ impl Tables {
         let locks = self.locks;
         let versions = self.versions;
         match table {
-            HEAD | TXNS => counting::word(&txns, at as usize),
-            LOCKS => counting::word(&locks, at as usize),
-            _ => counting::word(&versions, at as usize),
+            HEAD | TXNS => tally::word(&txns, at as usize),
+            LOCKS => tally::word(&locks, at as usize),
+            _ => tally::word(&versions, at as usize),
         }
     }
 
@@ -179,9 +146,9 @@ impl Tables {
         let mut locks = self.locks;
         let mut versions = self.versions;
         match table {
-            HEAD | TXNS => counting::put(&mut txns, at as usize, value),
-            LOCKS => counting::put(&mut locks, at as usize, value),
-            _ => counting::put(&mut versions, at as usize, value),
+            HEAD | TXNS => tally::put(&mut txns, at as usize, value),
+            LOCKS => tally::put(&mut locks, at as usize, value),
+            _ => tally::put(&mut versions, at as usize, value),
         }
         let lent = self.lent;
         Tables {
@@ -219,7 +186,7 @@ impl Tables {
         let other_txns = others.txns;
         let other_locks = others.locks;
         let other_versions = others.versions;
-        counting::changed(
+        tally::changed(
             &txns,
             &locks,
             &versions,

@@ -1,11 +1,11 @@
 // A step's line: its head, and its end with what was found.
 use crate::say;
-use counting::REFUSED;
-use counting::Tally;
-use counting::as_expected;
 use names::Answer;
+use tally::REFUSED;
+use tally::Tally;
+use tally::as_expected;
 ghost use mathlib.Core.Path.{_≡_};
-ghost use Rattle.counting.specs.Counts.{asExpected, counted};
+ghost use Rattle.tally.specs.Counts.{asExpected, counted};
 
 // After a refusal the line says how many words are others.
 fn say_changed(code: u64, changed: u64) {

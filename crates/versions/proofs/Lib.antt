@@ -1,14 +1,3 @@
--- Laws of the version table as the code has it.
-pub mod Lent
-pub mod Zeros
+-- Laws of the test of the version table.
 pub mod Merge
-pub mod Fill
-pub mod Read
 pub mod Same
-pub mod Halvings
-pub mod Halved
-pub mod Keep
-pub mod Pack
-pub mod Table
-pub mod Renew
-pub mod Handed

@@ -1,4 +1,4 @@
--- What the code tests of a row of versions is what the rules say of it, and so for all rows. Assumes nothing.
+-- What the code tests of a row of versions is what the rules say of it, and so for all rows.
 use Prim.Native.Nat.{ℕ, zero, suc, _+_, _-_, _*_, _<_, _≤_}
 use mathlib.Core.Path.{_≡_, refl, sym, ap, ap₂, _∙_, subst}
 use mathlib.Core.Logic.{_⊎_, inl, inr}
@@ -10,6 +10,7 @@ use lib.ListN.{getD, length, drop, length-drop, length-take}
 use lib.Dec.{T, eqb, leb, ltb, leb→le, le→leb, ltb→lt, eqb→eq}
 use borrow.Author.Tests.{eqb-true, le-ltb, ltb-false}
 use Rattle.names.specs.Sizes.{base}
+use Rattle.names.specs.Layout.{versionStampAt, versionPair}
 use Rattle.rules.specs.Words.{every, everyBelow, everyRow, row}
 use Rattle.rules.specs.Tables.{versionRow, versionWords}
 use Rattle.rules.specs.Versions.{Version, versionsIn, stampAt, readBySome}
@@ -19,52 +20,56 @@ use Rattle.rules.proofs.Counts.{everyBelow→, →everyBelow, someBelow→, eve
 use Rattle.rules.proofs.Rows.{everyRow→, →everyRow}
 use Rattle.rules.proofs.Choice.{length-versionsIn, Falls, falls→Falls, Falls→falls}
 use Rattle.rules.proofs.Trim.{allRead→, →allRead}
-use Rattle.versions.specs.Ordered.{lanes, guard, InOrder}
-use Rattle.versions.specs.Rows.{pairsWide, between, readAt, readIn, unusedOk, manyOk, oneOk, rowOk, rowsOk}
-use Rattle.versions.proofs.Zeros.{iff-eq, zeros→, →zeros}
-use Rattle.versions.proofs.Read.{stamp-in, read-same}
+use Rattle.choices.specs.Pairs.{countIn, stampIn}
+use Rattle.starts.specs.Ordered.{lanes, guard, InOrder}
+use Rattle.versions.specs.Rows.{placeBefore, stampBefore, pairsWide, readAt, readIn, unusedOk, manyOk, oneOk, rowOk, rowsOk}
+use Rattle.starts.specs.Ordered.{between}
+use Rattle.words.proofs.Turns.{iff-eq}
+use Rattle.words.proofs.ZeroWords.{zeros→, →zeros}
+use Rattle.choices.proofs.Read.{stamp-in}
+use Rattle.starts.proofs.Between.{read-same}
 
 -- a good row, by its words and the starts in order
 pub record Row (now : ℕ) (q r : List ℕ) : Type 0 where
-  pub least : 1 ≤ getD r 0 0
-  pub most : getD r 0 0 ≤ base .places
-  pub unused : T (unusedOk r (getD r 0 0))
-  pub new : getD r 1 0 ≤ now
-  pub old : getD r (getD r 0 0 * 2 - 1) 0 ≤ getD q 0 0
-  pub read : (j : ℕ) → j < getD r 0 0 - 1 → T (readAt q r j)
+  pub least : 1 ≤ countIn r
+  pub most : countIn r ≤ base .places
+  pub unused : T (unusedOk r (countIn r))
+  pub new : stampIn r 0 ≤ now
+  pub old : stampBefore r (countIn r) ≤ getD q 0 0
+  pub read : (j : ℕ) → j < countIn r - 1 → T (readAt q r j)
 
 -- ---- the code's test says that
 module _ (now : ℕ) (q r : List ℕ) where
   abbrev n : ℕ
-  n = getD r 0 0
+  n = countIn r
 
   one→ : n ≡ 1 → T (oneOk now q r) → Row now q r
   unfolding oneOk
   one→ e t =
-      let a = leb (getD r 1 0) now in
-      let b = leb (getD r 1 0) (getD q 0 0) in
+      let a = leb (stampIn r 0) now in
+      let b = leb (stampIn r 0) (getD q 0 0) in
       let h = and-left (unusedOk r 1 && a) b t in
       record {
         least = omega arith;
         most = omega arith;
         unused = subst (λ (m : ℕ). T (unusedOk r m)) (sym e) (and-left (unusedOk r 1) a h);
-        new = leb→le (getD r 1 0) now (and-right (unusedOk r 1) a h);
+        new = leb→le (stampIn r 0) now (and-right (unusedOk r 1) a h);
         old =
-            subst (λ (m : ℕ). getD r (m * 2 - 1) 0 ≤ getD q 0 0) (sym e)
-            (leb→le (getD r 1 0) (getD q 0 0) (and-right (unusedOk r 1 && a) b t));
+            subst (λ (m : ℕ). stampBefore r m ≤ getD q 0 0) (sym e)
+            (leb→le (stampIn r 0) (getD q 0 0) (and-right (unusedOk r 1 && a) b t));
         read = λ j b. absurd (omega arith);
       }
 
   →one : n ≡ 1 → Row now q r → T (oneOk now q r)
   unfolding oneOk
   →one e w =
-      let a = leb (getD r 1 0) now in
-      let b = leb (getD r 1 0) (getD q 0 0) in
+      let a = leb (stampIn r 0) now in
+      let b = leb (stampIn r 0) (getD q 0 0) in
       and-both (unusedOk r 1 && a) b
-      (and-both (unusedOk r 1) a (subst (λ (m : ℕ). T (unusedOk r m)) e (w .unused)) (le→leb (getD r 1 0) now (w .new)))
-      (le→leb (getD r 1 0) (getD q 0 0) (subst (λ (m : ℕ). getD r (m * 2 - 1) 0 ≤ getD q 0 0) e (w .old)))
+      (and-both (unusedOk r 1) a (subst (λ (m : ℕ). T (unusedOk r m)) e (w .unused)) (le→leb (stampIn r 0) now (w .new)))
+      (le→leb (stampIn r 0) (getD q 0 0) (subst (λ (m : ℕ). stampBefore r m ≤ getD q 0 0) e (w .old)))
 
-  many→ : getD r 1 0 ≤ now → T (manyOk r q) → Row now q r
+  many→ : stampIn r 0 ≤ now → T (manyOk r q) → Row now q r
   unfolding manyOk readIn
   many→ new t =
       record {
@@ -72,8 +77,8 @@ module _ (now : ℕ) (q r : List ℕ) where
         most = ltb-false (base .places) n (off (ltb (base .places) n) (and-left (not (ltb (base .places) n)) _ t₁));
         unused = and-right (readIn q r n) (unusedOk r n) t₂;
         new = new;
-        old = leb→le (getD r (n * 2 - 1) 0) (getD q 0 0) (and-left (leb (getD r (n * 2 - 1) 0) (getD q 0 0)) _ t₃);
-        read = everyBelow→ (n - 1) (readAt q r) (and-right (leb (getD r (n * 2 - 1) 0) (getD q 0 0)) _ t₃);
+        old = leb→le (stampBefore r n) (getD q 0 0) (and-left (leb (stampBefore r n) (getD q 0 0)) _ t₃);
+        read = everyBelow→ (n - 1) (readAt q r) (and-right (leb (stampBefore r n) (getD q 0 0)) _ t₃);
       }
     where
       off : (b : Bool) → T (not b) → b ≡ false
@@ -92,12 +97,12 @@ module _ (now : ℕ) (q r : List ℕ) where
   →many : Row now q r → T (manyOk r q)
   unfolding manyOk readIn
   →many w =
-      let old = leb (getD r (n * 2 - 1) 0) (getD q 0 0) in
+      let old = leb (stampBefore r n) (getD q 0 0) in
       and-both (not (eqb n 0)) _ (ne-make n 0 (λ z. let l = w .least in omega arith))
       (and-both (not (ltb (base .places) n)) _ (on (ltb (base .places) n) (le-ltb (base .places) n (w .most)))
       (and-both (old && everyBelow (n - 1) (readAt q r)) (unusedOk r n)
       (and-both old (everyBelow (n - 1) (readAt q r))
-      (le→leb (getD r (n * 2 - 1) 0) (getD q 0 0) (w .old))
+      (le→leb (stampBefore r n) (getD q 0 0) (w .old))
       (→everyBelow (n - 1) (readAt q r) (w .read)))
       (w .unused)))
     where
@@ -108,17 +113,17 @@ module _ (now : ℕ) (q r : List ℕ) where
   unfolding rowOk
   rowOk→ t = go (eqb n 1) refl t
     where
-      go : (c : Bool) → eqb n 1 ≡ c → T (cond c (oneOk now q r) (leb (getD r 1 0) now && manyOk r q)) → Row now q r
+      go : (c : Bool) → eqb n 1 ≡ c → T (cond c (oneOk now q r) (leb (stampIn r 0) now && manyOk r q)) → Row now q r
       go true e t = one→ (eqb-true n 1 e) t
-      go false e t = many→ (leb→le (getD r 1 0) now (and-left (leb (getD r 1 0) now) (manyOk r q) t)) (and-right (leb (getD r 1 0) now) (manyOk r q) t)
+      go false e t = many→ (leb→le (stampIn r 0) now (and-left (leb (stampIn r 0) now) (manyOk r q) t)) (and-right (leb (stampIn r 0) now) (manyOk r q) t)
 
   →rowOk : Row now q r → T (rowOk now q r)
   unfolding rowOk
   →rowOk w = go (eqb n 1) refl
     where
-      go : (c : Bool) → eqb n 1 ≡ c → T (cond c (oneOk now q r) (leb (getD r 1 0) now && manyOk r q))
+      go : (c : Bool) → eqb n 1 ≡ c → T (cond c (oneOk now q r) (leb (stampIn r 0) now && manyOk r q))
       go true e = →one (eqb-true n 1 e) w
-      go false e = and-both (leb (getD r 1 0) now) (manyOk r q) (le→leb (getD r 1 0) now (w .new)) (→many w)
+      go false e = and-both (leb (stampIn r 0) now) (manyOk r q) (le→leb (stampIn r 0) now (w .new)) (→many w)
 
 -- ---- and so do the rules
 -- stamps that fall from place to place fall
@@ -145,28 +150,28 @@ module _ (now : ℕ) (qs q r : List ℕ) (clocked : now ≤ guard) (size : lengt
   vs = versionsIn r
 
   abbrev m : ℕ
-  m = getD r 0 0
+  m = countIn r
 
   -- the words that a place is tested by are the stamps there
   read-words : (j : ℕ) → suc j < m → readAt q r j ≡ between q (stampAt vs (suc j)) (stampAt vs j)
   unfolding readAt
   read-words j h =
       ap₂ (λ (a b : ℕ). between q a b)
-      (ap (λ (k : ℕ). getD r k 0) (let e : j * 2 + 3 ≡ suc j * 2 + 1 = omega arith in e) ∙ sym (stamp-in r (suc j) h))
+      (ap (λ (k : ℕ). getD r k 0) (let e : (j + 1) * versionPair + versionStampAt ≡ suc j * versionPair + versionStampAt = omega arith in e) ∙ sym (stamp-in r (suc j) h))
       (sym (stamp-in r j (omega arith)))
 
-  last-stamp : 1 ≤ m → stampAt vs (length vs - 1) ≡ getD r (m * 2 - 1) 0
+  last-stamp : 1 ≤ m → stampAt vs (length vs - 1) ≡ stampBefore r m
   last-stamp l =
       ap (λ (k : ℕ). stampAt vs (k - 1)) (length-versionsIn r)
       ∙ stamp-in r (m - 1) (omega arith)
-      ∙ ap (λ (k : ℕ). getD r k 0) (let e : (m - 1) * 2 + 1 ≡ m * 2 - 1 = omega arith in e)
+      ∙ ap (λ (k : ℕ). getD r k 0) (let e : (m - 1) * versionPair + versionStampAt ≡ placeBefore m = omega arith in e)
 
   row→ : Row now q r → T (versionsGood base now qs r)
   unfolding versionsGood lastOld unusedOk Falls
   row→ w =
       and-both (leb 1 m) _ (le→leb 1 m (w .least))
       (and-both (leb m (base .places)) _ (le→leb m (base .places) (w .most))
-      (and-both (every (λ w. eqb w 0) (drop (1 + 2 * m) r)) _ unused
+      (and-both (every (λ w. eqb w 0) (drop (versionStampAt + versionPair * m) r)) _ unused
       (and-both (falls vs) _ (Falls→falls vs fall)
       (and-both (leb (stampAt vs 0) now) _ (le→leb (stampAt vs 0) now first)
       (and-both (lastOld qs vs) (allRead qs vs 0 vs)
@@ -176,12 +181,12 @@ module _ (now : ℕ) (qs q r : List ℕ) (clocked : now ≤ guard) (size : lengt
       long : length vs ≡ m
       long = length-versionsIn r
 
-      unused : T (every (λ w. eqb w 0) (drop (1 + 2 * m) r))
+      unused : T (every (λ w. eqb w 0) (drop (versionStampAt + versionPair * m) r))
       unused =
           let a = w .most in
-          let e : 1 + m * 2 ≡ 1 + 2 * m = omega arith in
+          let e : versionStampAt + m * versionPair ≡ versionStampAt + versionPair * m = omega arith in
           subst (λ (k : ℕ). T (every (λ w. eqb w 0) (drop k r))) e
-          (→zeros r (1 + m * 2) (pairsWide - m * 2) (omega arith) (w .unused))
+          (→zeros r (versionStampAt + m * versionPair) (pairsWide - m * versionPair) (omega arith) (w .unused))
 
       fall : Falls vs
       fall i j a b =
@@ -225,14 +230,14 @@ module _ (now : ℕ) (qs q r : List ℕ) (clocked : now ≤ guard) (size : lengt
             (allRead→ qs vs 0 vs (and-right (lastOld qs vs) (allRead qs vs 0 vs) t₅) (suc j) (let l = length-versionsIn r in omega arith));
       }
     where
-      t₁ : T (leb m (base .places) && (every (λ w. eqb w 0) (drop (1 + 2 * m) r) && (falls vs && (leb (stampAt vs 0) now && (lastOld qs vs && allRead qs vs 0 vs)))))
+      t₁ : T (leb m (base .places) && (every (λ w. eqb w 0) (drop (versionStampAt + versionPair * m) r) && (falls vs && (leb (stampAt vs 0) now && (lastOld qs vs && allRead qs vs 0 vs)))))
       t₁ = and-right (leb 1 m) _ t
 
-      t₂ : T (every (λ w. eqb w 0) (drop (1 + 2 * m) r) && (falls vs && (leb (stampAt vs 0) now && (lastOld qs vs && allRead qs vs 0 vs))))
+      t₂ : T (every (λ w. eqb w 0) (drop (versionStampAt + versionPair * m) r) && (falls vs && (leb (stampAt vs 0) now && (lastOld qs vs && allRead qs vs 0 vs))))
       t₂ = and-right (leb m (base .places)) _ t₁
 
       t₃ : T (falls vs && (leb (stampAt vs 0) now && (lastOld qs vs && allRead qs vs 0 vs)))
-      t₃ = and-right (every (λ w. eqb w 0) (drop (1 + 2 * m) r)) _ t₂
+      t₃ = and-right (every (λ w. eqb w 0) (drop (versionStampAt + versionPair * m) r)) _ t₂
 
       t₄ : T (leb (stampAt vs 0) now && (lastOld qs vs && allRead qs vs 0 vs))
       t₄ = and-right (falls vs) _ t₃
@@ -251,9 +256,9 @@ module _ (now : ℕ) (qs q r : List ℕ) (clocked : now ≤ guard) (size : lengt
 
       unused : T (unusedOk r m)
       unused =
-          let e : 1 + 2 * m ≡ 1 + m * 2 = omega arith in
-          zeros→ r (1 + m * 2) (pairsWide - m * 2)
-          (subst (λ (k : ℕ). T (every (λ w. eqb w 0) (drop k r))) e (and-left (every (λ w. eqb w 0) (drop (1 + 2 * m) r)) _ t₂))
+          let e : versionStampAt + versionPair * m ≡ versionStampAt + m * versionPair = omega arith in
+          zeros→ r (versionStampAt + m * versionPair) (pairsWide - m * versionPair)
+          (subst (λ (k : ℕ). T (every (λ w. eqb w 0) (drop k r))) e (and-left (every (λ w. eqb w 0) (drop (versionStampAt + versionPair * m) r)) _ t₂))
 
       -- the guard is not below the newest stamp, nor below any
       lowest : stampAt vs (length vs - 1) ≤ guard
@@ -265,7 +270,7 @@ module _ (now : ℕ) (qs q r : List ℕ) (clocked : now ≤ guard) (size : lengt
               subst (λ (k : ℕ). stampAt vs k ≤ guard) (sym e)
               (let f = first in let z = fall 0 (suc k) (omega arith) (omega arith) in omega arith)
 
-      old : (getD q 0 0 ≡ guard) ⊎ List·Memᴰ (getD q 0 0) qs → getD r (m * 2 - 1) 0 ≤ getD q 0 0
+      old : (getD q 0 0 ≡ guard) ⊎ List·Memᴰ (getD q 0 0) qs → stampBefore r m ≤ getD q 0 0
       old (inl e) = let a = last-stamp least in let b = lowest in omega arith
       old (inr i) =
           let a = last-stamp least in

@@ -1,7 +1,2 @@
--- What the functions on the version table are proved against, besides the rules.
-pub mod Ordered
+-- What the test of the version table is proved against, besides the rules.
 pub mod Rows
-pub mod Sound
-pub mod Found
-pub mod Looks
-pub mod Written

@@ -1,32 +1,138 @@
-// The table of versions: the test of its rows, the version that a start reads, and its rows
-// rewritten, with a new version in front or without.
+// The test of every row of versions, against the starts in order: each row is walked from its
+// oldest version up, and the starts beside it.
 //
-// Every function is proved against the definitions of the crate `rules`. Each has a `requires` that
-// good tables meet, as the laws of proofs/Handed say.
-mod choose;
-mod order;
-mod rewrite;
-mod test;
-mod write;
-
-pub use choose::Choice;
-pub use choose::chosen;
-pub use choose::newest;
-pub use order::starts_in_order;
-pub use rewrite::commit_all;
-pub use rewrite::trim_all;
-pub use test::all_good;
-pub use write::write_row;
+// Proved equal to the test of the rules, for whichever starts are in order.
+ghost use mathlib.Core.Path.{_≡_};
+ghost use mathlib.Core.List.{List};
+ghost use Prim.Native.Nat.{ℕ, _+_, _≤_};
+ghost use lib.ListN.{length};
+ghost use Rattle.names.specs.Sizes.{base};
+ghost use Rattle.rules.specs.Words.{everyRow};
+ghost use Rattle.rules.specs.Tables.{versionRow, versionWords};
+ghost use Rattle.rules.specs.Tested.{versionsGood};
+ghost use Rattle.starts.specs.Ordered.{Rises, InOrder, Skipped};
+ghost use Rattle.versions.specs.Rows.{unusedOk, readIn, manyOk, rowOk};
+ghost use Rattle.choices.specs.Pairs.{countIn};
+use names::VERSION_COUNT_AT;
+use names::VERSION_PAIR;
+use names::VERSION_ROW;
+use names::VERSION_STAMP_AT;
 
 // The words of a row's pairs, and the rows.
-const PAIRS: usize = names::VERSION_ROW - 1;
+const PAIRS: usize = VERSION_ROW - VERSION_STAMP_AT;
 
 const ROWS: usize = names::ITEMS as usize;
 
-// The places for the starts in order: as many as slots, and one more.
-const SLOTS: usize = names::SLOTS as usize;
+// Words that are zero are tested in parts of a length known beforehand, which is faster.
+const FEW: usize = 8;
 
-const LANES: usize = 1 + SLOTS;
+const SOME: usize = 16;
 
-// The greatest word: it stands behind the starts, and nothing is above it.
-const GUARD: u64 = 18446744073709551615;
+// Whether the pairs behind m versions are zero.
+fn unused_ok(row: &[u64], m: usize) -> bool
+    requires { ⌜ (length (now row) ≡ versionRow base) × (m ≤ base .places) ⌝ }
+    ensures { λ b. ⌜ b ≡ unusedOk (now (row .entry)) m ⌝ }
+{
+    if m * VERSION_PAIR <= FEW {
+        return words::zeros(
+            row,
+            VERSION_STAMP_AT + m * VERSION_PAIR,
+            FEW - m * VERSION_PAIR,
+        )
+            & words::zeros(row, VERSION_STAMP_AT + FEW, PAIRS - FEW);
+    }
+    if m * VERSION_PAIR <= SOME {
+        return words::zeros(
+            row,
+            VERSION_STAMP_AT + m * VERSION_PAIR,
+            SOME - m * VERSION_PAIR,
+        )
+            & words::zeros(row, VERSION_STAMP_AT + SOME, PAIRS - SOME);
+    }
+    words::zeros(
+        row,
+        VERSION_STAMP_AT + m * VERSION_PAIR,
+        PAIRS - m * VERSION_PAIR,
+    )
+}
+
+// The first place from p on whose start is at least hi.
+fn skip(starts: &[u64], p: usize, hi: u64) -> usize
+    requires { ⌜ Rises (now starts) × (p ≤ base .slots) ⌝ }
+    ensures { λ k. ⌜ Skipped (now (starts .entry)) p hi k ⌝ }
+{
+    let mut k = p;
+    while starts[k] < hi {
+        k += 1;
+    }
+    k
+}
+
+// Whether the last of m versions is old enough for all starts, and each but the newest is read.
+fn all_read(row: &[u64], m: usize, starts: &[u64]) -> bool
+    requires { ⌜ (length (now row) ≡ versionRow base) × (2 ≤ m) × (m ≤ base .places) × Rises (now starts) ⌝ }
+    ensures { λ b. ⌜ b ≡ readIn (now (starts .entry)) (now (row .entry)) m ⌝ }
+{
+    if starts[0] < row[m * VERSION_PAIR + VERSION_STAMP_AT - VERSION_PAIR] {
+        return false;
+    }
+    let mut p: usize = 0;
+    let mut j = m - 1;
+    while 1 < j {
+        let hi = row[j * VERSION_PAIR + VERSION_STAMP_AT - VERSION_PAIR];
+        if hi <= starts[p] {
+            return false;
+        }
+        p = skip(starts, p + 1, hi);
+        j -= 1;
+    }
+    starts[p] < row[VERSION_STAMP_AT]
+}
+
+// A row with another count than 1, but for its newest stamp.
+fn many_ok(row: &[u64], starts: &[u64]) -> bool
+    requires { ⌜ (length (now row) ≡ versionRow base) × (countIn (now row) ≡ 1 → ⊥) × Rises (now starts) ⌝ }
+    ensures { λ b. ⌜ b ≡ manyOk (now (row .entry)) (now (starts .entry)) ⌝ }
+{
+    let n = row[VERSION_COUNT_AT];
+    if n == 0 {
+        return false;
+    }
+    if names::PLACES < n {
+        return false;
+    }
+    let m = n as usize;
+    if !all_read(row, m, starts) {
+        return false;
+    }
+    unused_ok(row, m)
+}
+
+// One row. Most have one version, and are tested without a branch.
+fn row_ok(row: &[u64], clock: u64, starts: &[u64]) -> bool
+    requires { ⌜ (length (now row) ≡ versionRow base) × Rises (now starts) ⌝ }
+    ensures { λ b. ⌜ b ≡ rowOk clock (now (starts .entry)) (now (row .entry)) ⌝ }
+{
+    if row[VERSION_COUNT_AT] == 1 {
+        return words::zeros(row, VERSION_STAMP_AT + VERSION_PAIR, PAIRS - VERSION_PAIR)
+            & (row[VERSION_STAMP_AT] <= clock)
+            & (row[VERSION_STAMP_AT] <= starts[0]);
+    }
+    (row[VERSION_STAMP_AT] <= clock) & many_ok(row, starts)
+}
+
+// Whether every row of versions is good, for whichever list of starts is in order.
+pub fn all_good(versions: &[u64], clock: u64, starts: &[u64]) -> bool
+    requires { ⌜ (length (now versions) ≡ versionWords base) × Rises (now starts) ⌝ }
+    ensures { λ r. ⌜ ((qs : List ℕ) → InOrder qs (now (starts .entry)) → r ≡ everyRow (base .items) (versionRow base) (λ x w. versionsGood base clock qs w) 0 (now (versions .entry))) ⌝ }
+{
+    let mut ok = true;
+    let mut i: usize = 0;
+    while i < ROWS {
+        let a = VERSION_ROW * i;
+        let e = a + VERSION_ROW;
+        ok = row_ok(&versions[a..e], clock, starts) & ok;
+        i += 1;
+    }
+    ok
+}

@@ -1,10 +1,10 @@
--- `circles::search` meets its contract. The measure is the number of slots that were not visited. Assumes nothing.
+-- `circles::search` meets its contract. The measure is the number of slots that were not visited.
 use Prim.Native.Nat.{ℕ, _-_, _<_}
 use mathlib.Core.Path.{sym}
 use native.Mathlib.Omega.{arith}
 use lib.Count.{ones}
 use Rattle.names.specs.Sizes.{base}
-use Rattle.circles.proofs.Words.{shifted}
+use Rattle.words.proofs.SlotWords.{shifted}
 use Rattle.circles.proofs.Visiting.{nothing-todo, goal-met, fewer, visited, visit}
 use borrow.Fn.Kinds.{In}
 use borrow.Fn.PlainCycle.{Measures, is, falls, and}

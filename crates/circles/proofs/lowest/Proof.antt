@@ -1,4 +1,4 @@
--- `circles::lowest` meets its contract. The invariant: no bit below `slot` is set, so `slot` is below the bit that is. Assumes nothing.
+-- `circles::lowest` meets its contract. The invariant: no bit below `slot` is set, so `slot` is below the bit that is.
 use Prim.Native.Nat.{ℕ, _+_, _-_, _<_}
 use native.Mathlib.Omega.{arith}
 use borrow.Author.Needs.{needs}
@@ -6,7 +6,7 @@ use borrow.Author.Count.{below-more}
 use lib.Dec.{T}
 use Rattle.names.specs.Sizes.{base}
 use Rattle.rules.specs.Words.{bit}
-use Rattle.circles.proofs.Words.{first-within, bit-off, bit-on}
+use Rattle.words.proofs.SlotWords.{first-within, bit-off, bit-on}
 use Rattle.circles.proofs.lowest.Statement.{statement}
 use Rattle.circles.proofs.lowest.Tie as tie
 

@@ -1,5 +1,5 @@
 -- `circles::no_circle` meets its contract. The invariant: every slot on a circle is left; the measure is the word that is left, since
--- a slot less is a smaller word. Assumes nothing.
+-- a slot less is a smaller word.
 use Prim.Native.Nat.{_^_, _<_}
 use native.Mathlib.Omega.{arith}
 use Rattle.names.specs.Sizes.{base}

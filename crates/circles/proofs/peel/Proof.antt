@@ -1,4 +1,4 @@
--- `circles::peel` meets its contract. Assumes nothing.
+-- `circles::peel` meets its contract.
 use mathlib.Core.Path.{_≡_}
 use mathlib.Core.Bool.{true, false}
 use native.Mathlib.Omega.{arith}
@@ -8,7 +8,7 @@ use lib.ListN.{getD}
 use lib.Bits.{bitAnd}
 use lib.Dec.{eqb}
 use Rattle.circles.specs.Peel.{peeled}
-use Rattle.circles.proofs.Words.{shifted}
+use Rattle.words.proofs.SlotWords.{shifted}
 use Rattle.circles.proofs.peel.Statement.{statement}
 use Rattle.circles.proofs.peel.Tie as tie
 

@@ -1,4 +1,4 @@
--- `circles::peel_down` meets its contract. The invariant: the slots from `slot` on were peeled. Assumes nothing.
+-- `circles::peel_down` meets its contract. The invariant: the slots from `slot` on were peeled.
 use Prim.Native.Nat.{_-_, _≤_}
 use native.Mathlib.Omega.{arith}
 use borrow.Author.Needs.{needs}

@@ -1,4 +1,4 @@
--- `circles::peel_up` meets its contract. The invariant: the slots below `slot` were peeled. Assumes nothing.
+-- `circles::peel_up` meets its contract. The invariant: the slots below `slot` were peeled.
 use Prim.Native.Nat.{_+_, _-_, _≤_}
 use native.Mathlib.Omega.{arith}
 use borrow.Author.Needs.{needs}

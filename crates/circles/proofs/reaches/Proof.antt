@@ -1,4 +1,4 @@
--- `circles::reaches` meets its contract. Assumes nothing.
+-- `circles::reaches` meets its contract.
 use Rattle.circles.proofs.Visiting.{opening}
 use Rattle.circles.proofs.reaches.Statement.{statement}
 use Rattle.circles.proofs.reaches.Tie as tie

@@ -1,4 +1,4 @@
--- The rows passed have the count 1. Assumes nothing.
+-- The rows passed have the count 1.
 use Prim.Native.Nat.{_-_}
 use mathlib.Core.Path.{sym, _∙_}
 use native.Mathlib.Omega.{arith}

@@ -1,4 +1,4 @@
--- Zeros, then the counts; nothing where a size is not exact. Assumes nothing.
+-- Zeros, then the counts; nothing where a size is not exact.
 use mathlib.Core.Path.{_∙_}
 use Rattle.rules.specs.Tables.{Tables, tables}
 use Rattle.fresh.proofs.Filling.{zeroed-length, refused, exact, filled}

@@ -1,4 +1,4 @@
--- The three lengths. Assumes nothing.
+-- The three lengths.
 use mathlib.Core.Path.{refl}
 use Rattle.rules.specs.Tested.{sizesExact}
 use Rattle.fresh.proofs.sizes_exact.Statement.{statement}

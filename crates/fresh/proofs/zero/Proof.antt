@@ -1,4 +1,4 @@
--- The words passed are 0. Assumes nothing.
+-- The words passed are 0.
 use Prim.Native.Nat.{_-_}
 use native.Mathlib.Omega.{arith}
 use lib.ListN.{length}

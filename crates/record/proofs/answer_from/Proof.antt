@@ -1,7 +1,7 @@
--- Fewer are left after each piece; the two buffers and the tables keep their lengths. Assumes nothing.
-use Prim.Native.Nat.{_*_}
+-- Fewer are left after each piece; the two buffers and the tables keep their lengths.
+use Prim.Native.Nat.{ℕ, _*_}
 use mathlib.Core.Path.{_≡_, refl, sym, _∙_}
-use mathlib.Core.List.{_++_}
+use mathlib.Core.List.{List, _++_}
 use native.Mathlib.Omega.{arith}
 use lib.ListN.{length, drop}
 use lib.Seq.{length-take-le, length-front}
@@ -16,6 +16,29 @@ Inv-loop back file count path txns₀ locks₀ versions₀ input₀ output₀ le
 abbrev μ-loop : tie.MeasureT-loop
 μ-loop back file count path txns₀ locks₀ versions₀ input₀ output₀ left₀ txns locks versions input output left =
     left
+
+-- the places of a turn: the next piece, read and answered
+abbrev loop : tie.After-next-piece Inv-loop μ-loop → tie.At-loop Inv-loop μ-loop
+loop c = c .before .before
+
+abbrev next : tie.Else1 Inv-loop μ-loop → tie.After-next-piece Inv-loop μ-loop
+next c = c .before .before .before .before
+
+abbrev read : tie.After-answer-piece Inv-loop μ-loop → tie.Else1 Inv-loop μ-loop
+read c = c .before .before .before .before .before .before
+
+abbrev answered : tie.After-output2 Inv-loop μ-loop → tie.After-answer-piece Inv-loop μ-loop
+answered c = c .before .before .before .before .before .before .before
+
+abbrev next-of : tie.After-output2 Inv-loop μ-loop → tie.After-next-piece Inv-loop μ-loop
+next-of c = next (read (answered c))
+
+-- the input keeps its length
+abbrev bytes : tie.Else1 Inv-loop μ-loop → List ℕ
+bytes c = c .before .before .read-full .last .1 .0 ++ drop (next c .next-piece .result * 32) (loop (next c) .loop .input)
+
+kept : (c : tie.Else1 Inv-loop μ-loop) → length (bytes c) ≡ length (loop (next c) .loop .input)
+kept c = length-front (loop (next c) .loop .input) (c .before .before .read-full .last .1 .0) (next c .next-piece .result * 32) (c .before .input2 .given)
 
 large-buffer-requires : tie.Need-large-buffer-requires Inv-loop μ-loop
 large-buffer-requires c κs = search needs
@@ -45,75 +68,72 @@ fail-requires : tie.Need-fail-requires Inv-loop μ-loop
 fail-requires c κs = search needs
 
 same-length : tie.Need-same-length Inv-loop μ-loop
-same-length c = c .before .before .before .before .before .before .before .loop .inv .2
+same-length c = loop (c .before .before .before .before .before) .loop .inv .2
 
 same-length-2 : tie.Need-same-length-2 Inv-loop μ-loop
-same-length-2 c = c .before .before .before .before .before .before .before .loop .inv .3
+same-length-2 c = loop (c .before .before .before .before .before) .loop .inv .3
 
 same-length-3 : tie.Need-same-length-3 Inv-loop μ-loop
-same-length-3 c = c .before .before .before .before .before .before .before .loop .inv .4
+same-length-3 c = loop (c .before .before .before .before .before) .loop .inv .4
 
 returns : tie.Need-returns Inv-loop μ-loop
 returns c = search needs
 
 array-share-prefix-input : tie.Need-array-share-prefix-input Inv-loop μ-loop
-array-share-prefix-input c =
-    let i = c .before .before .before .before .before .before .loop in
-    let size = c .before .before .before .before .next-piece .result * 32 in
-    let k = length-front (i .input) (c .before .before .read-full .last .1 .0) size (c .before .input2 .given) in
-    omega (arith, k, i .inv .0, c .before .before .before .before .next-piece .ensures)
+array-share-prefix-input c = omega (arith, kept c, loop (next c) .loop .inv .0, next c .next-piece .ensures)
 
 slice-aggregate-answer-piece : tie.Need-slice-aggregate-answer-piece Inv-loop μ-loop
 slice-aggregate-answer-piece c =
-    let i = c .before .before .before .before .before .before .before .loop in
-    let size = c .before .before .before .before .before .next-piece .result * 32 in
-    let k = length-front (i .input) (c .before .before .before .read-full .last .1 .0) size (c .before .before .input2 .given) in
-    sym (length-take-le _ _ (omega (arith, k, i .inv .0, c .before .before .before .before .before .next-piece .ensures)))
+    let r = c .before in
+    sym (length-take-le _ _ (omega (arith, kept r, loop (next r) .loop .inv .0, next r .next-piece .ensures)))
 
 slice-aggregate-answer-piece-2 : tie.Need-slice-aggregate-answer-piece-2 Inv-loop μ-loop
-slice-aggregate-answer-piece-2 c = c .before .before .before .before .before .before .before .before .before .before .before .loop .inv .1
+slice-aggregate-answer-piece-2 c = loop (next (c .before .before .before .before .before)) .loop .inv .1
 
 answer-piece-requires : tie.Need-answer-piece-requires Inv-loop μ-loop
 answer-piece-requires c κs =
-    let i = c .before .before .before .before .before .before .before .before .before .before .before .loop in
-    let size = c .before .before .before .before .before .before .before .before .before .next-piece .result * 32 in
-    let k = length-front (i .input) (c .before .before .before .before .before .before .before .read-full .last .1 .0) size (c .before .before .before .before .before .before .input2 .given) in
-    let t = length-take-le size (c .before .before .before .before .before .before .before .read-full .last .1 .0 ++ drop size (i .input)) (omega (arith, k, i .inv .0, c .before .before .before .before .before .before .before .before .before .next-piece .ensures)) in
-    omega (arith, t, i .inv .1, c .before .before .before .before .before .before .before .before .before .next-piece .ensures)
+    let r = c .before .before .before .before .before in
+    let i = loop (next r) .loop .inv in
+    let t = length-take-le (next r .next-piece .result * 32) (bytes r) (omega (arith, kept r, i .0, next r .next-piece .ensures)) in
+    omega (arith, t, i .1, next r .next-piece .ensures)
 
 array-share-prefix-output : tie.Need-array-share-prefix-output Inv-loop μ-loop
-array-share-prefix-output c = omega (arith, c .before .before .before .before .before .before .before .answer-piece .ensures .0, c .output2 .given, c .before .before .before .before .before .before .before .before .before .before .before .before .before .before .before .before .before .before .before .loop .inv .1)
+array-share-prefix-output c = omega (arith, answered c .answer-piece .ensures .0, c .output2 .given, loop (next-of c) .loop .inv .1)
 
 slice-aggregate-written : tie.Need-slice-aggregate-written Inv-loop μ-loop
-slice-aggregate-written c = sym (length-take-le _ _ (omega (arith, c .before .before .before .before .before .before .before .before .answer-piece .ensures .0, c .before .output2 .given, c .before .before .before .before .before .before .before .before .before .before .before .before .before .before .before .before .before .before .before .before .loop .inv .1)))
+slice-aggregate-written c =
+    let o = c .before in
+    sym (length-take-le _ _ (omega (arith, answered o .answer-piece .ensures .0, o .output2 .given, loop (next-of o) .loop .inv .1)))
 
 written-requires : tie.Need-written-requires Inv-loop μ-loop
 written-requires c κs = search needs
 
 same-length-4 : tie.Need-same-length-4 Inv-loop μ-loop
-same-length-4 c = c .before .before .before .before .before .before .before .before .before .txns .given ∙ c .before .before .before .before .before .before .before .before .before .before .before .before .before .before .before .before .before .before .before .before .before .before .loop .inv .2
+same-length-4 c = let o = c .before .before .before in o .before .before .before .before .before .before .txns .given ∙ loop (next-of o) .loop .inv .2
 
 same-length-5 : tie.Need-same-length-5 Inv-loop μ-loop
-same-length-5 c = c .before .before .before .before .before .before .before .locks .given ∙ c .before .before .before .before .before .before .before .before .before .before .before .before .before .before .before .before .before .before .before .before .before .before .loop .inv .3
+same-length-5 c = let o = c .before .before .before in o .before .before .before .before .locks .given ∙ loop (next-of o) .loop .inv .3
 
 same-length-6 : tie.Need-same-length-6 Inv-loop μ-loop
-same-length-6 c = c .before .before .before .before .before .versions .given ∙ c .before .before .before .before .before .before .before .before .before .before .before .before .before .before .before .before .before .before .before .before .before .before .loop .inv .4
+same-length-6 c = let o = c .before .before .before in o .before .before .versions .given ∙ loop (next-of o) .loop .inv .4
 
 returns-2 : tie.Need-returns-2 Inv-loop μ-loop
 returns-2 c = search needs
 
 sub-left : tie.Need-sub-left Inv-loop μ-loop
-sub-left c = omega (arith, c .before .before .before .before .before .before .before .before .before .before .before .before .before .before .before .before .before .before .before .before .next-piece .ensures)
+sub-left c = omega (arith, next-of (c .before .before .before) .next-piece .ensures)
 
 loop-less : tie.Need-loop-less Inv-loop μ-loop
-loop-less c = omega (arith, c .before .before .before .before .before .before .before .before .before .before .before .before .before .before .before .before .before .before .before .before .next-piece .ensures, c .before .before .before .before .before .before .before .before .before .before .before .before .before .before .before .before .before .before .before .before .before .loop-test .taken)
+loop-less c =
+    let n = next-of (c .before .before .before) in
+    omega (arith, n .next-piece .ensures, n .before .loop-test .taken)
 
 loop-again : tie.Need-loop-again Inv-loop μ-loop
 loop-again c =
-    let i = c .before .before .before .before .before .before .before .before .before .before .before .before .before .before .before .before .before .before .before .before .before .before .loop .inv in
-    let size = c .before .before .before .before .before .before .before .before .before .before .before .before .before .before .before .before .before .before .before .before .next-piece .result * 32 in
-    let k = length-front (c .before .before .before .before .before .before .before .before .before .before .before .before .before .before .before .before .before .before .before .before .before .before .loop .input) (c .before .before .before .before .before .before .before .before .before .before .before .before .before .before .before .before .before .before .read-full .last .1 .0) size (c .before .before .before .before .before .before .before .before .before .before .before .before .before .before .before .before .before .input2 .given) in
-    (i .0 ∙ sym k, sym (c .before .before .before .output2 .given), c .before .before .before .before .before .before .before .before .before .txns .given ∙ i .2, c .before .before .before .before .before .before .before .locks .given ∙ i .3, c .before .before .before .before .before .versions .given ∙ i .4)
+    let o = c .before .before .before in
+    let r = read (answered o) in
+    let i = loop (next r) .loop .inv in
+    (i .0 ∙ sym (kept r), sym (o .output2 .given), o .before .before .before .before .before .before .txns .given ∙ i .2, o .before .before .before .before .locks .given ∙ i .3, o .before .before .versions .given ∙ i .4)
 
 same-length-7 : tie.Need-same-length-7 Inv-loop μ-loop
 same-length-7 c = c .before .loop .inv .2

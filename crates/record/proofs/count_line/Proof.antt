@@ -1,8 +1,8 @@
--- The number, and the byte behind it. Assumes nothing.
+-- The number, and the byte behind it.
 use native.Mathlib.Omega.{arith}
-use Rattle.script.specs.Print.{followed}
-use Rattle.script.proofs.Decimals.{length-decimal}
-use Rattle.script.proofs.Written.{wrote-more}
+use Rattle.numerals.specs.Print.{followed}
+use Rattle.numerals.proofs.Decimals.{length-decimal}
+use Rattle.texts.proofs.Written.{wrote-more}
 use borrow.Author.Needs.{needs}
 use Rattle.record.proofs.count_line.Statement.{statement}
 use Rattle.record.proofs.count_line.Tie as tie

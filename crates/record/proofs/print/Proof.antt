@@ -1,4 +1,4 @@
--- The line fits. Assumes nothing.
+-- The line fits.
 use mathlib.Core.Path.{sym}
 use native.Mathlib.Omega.{arith}
 use lib.Seq.{length-take-le}

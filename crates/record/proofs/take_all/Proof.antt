@@ -1,4 +1,4 @@
--- The turns count down; the two buffers keep their lengths. Assumes nothing.
+-- The turns count down; the two buffers keep their lengths.
 use mathlib.Core.Path.{_≡_, sym}
 use native.Mathlib.Omega.{arith}
 use lib.ListN.{length}

@@ -1,7 +1,7 @@
--- Eight bytes, all of them the word's. Assumes nothing.
+-- Eight bytes, all of them the word's.
 use Rattle.journal.specs.Words.{wordBytes}
 use Rattle.journal.proofs.WordLaws.{length-wordBytes}
-use Rattle.record.proofs.Putting.{put-whole}
+use Rattle.texts.proofs.Buffers.{put-whole}
 use borrow.Author.Needs.{needs}
 use Rattle.record.proofs.word.Statement.{statement}
 use Rattle.record.proofs.word.Tie as tie

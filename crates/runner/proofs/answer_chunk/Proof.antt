@@ -1,4 +1,4 @@
--- Line after line, each turn past the end of one: what is kept and the tables are those of the whole chunk. Assumes nothing.
+-- Line after line, each turn past the end of one: what is kept and the tables are those of the whole chunk.
 use Prim.Native.Nat.{_-_, _≤_}
 use mathlib.Core.Path.{_≡_, refl, sym, _∙_}
 use native.Mathlib.Omega.{arith}
@@ -6,7 +6,7 @@ use lib.ListN.{length}
 use lib.Seq.{length-take-le}
 use borrow.Author.Needs.{needs}
 use Rattle.rules.specs.Tables.{Tables, tables}
-use Rattle.script.specs.Lines.{heldBy}
+use Rattle.lines.specs.Lines.{heldBy}
 use Rattle.script.proofs.Turns.{leftFrom, line-left, none-left, end-left}
 use Rattle.runner.proofs.Replied.{afterFrom, line-after, none-after, end-after}
 use Rattle.runner.proofs.answer_chunk.Statement.{statement}

@@ -1,4 +1,4 @@
--- The reply stands at its place. Assumes nothing.
+-- The reply stands at its place.
 use mathlib.Core.Path.{ap, _∙_}
 use native.Mathlib.Omega.{arith}
 use Rattle.rules.specs.Tables.{Tables, tables}
@@ -12,8 +12,8 @@ use Rattle.runner.proofs.answer_line.Tie as tie
 room-requires : tie.Need-room-requires
 room-requires c κs = search needs
 
-parsed-requires : tie.Need-parsed-requires
-parsed-requires c κs = search needs
+read-as-requires : tie.Need-read-as-requires
+read-as-requires c κs = search needs
 
 respond-requires : tie.Need-respond-requires
 respond-requires c κs = search needs
@@ -35,7 +35,7 @@ returns c =
     let a = c .before .before .before .before .before .before .before .before .before .before .before .before .before .before .before .before .before .before .before .before .args in
     let G : Tables = tables (a .txns .now) (a .locks .now) (a .versions .now) in
     let free = c .before .before .before .before .before .before .before .before .before .before .before .before .before .before .room .ensures in
-    let said = c .before .before .before .before .before .before .before .before .before .before .before .before .before .parsed .ensures in
+    let said = c .before .before .before .before .before .before .before .before .before .before .before .before .before .read-as .ensures in
     let reply = c .before .before .before .before .before .before .before .before .respond .ensures in
     (omega (arith, reply .0, free .0), (answered G (free .1) said (reply .1 .0), reply .1 .1 ∙ ap (λ (p : Parsed). afterLine p G) said))
 
@@ -44,7 +44,7 @@ answer-line-spec =
     tie.close
     (tie.spec
     room-requires
-    parsed-requires
+    read-as-requires
     respond-requires
     same-length
     same-length-2

@@ -1,7 +1,7 @@
--- A call is made and its answer printed, else `bad`; an answer is at most 84 bytes. Assumes nothing.
+-- A call is made and its answer printed, else `bad`; an answer is at most 84 bytes.
 use native.Mathlib.Omega.{arith}
 use Rattle.rules.specs.Tables.{Tables, tables}
-use Rattle.script.proofs.Decimals.{length-answerLine}
+use Rattle.numerals.proofs.Decimals.{length-answerLine}
 use Rattle.runner.proofs.Replied.{wrote-as, call-reply, call-after, bad-reply, bad-after}
 use borrow.Author.Needs.{needs}
 use Rattle.runner.proofs.respond.Statement.{statement}

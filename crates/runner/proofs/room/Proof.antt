@@ -1,4 +1,4 @@
--- What is used fits. Assumes nothing.
+-- What is used fits.
 use mathlib.Core.Path.{sym}
 use lib.Seq.{length-take-le}
 use native.Mathlib.Omega.{arith}

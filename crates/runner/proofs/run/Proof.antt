@@ -1,4 +1,4 @@
--- The turns count down; the two buffers and the tables keep their lengths. Assumes nothing.
+-- The turns count down; the two buffers and the tables keep their lengths.
 use Prim.Native.Nat.{_-_}
 use mathlib.Core.Path.{_≡_, refl, sym, _∙_}
 use native.Mathlib.Omega.{arith}

@@ -1,4 +1,4 @@
--- The test of all tables: each part that fails makes them bad, and where all others pass the versions decide. Assumes nothing.
+-- The test of all tables: each part that fails makes them bad, and where all others pass the versions decide.
 use Prim.Native.Nat.{ℕ, _^_, _<_}
 use mathlib.Core.Path.{sym, ap, _∙_, subst}
 use mathlib.Core.Logic.{⊎-elim}
@@ -12,13 +12,13 @@ use Rattle.rules.specs.Tables.{starts}
 use Rattle.rules.specs.Tested.{distinct}
 use Rattle.rules.specs.Waits.{noCircle}
 use Rattle.rules.proofs.Tests.{and-left, and-right, and-both, true-is, false-is}
-use Rattle.tables.specs.declared.Seen.{Seen}
-use Rattle.tables.specs.Shape.{rowsGood}
-use Rattle.tables.specs.Holding.{locksGood, quotasGood}
-use Rattle.tables.specs.Waiting.{Readable, Awaiting, awaitersGood}
-use Rattle.tables.proofs.Holders.{updates-lt}
+use Rattle.shapes.specs.declared.Seen.{Seen}
+use Rattle.shapes.specs.Shape.{rowsGood}
+use Rattle.holdings.specs.Holding.{locksGood, quotasGood}
+use Rattle.waiting.specs.Waiting.{Readable, Awaiting, awaitersGood}
+use Rattle.holdings.proofs.Holders.{updates-lt}
 use Rattle.tables.proofs.Reading.{awaiting, readable}
-use Rattle.tables.proofs.Rounds.{none-awaits, none-circles}
+use Rattle.waiting.proofs.Rounds.{none-awaits, none-circles}
 use Rattle.tables.proofs.Whole.{fails, decides}
 use Rattle.tables.proofs.good.Statement.{statement}
 use Rattle.tables.proofs.good.Tie as tie

@@ -7,9 +7,9 @@ use borrow.Author.Needs.{needs}
 use borrow.Author.Tests.{leb-true, leb-false, not-true, not-false}
 use Rattle.journal.specs.Words.{wordBytes}
 use Rattle.journal.specs.Format.{recordSize}
-use Rattle.journal.specs.Written.{put}
+use Rattle.texts.specs.Written.{put}
 use Rattle.journal.proofs.RecordLaws.{fourWords, length-four}
-use Rattle.journal.proofs.Writing.{put-full, put-four}
+use Rattle.texts.proofs.Buffers.{put-full, put-four}
 use Rattle.journal.proofs.records.put_four.Statement.{statement}
 use Rattle.journal.proofs.records.put_four.Tie as tie
 

@@ -7,7 +7,7 @@ use borrow.Author.Needs.{needs}
 use borrow.Author.Tests.{leb-true, leb-false, not-true, not-false}
 use Rattle.journal.specs.Words.{wordSize, wordBytes}
 use Rattle.journal.proofs.WordLaws.{length-wordBytes}
-use Rattle.journal.proofs.Writing.{put-full, put-part}
+use Rattle.texts.proofs.Buffers.{put-full, put-part}
 use Rattle.journal.proofs.words.put_word.Statement.{statement}
 use Rattle.journal.proofs.words.put_word.Tie as tie
 

@@ -3,7 +3,7 @@ use Prim.Native.Nat.{_+_}
 use mathlib.Core.Path.{sym}
 use native.Mathlib.Omega.{arith}
 use borrow.Author.Tests.{lt-leb}
-use Rattle.journal.proofs.Writing.{room-left}
+use Rattle.texts.proofs.Buffers.{room-left}
 use Rattle.journal.proofs.words.room.Statement.{statement}
 use Rattle.journal.proofs.words.room.Tie as tie
 

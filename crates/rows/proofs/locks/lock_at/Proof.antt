@@ -1,4 +1,4 @@
--- Three words are the lock. Assumes nothing.
+-- Three words are the lock.
 use mathlib.Core.Path.{refl}
 use Rattle.rules.specs.Tables.{lock}
 use borrow.Author.Needs.{needs}

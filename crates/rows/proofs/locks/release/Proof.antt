@@ -1,4 +1,4 @@
--- The locks of the items passed are released. Assumes nothing.
+-- The locks of the items passed are released.
 use Prim.Native.Nat.{ℕ, _+_, _-_}
 use mathlib.Core.List.{List}
 use mathlib.Core.Path.{sym, ap, _∙_, subst}

@@ -1,4 +1,4 @@
--- Three words stored are the lock written. Assumes nothing.
+-- Three words stored are the lock written.
 use mathlib.Core.Path.{refl}
 use native.Mathlib.Omega.{arith}
 use lib.ListN.{length-set}

@@ -1,4 +1,4 @@
--- A lock without a slot is the lock released. Assumes nothing.
+-- A lock without a slot is the lock released.
 use Prim.Native.Nat.{suc}
 use mathlib.Core.Path.{sym, _∙_}
 use borrow.Author.Tests.{eq-eqb, ne-eqb}

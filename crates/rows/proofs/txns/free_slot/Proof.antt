@@ -1,4 +1,4 @@
--- The search goes up the slots, and what it has passed is live. Assumes nothing.
+-- The search goes up the slots, and what it has passed is live.
 use Prim.Native.Nat.{_-_, _≤_}
 use mathlib.Core.Path.{_≡_, refl, sym, ap, _∙_}
 use mathlib.Core.Bool.{true, false}

@@ -1,22 +1,21 @@
--- A word of a row is what the view reads there. Assumes nothing.
+-- A word of a row is what the view reads there.
 use Rattle.rules.specs.Tables.{txn}
 use mathlib.Core.Path.{refl}
 use borrow.Author.Needs.{needs}
 use Rattle.rows.proofs.txns.kind.Statement.{statement}
 use Rattle.rows.proofs.txns.kind.Tie as tie
-use Rattle.rows.proofs.txns.kind.Reads as reads
 
-mul-result : tie.Need-mul-result
-mul-result c = search needs
+mul-at : tie.Need-mul-at
+mul-at c = search needs
+
+add-at : tie.Need-add-at
+add-at c = search needs
 
 add-result : tie.Need-add-result
 add-result c = search needs
 
-add-result-2 : tie.Need-add-result-2
-add-result-2 c = search needs
-
-mul-result-2 : tie.Need-mul-result-2
-mul-result-2 c = search needs
+mul-result : tie.Need-mul-result
+mul-result c = search needs
 
 shared-slice-read-result : tie.Need-shared-slice-read-result
 shared-slice-read-result c = search needs
@@ -27,5 +26,4 @@ returns c = refl
 
 pub kind-spec : {M : Type 1} → statement M
 kind-spec =
-    tie.close
-    (tie.spec mul-result add-result add-result-2 mul-result-2 shared-slice-read-result returns)
+    tie.close (tie.spec mul-at add-at add-result mul-result shared-slice-read-result returns)

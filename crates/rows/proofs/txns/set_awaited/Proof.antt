@@ -1,4 +1,4 @@
--- Two words stored are the awaited fields written. Assumes nothing.
+-- Two words stored are the awaited fields written.
 use mathlib.Core.Path.{refl}
 use native.Mathlib.Omega.{arith}
 use lib.ListN.{length-set}

@@ -1,4 +1,4 @@
--- `parse` asks for the length, and hands on. Assumes nothing.
+-- `parse` asks for the length, and hands on.
 use borrow.Author.Needs.{needs}
 use borrow.Author.Tests.{le-leb, lt-leb}
 use lib.ListN.{length}

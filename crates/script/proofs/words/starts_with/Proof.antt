@@ -1,4 +1,4 @@
--- `starts_with` goes along the word: what is left of the line starts with what is left of the word exactly if the whole does. Assumes nothing.
+-- `starts_with` goes along the word: what is left of the line starts with what is left of the word exactly if the whole does.
 use borrow.Author.Needs.{needs}
 use Prim.Native.Nat.{_-_, _≤_}
 use mathlib.Core.Path.{_≡_, refl, sym, _∙_}

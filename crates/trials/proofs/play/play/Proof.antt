@@ -1,4 +1,4 @@
--- Byte after byte. Assumes nothing.
+-- Byte after byte.
 use Prim.Native.Nat.{_≤_, _-_}
 use lib.ListN.{length}
 use borrow.Author.Needs.{needs}

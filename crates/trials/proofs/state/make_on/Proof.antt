@@ -1,4 +1,4 @@
--- What is lent is no longer than the table. Assumes nothing.
+-- What is lent is no longer than the table.
 use native.Mathlib.Omega.{arith}
 use lib.ListN.{length-take}
 use borrow.Author.Needs.{needs}
@@ -14,26 +14,26 @@ least-requires-2 c κs = search needs
 least-requires-3 : tie.Need-least-requires-3
 least-requires-3 c κs = search needs
 
-slice-relend-prefix-make : tie.Need-slice-relend-prefix-make
-slice-relend-prefix-make c = search needs
+slice-relend-prefix-call : tie.Need-slice-relend-prefix-call
+slice-relend-prefix-call c = search needs
 
-slice-aggregate-make : tie.Need-slice-aggregate-make
-slice-aggregate-make c = simp length-take (omega arith)
+slice-aggregate-call : tie.Need-slice-aggregate-call
+slice-aggregate-call c = simp length-take (omega arith)
 
-slice-relend-prefix-make-2 : tie.Need-slice-relend-prefix-make-2
-slice-relend-prefix-make-2 c = search needs
+slice-relend-prefix-call-2 : tie.Need-slice-relend-prefix-call-2
+slice-relend-prefix-call-2 c = search needs
 
-slice-aggregate-make-2 : tie.Need-slice-aggregate-make-2
-slice-aggregate-make-2 c = simp length-take (omega arith)
+slice-aggregate-call-2 : tie.Need-slice-aggregate-call-2
+slice-aggregate-call-2 c = simp length-take (omega arith)
 
-slice-relend-prefix-make-3 : tie.Need-slice-relend-prefix-make-3
-slice-relend-prefix-make-3 c = search needs
+slice-relend-prefix-call-3 : tie.Need-slice-relend-prefix-call-3
+slice-relend-prefix-call-3 c = search needs
 
-slice-aggregate-make-3 : tie.Need-slice-aggregate-make-3
-slice-aggregate-make-3 c = simp length-take (omega arith)
+slice-aggregate-call-3 : tie.Need-slice-aggregate-call-3
+slice-aggregate-call-3 c = simp length-take (omega arith)
 
-make-requires : tie.Need-make-requires
-make-requires c κs = search needs
+call-requires : tie.Need-call-requires
+call-requires c κs = search needs
 
 same-length : tie.Need-same-length
 same-length c = search needs
@@ -54,13 +54,13 @@ make-on-spec =
     least-requires
     least-requires-2
     least-requires-3
-    slice-relend-prefix-make
-    slice-aggregate-make
-    slice-relend-prefix-make-2
-    slice-aggregate-make-2
-    slice-relend-prefix-make-3
-    slice-aggregate-make-3
-    make-requires
+    slice-relend-prefix-call
+    slice-aggregate-call
+    slice-relend-prefix-call-2
+    slice-aggregate-call-2
+    slice-relend-prefix-call-3
+    slice-aggregate-call-3
+    call-requires
     same-length
     same-length-2
     same-length-3

@@ -1,6 +1,6 @@
--- What was tested is what is counted. Assumes nothing.
+-- What was tested is what is counted.
 use mathlib.Core.Path.{_∙_, ap}
-use Rattle.counting.specs.Counts.{counted}
+use Rattle.tally.specs.Counts.{counted}
 use borrow.Author.Needs.{needs}
 use Rattle.trials.proofs.steps.expect.Statement.{statement}
 use Rattle.trials.proofs.steps.expect.Tie as tie

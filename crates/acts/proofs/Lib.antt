@@ -1,4 +1,0 @@
--- Laws of the acts.
-pub mod Founds
-pub mod Decided
-pub mod Conflicts

@@ -1,3 +1,0 @@
--- What the acts are proved against, besides the rules.
-pub mod Verdicts
-pub mod Cells

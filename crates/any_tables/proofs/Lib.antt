@@ -1,0 +1,2 @@
+-- Laws of cases.
+pub mod Cased

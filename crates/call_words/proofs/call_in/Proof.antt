@@ -1,0 +1,35 @@
+-- A call for each kind; the last for any other.
+use native.Mathlib.Omega.{arith}
+use borrow.Author.Tests.{ne-eqb}
+use Rattle.call_words.specs.Calls.{callIn}
+use Rattle.call_words.proofs.call_in.Statement.{statement}
+use Rattle.call_words.proofs.call_in.Tie as tie
+
+returns : tie.Need-returns
+unfolding callIn
+returns c = rw (c .match .keys1)
+
+returns-2 : tie.Need-returns-2
+unfolding callIn
+returns-2 c = rw (c .match .keys2)
+
+returns-3 : tie.Need-returns-3
+unfolding callIn
+returns-3 c = rw (c .match .keys3)
+
+returns-4 : tie.Need-returns-4
+unfolding callIn
+returns-4 c = rw (c .match .keys4)
+
+returns-5 : tie.Need-returns-5
+unfolding callIn
+returns-5 c = rw (c .match .keys5)
+
+returns-6 : tie.Need-returns-6
+unfolding callIn
+returns-6 c =
+    let k = c .before .args .fields .kind in
+    rw (ne-eqb k 1 (λ e. omega arith), ne-eqb k 2 (λ e. omega arith), ne-eqb k 3 (λ e. omega arith), ne-eqb k 4 (λ e. omega arith), ne-eqb k 5 (λ e. omega arith))
+
+pub call-in-spec : {M : Type 1} → statement M
+call-in-spec = tie.close (tie.spec returns returns-2 returns-3 returns-4 returns-5 returns-6)

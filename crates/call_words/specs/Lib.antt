@@ -1,0 +1,2 @@
+-- A call as four words.
+pub mod Calls

@@ -1,0 +1,2 @@
+-- What a search asks of the transactions.
+pub mod Searchable

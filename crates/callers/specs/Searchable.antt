@@ -1,0 +1,14 @@
+-- Transactions that can be searched.
+use Prim.Native.Nat.{ℕ, _≤_, _<_}
+use mathlib.Core.Path.{_≡_}
+use mathlib.Core.List.{List}
+use lib.ListN.{length}
+use Rattle.names.specs.Sizes.{base, lastWord}
+use Rattle.rules.specs.Tables.{txnWords, lastNumber, clock, txn}
+
+-- rows that can be searched: their number, and what the numbers are at most
+pub record Searchable (t : List ℕ) : Type 0 where
+  pub size : length t ≡ txnWords base
+  pub last : lastNumber t ≤ lastWord
+  pub now : clock t ≤ lastWord
+  pub given : (s : ℕ) → s < base .slots → (txn t s) .number ≤ lastWord

@@ -1,0 +1,122 @@
+-- The tests of the lock decision, as the code makes them.
+use Prim.Native.Nat.{ℕ, zero, suc, _+_, _-_, _*_, _/_, _%_, _^_, _<_}
+use mathlib.Core.Path.{_≡_, refl, sym, ap, _∙_, subst}
+use mathlib.Core.Logic.{_≢_}
+use mathlib.Core.Bool.{Bool, true, false, _&&_, not, cond}
+use mathlib.Core.List.{List}
+use native.Mathlib.Omega.{arith}
+use native.Mathlib.Nat.{one-mul, zero-mul}
+use lib.Bits.{bitAnd, bitOr, or-add-and, and-high}
+use lib.Pow.{pow-add}
+use lib.Dec.{T, eqb, eqb→eq}
+use borrow.Author.Tests.{eqb-true, eqb-false}
+use Rattle.names.specs.Sizes.{base}
+use Rattle.rules.specs.Words.{bit, withBit, withoutBit}
+use Rattle.rules.specs.Tables.{tables, Lock, lock, holdsShared, holdsExclusive}
+use Rattle.rules.specs.Good.{Good}
+use Rattle.rules.specs.Locks.{Asked, wanted, Cell, decision, anotherShares, anotherExcludes}
+use Rattle.rules.proofs.Tests.{and-left, and-right, and-both, ne-make, ne-use, eq-make, false-is}
+use Rattle.rules.proofs.Counts.{someBelow→, →someBelow}
+use Rattle.rules.proofs.Bits.{bit-none, bit-below, below-power, withoutBit-here, withoutBit-there}
+use Rattle.rows.specs.Founds.{lockOf}
+use Rattle.rows.specs.declared.locks.LockRow.{LockRow}
+use Rattle.words.proofs.SlotWords.{has-bit}
+use Rattle.words.proofs.Turns.{iff-eq}
+use Rattle.waiting.proofs.Handed.{good-readable}
+use Rattle.waiting.proofs.Linking.{shared-small, exclusive-small}
+use Rattle.cells.specs.Cells.{askedOf, SlotsOnly}
+
+-- ---- the tests on the others
+module _ (h : Lock) (s : ℕ) (k : SlotsOnly h) where
+  -- a shared bit besides that of s
+  pub shares-is : not (eqb (withoutBit (h .shared) s) 0) ≡ anotherShares base h s
+  unfolding anotherShares holdsShared
+  shares-is = iff-eq (not (eqb w 0)) (anotherShares base h s) forth back
+    where
+      w : ℕ
+      w = withoutBit (h .shared) s
+
+      other : (b : ℕ) → T (bit w b) → s ≢ b
+      other b t e = false-is (withoutBit-here (h .shared) s) (subst (λ (m : ℕ). T (bit w m)) (sym e) t)
+
+      forth : T (not (eqb w 0)) → T (anotherShares base h s)
+      forth t =
+          let r = has-bit w w (below-power w) (ne-use w 0 t) in
+          let b : ℕ = r .0 in
+          let d = other b (r .2) in
+          let f : T (bit (h .shared) b) = subst T (withoutBit-there (h .shared) s b (λ e. d (sym e))) (r .2) in
+          →someBelow (base .slots) (λ b. not (eqb s b) && bit (h .shared) b) b (bit-below (h .shared) b (base .slots) (k .shared) f)
+          (and-both (not (eqb s b)) _ (ne-make s b d) f)
+
+      back : T (anotherShares base h s) → T (not (eqb w 0))
+      back t =
+          let r = someBelow→ (base .slots) (λ b. not (eqb s b) && bit (h .shared) b) t in
+          let b : ℕ = r .0 in
+          let d = ne-use s b (and-left (not (eqb s b)) _ (r .2)) in
+          let f = and-right (not (eqb s b)) _ (r .2) in
+          ne-make w 0
+          (λ e. false-is (ap (λ (m : ℕ). bit m b) e ∙ bit-none b) (subst T (sym (withoutBit-there (h .shared) s b (λ e. d (sym e)))) f))
+
+  -- an exclusive holder besides s
+  pub excludes-is : (not (eqb (h .exclusive) 0) && not (eqb (h .exclusive) (s + 1))) ≡ anotherExcludes base h s
+  unfolding anotherExcludes holdsExclusive
+  excludes-is = iff-eq (not (eqb (h .exclusive) 0) && not (eqb (h .exclusive) (s + 1))) (anotherExcludes base h s) forth back
+    where
+      some : (e : ℕ) → h .exclusive ≡ e → e ≢ 0 → e ≢ s + 1 → T (anotherExcludes base h s)
+      some zero q n d = absurd (n refl)
+      some (suc b) q n d =
+          let l = k .exclusive in
+          →someBelow (base .slots) (λ b. not (eqb s b) && eqb (h .exclusive) (suc b)) b (omega arith)
+          (and-both (not (eqb s b)) _ (ne-make s b (λ e. d (omega arith))) (eq-make (h .exclusive) (suc b) q))
+
+      forth : T (not (eqb (h .exclusive) 0) && not (eqb (h .exclusive) (s + 1))) → T (anotherExcludes base h s)
+      forth t =
+          some (h .exclusive) refl (ne-use (h .exclusive) 0 (and-left (not (eqb (h .exclusive) 0)) _ t))
+          (ne-use (h .exclusive) (s + 1) (and-right (not (eqb (h .exclusive) 0)) _ t))
+
+      back : T (anotherExcludes base h s) → T (not (eqb (h .exclusive) 0) && not (eqb (h .exclusive) (s + 1)))
+      back t =
+          let r = someBelow→ (base .slots) (λ b. not (eqb s b) && eqb (h .exclusive) (suc b)) t in
+          let b : ℕ = r .0 in
+          let d = ne-use s b (and-left (not (eqb s b)) _ (r .2)) in
+          let e : h .exclusive ≡ suc b = eqb→eq (h .exclusive) (suc b) (and-right (not (eqb s b)) _ (r .2)) in
+          and-both (not (eqb (h .exclusive) 0)) _ (ne-make (h .exclusive) 0 (λ z. omega arith)) (ne-make (h .exclusive) (s + 1) (λ z. d (omega arith)))
+
+-- ---- a bit set, as the code sets it
+pub set-is : (h s : ℕ) → bitOr h (2 ^ s) ≡ withBit h s
+unfolding withBit bit
+set-is h s = go (eqb (h / 2 ^ s % 2) 1) refl
+  where
+    both : bitAnd h (2 ^ s) ≡ h / 2 ^ s % 2 * 2 ^ s
+    both =
+        let p : 2 ^ (1 + s) ≡ 2 ^ 1 * 2 ^ s = pow-add 2 1 s in
+        let m : 2 ^ (1 + s) - 2 ^ s ≡ 2 ^ s = omega arith in
+        ap (bitAnd h) (sym m) ∙ and-high h 1 s
+
+    go : (b : Bool) → eqb (h / 2 ^ s % 2) 1 ≡ b → bitOr h (2 ^ s) ≡ cond b h (h + 2 ^ s)
+    go true e =
+        let q : bitAnd h (2 ^ s) ≡ 2 ^ s = both ∙ ap (λ (n : ℕ). n * 2 ^ s) (eqb-true (h / 2 ^ s % 2) 1 e) ∙ one-mul (2 ^ s) in
+        let o = or-add-and h (2 ^ s) in
+        omega arith
+    go false e =
+        let z : h / 2 ^ s % 2 ≡ 0 = (let d = eqb-false (h / 2 ^ s % 2) 1 e in omega arith) in
+        let q : bitAnd h (2 ^ s) ≡ 0 = both ∙ ap (λ (n : ℕ). n * 2 ^ s) z ∙ zero-mul (2 ^ s) in
+        let o = or-add-and h (2 ^ s) in
+        omega arith
+
+-- ---- the cell that the code found
+pub cell-told :
+    (a : Asked) (h : Lock) (s : ℕ) (row : LockRow) → lockOf row ≡ h → {r q : Cell} → r ≡ decision base a (lockOf row) s → r ≡ q
+    → decision base a h s ≡ q
+cell-told a h s row e {r} {q} f g = ap (λ (m : Lock). decision base a m s) (sym e) ∙ (sym f ∙ g)
+
+-- ---- on good tables
+pub lock-slots : (t l v : List ℕ) → Good base (tables t l v) → (x : ℕ) → x < base .items → SlotsOnly (lock l x)
+lock-slots t l v g x i =
+    let o = good-readable t l v g in
+    record { shared = shared-small t l o x i; exclusive = exclusive-small t l o x i }
+
+pub wanted-is : (n : ℕ) → n < 2 → n + 1 ≡ wanted (askedOf n)
+wanted-is zero h = refl
+wanted-is (suc zero) h = refl
+wanted-is (suc (suc n)) h = absurd (omega arith)

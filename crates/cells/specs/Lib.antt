@@ -1,0 +1,2 @@
+-- The lock decision's words.
+pub mod Cells

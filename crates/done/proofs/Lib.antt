@@ -1,0 +1,2 @@
+-- Laws of the deeds.
+pub mod Deeds

@@ -1,0 +1,21 @@
+// An update's abort.
+use names::Answer;
+use names::Slot;
+ghost use mathlib.Core.Path.{_≡_};
+ghost use mathlib.Core.List.{List};
+ghost use Prim.Native.Nat.{ℕ, _<_};
+ghost use lib.ListN.{length};
+ghost use Rattle.names.specs.Sizes.{base};
+ghost use Rattle.rules.specs.Tables.{tables, txnWords, lockWords};
+ghost use Rattle.rules.specs.Answers.{outcome, Aborts};
+ghost use Rattle.rules.specs.Step.{done};
+
+// An update is aborted: its locks and its row go.
+pub fn aborts(txns: &mut [u64], locks: &mut [u64], slot: Slot) -> Answer
+    requires { ⌜ (length (now txns) ≡ txnWords base) × (length (now locks) ≡ lockWords base) × (slot .0 < base .slots) ⌝ }
+    ensures { λ r. ⌜ ((v : List ℕ) → outcome r (now (txns .exit)) (now (locks .exit)) v ≡ done base (Aborts slot) (tables (now (txns .entry)) (now (locks .entry)) v)) ⌝ }
+{
+    rows::leave(txns, slot);
+    rows::release(locks, slot);
+    Answer::granted()
+}

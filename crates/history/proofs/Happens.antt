@@ -1,0 +1,183 @@
+-- What happens at a call on good tables: each way that it can go, split once. Then the turn of a step (`step-turn`), and that whatever
+-- was called from fresh tables, they are good and it is known who began as an update.
+use Prim.Native.Nat.{ℕ, _+_, _≤_, _<_}
+use mathlib.Core.Path.{_≡_, refl, sym, ap, _∙_, subst}
+use mathlib.Core.Logic.{_≢_}
+use mathlib.Core.Bool.{Bool, not, cond}
+use mathlib.Core.List.{List, [], _∷_}
+use native.Mathlib.Omega.{arith}
+use lib.Dec.{T, eqb}
+use borrow.Author.Tests.{eq-eqb, ne-eqb}
+use Rattle.names.specs.declared.Sizes.{Sizes}
+use Rattle.names.specs.declared.Answer.{Answer}
+use Rattle.names.specs.Sizes.{firstStamp}
+use Rattle.rules.specs.Words.{some}
+use Rattle.rules.specs.Tables.{Tables, clock, txn, live, anUpdate, aQuery, fresh}
+use Rattle.rules.specs.Tested.{good}
+use Rattle.rules.specs.Good.{Good}
+use Rattle.rules.specs.Answers.{Call, Commit, Outcome, granted, refuses, code, Refusal, BadTables, Deed, Wait}
+use Rattle.rules.specs.Step.{queryRead, judged, done, act, step}
+use Rattle.rules.proofs.Tests.{is-true, is-false, eq-make}
+use Rattle.rules.proofs.Steps.{step-good}
+use Rattle.rules.proofs.Equal.{Good→good}
+use Rattle.rules.proofs.EqualRows.{live-number, update-live}
+use Rattle.rules.proofs.Keeps.{keeps}
+use Rattle.rules.proofs.Fresh.{fresh-good}
+use Rattle.rules.proofs.Judged.{way}
+use Rattle.rules.proofs.Ways.{refusal-code, Way, refused, waited, beganUpdate, beganQuery, readOwn, readNewest, readShared, readQuery}
+use Rattle.rules.proofs.Ways.{wroteOwn, wroteTaken, committedUpdate, committedQuery, abortedUpdate, abortedQuery}
+use Rattle.history.specs.Runs.{endOf}
+use Rattle.history.specs.Happened.{Happening, nothing, did, told, happened, begunWith, names}
+use Rattle.history.specs.ByAnswers.{byAnswer}
+use Rattle.history.proofs.Turns.{Turn, Known, known-on}
+use Rattle.history.proofs.Tables.{readAt, fresh-last}
+use Rattle.history.proofs.Seen.{seen, seen-fair}
+use Rattle.history.proofs.Moves.{refused-turn, wait-turn, begin-update-turn, begin-query-turn, own-turn, newest-turn, shared-turn, query-read-turn}
+use Rattle.history.proofs.Moves.{own-write-turn, taken-turn, commit-turn, end-turn, abort-turn}
+
+told-refused : (u : Bool) (c : Call) (a : Answer) → a .code ≢ granted → told u c a ≡ nothing
+unfolding told
+told-refused u c a d = ap (λ (b : Bool). cond b (did u c a) nothing) (ne-eqb (a .code) granted d)
+
+told-granted : (u : Bool) (c : Call) (a : Answer) → a .code ≡ granted → told u c a ≡ did u c a
+unfolding told
+told-granted u c a e = ap (λ (b : Bool). cond b (did u c a) nothing) (eq-eqb (a .code) granted e)
+
+-- ---- what happens at the call c on the tables G, with the outcome o
+pub record Happens (S : Sizes) (G : Tables) (c : Call) (o : Outcome) : Type 0 where
+  pub what : Happening
+  pub turn : Turn (S .items) (seen S G) (seen S (o .after)) c what
+  -- so it is told by how the transaction began
+  pub begun : (us : List ℕ) → Known us (seen S G) → happened us c (o .answer) ≡ what
+  -- and by the answer alone
+  pub answered : byAnswer c (o .answer) ≡ what
+  pub notBad : o .answer .code ≢ code BadTables
+
+module _ (S : Sizes) (enough : S .slots ≤ S .places) (G : Tables) (g : Good S G) where
+  abbrev TurnTo : Tables → Call → Happening → Type 0
+  TurnTo G′ c h = Turn (S .items) (seen S G) (seen S G′) c h
+
+  silent : (c : Call) (r : Refusal) (G′ : Tables) → code r ≢ code BadTables → TurnTo G′ c nothing → Happens S G c (refuses r G′)
+  unfolding happened byAnswer
+  silent c r G′ m e =
+      record {
+        what = nothing;
+        turn = e;
+        begun = λ us K. told-refused _ c _ (refusal-code r);
+        answered = told-refused _ c _ (refusal-code r);
+        notBad = m;
+      }
+
+  grants :
+      (c : Call) (o : Outcome) (h : Happening) → o .answer .code ≡ granted → TurnTo (o .after) c h
+      → ((us : List ℕ) → Known us (seen S G) → did (some (λ n. names n c) us) c (o .answer) ≡ h)
+      → byAnswer c (o .answer) ≡ h → Happens S G c o
+  unfolding happened
+  grants c o h e t f k =
+      record {
+        what = h;
+        turn = t;
+        begun = λ us K. told-granted (some (λ n. names n c) us) c (o .answer) e ∙ f us K;
+        answered = k;
+        notBad = λ z. omega arith;
+      }
+
+  -- how the transaction began does not matter
+  plainly :
+      (c : Call) (o : Outcome) (h : Happening) → o .answer .code ≡ granted → TurnTo (o .after) c h → ((u : Bool) → did u c (o .answer) ≡ h)
+      → Happens S G c o
+  unfolding byAnswer
+  plainly c o h e t f = grants c o h e t (λ us K. f _) (told-granted _ c (o .answer) e ∙ f _)
+
+  -- ---- every way
+  happens : (c : Call) (d : Deed) → Way S G c d → Happens S G c (done S d G)
+  unfolding done did told byAnswer names queryRead readAt
+  happens c d (refused r m) = silent c r G (m .0) (refused-turn S G g)
+  happens c d (waited s k x w) = silent c Wait _ (λ z. omega arith) (wait-turn S G g s k x (w .caller .inside))
+  happens c d (beganUpdate s free l) = plainly c _ _ refl (begin-update-turn S G g anUpdate firstStamp s free refl) (λ u. refl)
+  happens c d (beganQuery s free l) = plainly c _ _ refl (begin-query-turn S G g aQuery (clock (G .txns)) s free refl refl) (λ u. refl)
+  happens c d (readOwn n s x U h) = plainly c _ _ refl (own-turn S G g n s _ x U h) (λ u. refl)
+  happens c d (readNewest n s x U h) = plainly c _ _ refl (newest-turn S G g n s _ x U h) (λ u. refl)
+  happens c d (readShared n s x U h f) = plainly c _ _ refl (shared-turn S G g n s _ x U f) (λ u. refl)
+  happens c d (readQuery n s x C q b) = plainly c _ _ refl (query-read-turn S G g n s x C q b) (λ u. refl)
+  happens c d (wroteOwn n s x v U h) = plainly c _ _ refl (own-write-turn S G g n s _ x U v h) (λ u. refl)
+  happens c d (wroteTaken n s x v U h alone q) = plainly c _ _ refl (taken-turn S G g n s _ x U v alone) (λ u. refl)
+  happens c d (committedUpdate n s C u l) =
+      grants c _ _ refl (commit-turn S G g enough n s C (eq-make n n refl) u)
+      (λ us K.
+      ap (λ (b : Bool). did b (Commit n) ((done S d G) .answer))
+      (is-true (some (eqb n) us) (subst (λ (m : ℕ). T (some (eqb m) us)) (C .name) (K .updates s (C .inside, u)))))
+      (ap (λ (b : Bool). told (not b) (Commit n) ((done S d G) .answer)) (ne-eqb (clock (G .txns) + 1) 0 (λ z. omega arith)))
+  happens c d (committedQuery n s C q) =
+      grants c _ _ refl (end-turn S G g enough n s C (eq-make n n refl) q)
+      (λ us K.
+      ap (λ (b : Bool). did b (Commit n) ((done S d G) .answer))
+      (is-false (some (eqb n) us) (λ a. K .queries s (C .inside, q) (subst (λ (m : ℕ). T (some (eqb m) us)) (sym (C .name)) a))))
+      refl
+  happens c d (abortedUpdate n s C u) = plainly c _ _ refl (abort-turn S G g enough n s C (eq-make n n refl) u) (λ u. refl)
+  happens c d (abortedQuery n s C q) = plainly c _ _ refl (end-turn S G g enough n s C (eq-make n n refl) q) (λ u. refl)
+
+-- ---- a step
+module _ (S : Sizes) (enough : S .slots ≤ S .places) where
+  pub acts : (c : Call) (G : Tables) → Good S G → step S c G ≡ act S c G
+  acts c G g = step-good S c G (is-true (good S G) (Good→good S G g))
+
+  pub step-happens : (c : Call) (G : Tables) → Good S G → Happens S G c (step S c G)
+  unfolding act
+  step-happens c G g = subst (λ (o : Outcome). Happens S G c o) (sym (acts c G g)) (happens S enough G g c (judged S c G) (way S G g c))
+
+  module _ (c : Call) (G : Tables) (g : Good S G) (us : List ℕ) (K : Known us (seen S G)) where
+    abbrev h : Happening
+    h = happened us c ((step S c G) .answer)
+
+    pub step-turn : Turn (S .items) (seen S G) (seen S ((step S c G) .after)) c h
+    step-turn =
+        let H = step-happens c G g in
+        subst (λ (h : Happening). Turn (S .items) (seen S G) (seen S ((step S c G) .after)) c h) (sym (H .begun us K)) (H .turn)
+
+    -- that of a granted call
+    pub granted-turn :
+        (step S c G) .answer .code ≡ granted
+        → Turn (S .items) (seen S G) (seen S ((step S c G) .after)) c (did (some (λ n. names n c) us) c ((step S c G) .answer))
+    unfolding happened
+    granted-turn e =
+        subst (λ (h : Happening). Turn (S .items) (seen S G) (seen S ((step S c G) .after)) c h)
+        (told-granted (some (λ n. names n c) us) c ((step S c G) .answer) e) step-turn
+
+    pub step-known : Known (begunWith h us) (seen S ((step S c G) .after))
+    step-known = known-on (S .items) (seen S G) (seen S ((step S c G) .after)) (seen-fair S G g) us K step-turn
+
+  -- ---- a run
+  pub good-run : (cs : List Call) (G : Tables) → Good S G → Good S (endOf S cs G)
+  unfolding endOf
+  good-run [] G g = g
+  good-run (c ∷ cs) G g = good-run cs ((step S c G) .after) (keeps S enough c G g)
+
+  known-end : (cs : List Call) (us : List ℕ) (G : Tables) → Good S G → Known us (seen S G) → (vs : List ℕ) × Known vs (seen S (endOf S cs G))
+  unfolding endOf
+  known-end [] us G g K = (us, K)
+  known-end (c ∷ cs) us G g K = known-end cs _ ((step S c G) .after) (keeps S enough c G g) (step-known c G g us K)
+
+  module _ (room : 1 ≤ S .places) where
+    -- nobody lives in fresh tables: no number was given
+    pub nobody : (s : ℕ) → s < S .slots → T (live (txn ((fresh S) .txns) s)) → ⊥
+    nobody s i h =
+        let a = fresh-good S room .txnGood s i .given in
+        let b = fresh-last S in
+        live-number (txn ((fresh S) .txns) s) h (omega arith)
+
+    pub fresh-known : Known [] (seen S (fresh S))
+    unfolding some
+    fresh-known =
+        record {
+          updates = λ s u. absurd (nobody s (u .0) (update-live (txn ((fresh S) .txns) s) (u .1) .0));
+          queries = λ s q a. a;
+          given = λ n a. absurd a;
+        }
+
+    -- whatever was called: every table that a run passes through is the end of its first calls
+    pub run-good : (cs : List Call) → Good S (endOf S cs (fresh S))
+    run-good cs = good-run cs (fresh S) (fresh-good S room)
+
+    pub run-known : (cs : List Call) → (us : List ℕ) × Known us (seen S (endOf S cs (fresh S)))
+    run-known cs = known-end cs [] (fresh S) (fresh-good S room) fresh-known

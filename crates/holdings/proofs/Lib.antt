@@ -1,0 +1,4 @@
+-- Laws of the pass over the locks.
+pub mod Holders
+pub mod Counting
+pub mod Quotas

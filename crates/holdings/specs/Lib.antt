@@ -1,0 +1,2 @@
+-- What the test of the locks is proved against, besides the rules.
+pub mod Holding

@@ -1,0 +1,3 @@
+-- Laws of the judging.
+pub mod Conflicts
+pub mod Exits

@@ -1,0 +1,2 @@
+-- What the judging asks of the tables that it reads.
+pub mod Searched

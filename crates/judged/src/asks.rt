@@ -1,0 +1,118 @@
+// A read and a write.
+use cells::TO_READ;
+use cells::TO_WRITE;
+use names::Cell;
+use names::Deed;
+use names::EXCLUSIVE_LOCK;
+use names::Item;
+use names::ItemOf;
+use names::QUERY_KIND;
+use names::Refusal;
+use names::SHARED_LOCK;
+use names::Slot;
+use rows::Found;
+ghost use mathlib.Core.Path.{_≡_};
+ghost use Prim.Native.Nat.{_<_};
+ghost use Rattle.names.specs.Sizes.{base};
+ghost use Rattle.rules.specs.Tables.{tables};
+ghost use Rattle.rules.specs.Good.{Good};
+ghost use Rattle.rules.specs.Step.{access, conflicted, readBy, writeBy};
+ghost use Rattle.cells.specs.Cells.{askedOf};
+ghost use Rattle.judged.specs.Searched.{Asks, ofLocks};
+use callers::awaits_other;
+use callers::find;
+use callers::writes_further;
+
+// A wait, or a deadlock where the wait would close a circle.
+fn conflict(txns: &[u64], locks: &[u64], slot: Slot, lock: u64, item: Item) -> Deed
+    requires { ⌜ Asks (now txns) (now locks) (slot .0) lock (item .0) ⌝ }
+    ensures { λ r. ⌜ r ≡ conflicted base (slot .0) lock (item .0) (ofLocks (now (txns .entry)) (now (locks .entry))) ⌝ }
+{
+    let row = rows::lock_at(locks, item);
+    let s = slot.0;
+    let from = waiting::blockers(row.shared, row.exclusive, lock, s);
+    let waiters = waiting::waits(txns, locks);
+    let links = waiters.links;
+    if circles::reaches(&links, from, s) {
+        return Deed::Refused(Refusal::Deadlock);
+    }
+    Deed::Waits(slot, lock, item)
+}
+
+// What the cell of the lock table comes to: asked is 0 to read, 1 to write this value.
+fn access(
+    txns: &[u64],
+    locks: &[u64],
+    versions: &[u64],
+    slot: Slot,
+    item: Item,
+    asked: u64,
+    value: u64,
+) -> Deed
+    requires { ⌜ Good base (tables (now txns) (now locks) (now versions)) × (slot .0 < base .slots) × (item .0 < base .items) × (asked < 2) ⌝ }
+    ensures { λ r. ⌜ r ≡ access base (askedOf asked) (slot .0) (item .0) value (tables (now (txns .entry)) (now (locks .entry)) (now (versions .entry))) ⌝ }
+{
+    let row = rows::lock_at(locks, item);
+    let cell = cells::decision(asked, row, slot);
+    match cell {
+        Cell::OwnValue => Deed::ReadsOwn(slot, item),
+        Cell::NewestValue => Deed::ReadsNewest(slot, item),
+        Cell::TakeShared => Deed::TakesShared(slot, item),
+        Cell::ReplaceValue => Deed::Replaces(slot, item, value),
+        Cell::ExchangeLock => Deed::TakesExclusive(slot, item, value),
+        Cell::TakeExclusive => Deed::TakesExclusive(slot, item, value),
+        Cell::Conflict => conflict(txns, locks, slot, asked + 1, item),
+    }
+}
+
+pub fn read_by(txns: &[u64], locks: &[u64], versions: &[u64], number: u64, item: u64) -> Deed
+    requires { ⌜ Good base (tables (now txns) (now locks) (now versions)) ⌝ }
+    ensures { λ r. ⌜ r ≡ readBy base number item (tables (now (txns .entry)) (now (locks .entry)) (now (versions .entry))) ⌝ }
+{
+    let found = find(txns, number);
+    let Found::At(slot) = found else {
+        return Deed::Refused(Refusal::UnknownTransaction);
+    };
+    let of = Item::of(item);
+    let ItemOf::Known(x) = of else {
+        return Deed::Refused(Refusal::UnknownItem);
+    };
+    if awaits_other(txns, slot, SHARED_LOCK, item) {
+        return Deed::Refused(Refusal::StillWaiting);
+    }
+    if rows::kind(txns, slot) == QUERY_KIND {
+        return Deed::ReadsByStart(slot, x);
+    }
+    access(txns, locks, versions, slot, x, TO_READ, 0)
+}
+
+pub fn write_by(
+    txns: &[u64],
+    locks: &[u64],
+    versions: &[u64],
+    number: u64,
+    item: u64,
+    value: u64,
+) -> Deed
+    requires { ⌜ Good base (tables (now txns) (now locks) (now versions)) ⌝ }
+    ensures { λ r. ⌜ r ≡ writeBy base number item value (tables (now (txns .entry)) (now (locks .entry)) (now (versions .entry))) ⌝ }
+{
+    let found = find(txns, number);
+    let Found::At(slot) = found else {
+        return Deed::Refused(Refusal::UnknownTransaction);
+    };
+    let of = Item::of(item);
+    let ItemOf::Known(x) = of else {
+        return Deed::Refused(Refusal::UnknownItem);
+    };
+    if rows::kind(txns, slot) == QUERY_KIND {
+        return Deed::Refused(Refusal::QueryMayNotWrite);
+    }
+    if awaits_other(txns, slot, EXCLUSIVE_LOCK, item) {
+        return Deed::Refused(Refusal::StillWaiting);
+    }
+    if writes_further(locks, slot, x) {
+        return Deed::Refused(Refusal::QuotaSpent);
+    }
+    access(txns, locks, versions, slot, x, TO_WRITE, value)
+}

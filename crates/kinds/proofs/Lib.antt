@@ -1,2 +1,0 @@
--- Fields are a call exactly where they are some call's fields.
-pub mod Words

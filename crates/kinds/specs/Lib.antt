@@ -1,2 +1,0 @@
--- A call as four words.
-pub mod Kinds

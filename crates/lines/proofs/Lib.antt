@@ -1,0 +1,4 @@
+-- Laws of lines.
+pub mod Holding
+pub mod Cutting
+pub mod Examples

@@ -1,0 +1,2 @@
+-- How input is cut into lines.
+pub mod Lines

@@ -1,0 +1,78 @@
+-- Where each word stands: the head and the rows of the transactions, the rows of the locks and of the versions, and what the
+-- words of a kind and of an awaited lock mean. names/src/layout.rt has the same for the code.
+use Prim.Native.Nat.{ℕ}
+
+-- ---- "Transactions, 82 words: last number given; clock (stamp of the latest update commit); then 16 rows of 5"
+abbrev pub lastNumberAt : ℕ
+lastNumberAt = 0
+
+abbrev pub clockAt : ℕ
+clockAt = 1
+
+abbrev pub txnHead : ℕ
+txnHead = 2
+
+-- in a row: "number (0 is free), kind (0 update, 1 query), start stamp (0 for an update), awaited lock (0 none, 1 shared,
+-- 2 exclusive), awaited item (0 if none)"
+abbrev pub txnNumberAt : ℕ
+txnNumberAt = 0
+
+abbrev pub txnKindAt : ℕ
+txnKindAt = 1
+
+abbrev pub txnStartAt : ℕ
+txnStartAt = 2
+
+abbrev pub txnLockAt : ℕ
+txnLockAt = 3
+
+abbrev pub txnItemAt : ℕ
+txnItemAt = 4
+
+abbrev pub txnRow : ℕ
+txnRow = 5
+
+-- the kinds
+abbrev pub anUpdate : ℕ
+anUpdate = 0
+
+abbrev pub aQuery : ℕ
+aQuery = 1
+
+-- the locks that are awaited
+abbrev pub noLock : ℕ
+noLock = 0
+
+abbrev pub sharedLock : ℕ
+sharedLock = 1
+
+abbrev pub exclusiveLock : ℕ
+exclusiveLock = 2
+
+-- ---- "Locks, 192 words: 64 rows of 3: shared holders (bit i for slot i), exclusive holder (slot plus 1, 0 for none), working
+-- value."
+abbrev pub lockSharedAt : ℕ
+lockSharedAt = 0
+
+abbrev pub lockExclusiveAt : ℕ
+lockExclusiveAt = 1
+
+abbrev pub lockWorkingAt : ℕ
+lockWorkingAt = 2
+
+abbrev pub lockRow : ℕ
+lockRow = 3
+
+-- ---- "Versions, 2,112 words: 64 rows of 33: a count, then 16 pairs of stamp and value": the first pair's places; the others
+-- stand a pair's words further each
+abbrev pub versionCountAt : ℕ
+versionCountAt = 0
+
+abbrev pub versionStampAt : ℕ
+versionStampAt = 1
+
+abbrev pub versionValueAt : ℕ
+versionValueAt = 2
+
+abbrev pub versionPair : ℕ
+versionPair = 2

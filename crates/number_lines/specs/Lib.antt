@@ -1,0 +1,2 @@
+-- How a line is read as numbers.
+pub mod Lines

@@ -1,0 +1,4 @@
+-- Laws of the row writer.
+pub mod Keep
+pub mod Pack
+pub mod Renew

@@ -1,0 +1,2 @@
+-- What the row writer is proved against, besides the rules.
+pub mod Packed

@@ -1,3 +1,0 @@
--- What is recorded of a script.
-pub mod Records
-pub mod Files

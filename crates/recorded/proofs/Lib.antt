@@ -1,0 +1,3 @@
+-- Whatever script is recorded, its file is a journal that the judge accepts.
+pub mod Filed
+pub mod Accepted

@@ -1,0 +1,2 @@
+-- The whole file, as it is written.
+pub mod Files

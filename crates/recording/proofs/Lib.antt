@@ -1,0 +1,3 @@
+-- Laws of what is recorded.
+pub mod Taking
+pub mod Answering

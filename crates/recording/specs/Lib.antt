@@ -1,0 +1,2 @@
+-- What is recorded of a script.
+pub mod Records

@@ -1,0 +1,3 @@
+-- Laws of the pass over the transaction rows.
+pub mod Masks
+pub mod Seeing

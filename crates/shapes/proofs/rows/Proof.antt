@@ -1,0 +1,163 @@
+-- The pass over the rows sees what the rules ask of them, who is a live update and who waits.
+use Prim.Native.Nat.{ℕ, _-_}
+use mathlib.Core.Path.{_≡_, ap, _∙_}
+use mathlib.Core.Logic.{⊎-elim}
+use native.Mathlib.Omega.{arith}
+use borrow.Author.Needs.{needs}
+use Rattle.names.specs.Sizes.{base}
+use Rattle.rules.specs.Words.{everyBelow}
+use Rattle.rules.specs.Tables.{txn, liveUpdate}
+use Rattle.rules.specs.Tested.{topsMost}
+use mathlib.Core.Bool.{_&&_}
+use Rattle.shapes.specs.Shape.{rowGood, rowsGood, slotsThat, updatesIn, waitingIn, waits}
+use Rattle.shapes.proofs.Seeing.{free-same, update-same, query-same, free-idle, update-live, query-idle}
+use Rattle.shapes.proofs.Seeing.{Passed, passed-begin, passed-other, passed-still, passed-waits}
+use Rattle.shapes.proofs.rows.Statement.{statement}
+use Rattle.shapes.proofs.rows.Tie as tie
+
+abbrev Inv-loop : tie.InvT-loop
+Inv-loop txns last clock ok₀ updates₀ waiting₀ slot₀ ok updates waiting slot = Passed txns ok updates waiting slot
+
+abbrev μ-loop : tie.MeasureT-loop
+μ-loop txns last clock ok₀ updates₀ waiting₀ slot₀ ok updates waiting slot = base .slots - slot
+
+shared-slice-read-last : tie.Need-shared-slice-read-last Inv-loop μ-loop
+shared-slice-read-last c = search needs
+
+shared-slice-read-clock : tie.Need-shared-slice-read-clock Inv-loop μ-loop
+shared-slice-read-clock c = search needs
+
+loop-holds : tie.Need-loop-holds Inv-loop μ-loop
+unfolding topsMost
+loop-holds c = passed-begin _
+
+mul-at : tie.Need-mul-at Inv-loop μ-loop
+mul-at c = omega arith
+
+add-at : tie.Need-add-at Inv-loop μ-loop
+add-at c = omega arith
+
+mul-number : tie.Need-mul-number Inv-loop μ-loop
+mul-number c = omega arith
+
+shared-slice-read-number : tie.Need-shared-slice-read-number Inv-loop μ-loop
+shared-slice-read-number c = omega arith
+
+add-kind : tie.Need-add-kind Inv-loop μ-loop
+add-kind c = omega arith
+
+mul-kind : tie.Need-mul-kind Inv-loop μ-loop
+mul-kind c = omega arith
+
+shared-slice-read-kind : tie.Need-shared-slice-read-kind Inv-loop μ-loop
+shared-slice-read-kind c = omega arith
+
+add-start : tie.Need-add-start Inv-loop μ-loop
+add-start c = omega arith
+
+mul-start : tie.Need-mul-start Inv-loop μ-loop
+mul-start c = omega arith
+
+shared-slice-read-start : tie.Need-shared-slice-read-start Inv-loop μ-loop
+shared-slice-read-start c = omega arith
+
+add-wanted : tie.Need-add-wanted Inv-loop μ-loop
+add-wanted c = omega arith
+
+mul-wanted : tie.Need-mul-wanted Inv-loop μ-loop
+mul-wanted c = omega arith
+
+shared-slice-read-wanted : tie.Need-shared-slice-read-wanted Inv-loop μ-loop
+shared-slice-read-wanted c = omega arith
+
+add-item : tie.Need-add-item Inv-loop μ-loop
+add-item c = omega arith
+
+mul-item : tie.Need-mul-item Inv-loop μ-loop
+mul-item c = omega arith
+
+shared-slice-read-item : tie.Need-shared-slice-read-item Inv-loop μ-loop
+shared-slice-read-item c = omega arith
+
+free-ok-requires : tie.Need-free-ok-requires Inv-loop μ-loop
+free-ok-requires c κs = tt
+
+update-ok-requires : tie.Need-update-ok-requires Inv-loop μ-loop
+update-ok-requires c κs = tt
+
+shl-updates : tie.Need-shl-updates Inv-loop μ-loop
+shl-updates c = search needs
+
+shl-waiting : tie.Need-shl-waiting Inv-loop μ-loop
+shl-waiting c = search needs
+
+query-ok-requires : tie.Need-query-ok-requires Inv-loop μ-loop
+query-ok-requires c κs = tt
+
+add-slot : tie.Need-add-slot Inv-loop μ-loop
+add-slot c = omega arith
+
+loop-less : tie.Need-loop-less Inv-loop μ-loop
+loop-less c = omega arith
+
+loop-again : tie.Need-loop-again Inv-loop μ-loop
+unfolding txn
+loop-again c =
+    let t = c .before .before .before .before .before .before .before .before .before .before .before .args .txns .now in
+    let r = txn t (c .before .before .before .before .before .before .before .loop .slot) in
+    let h = c .before .before .before .before .before .before .before .loop .inv in
+    let l = c .before .before .before .before .before .before .loop-test .taken in
+    ⊎-elim
+    (λ w. passed-other t h l (w .2) (w .1 .ensures ∙ free-same t r (w .0 .taken)) (free-idle r (w .0 .taken)) (w .3) (w .4))
+    (⊎-elim
+    (λ w. passed-waits t h l (w .4) (w .2 .ensures ∙ update-same t r (w .0 .left) (w .1 .taken)) (update-live r (w .0 .left) (w .1 .taken)) (w .3 .taken) (w .5) (w .6))
+    (⊎-elim
+    (λ w. passed-still t h l (w .4) (w .2 .ensures ∙ update-same t r (w .0 .left) (w .1 .taken)) (update-live r (w .0 .left) (w .1 .taken)) (w .3 .left) (w .5) (w .6))
+    (λ w. passed-other t h l (w .3) (w .2 .ensures ∙ query-same t r (w .0 .left) (w .1 .left)) (query-idle r (w .0 .left) (w .1 .left)) (w .4) (w .5))))
+    (c .if1 .came)
+
+returns : tie.Need-returns Inv-loop μ-loop
+unfolding rowsGood updatesIn waitingIn
+returns c =
+    let t = c .before .before .before .before .before .args .txns .now in
+    let h = c .before .loop .inv in
+    let e : c .before .loop .slot ≡ base .slots = (let k = h .within in omega arith) in
+    let ok = h .shaped ∙ ap (λ (n : ℕ). topsMost t && everyBelow n (λ s. rowGood base t (txn t s))) e in
+    let updates = h .ofUpdates ∙ ap (λ (n : ℕ). slotsThat n (λ s. liveUpdate (txn t s))) e in
+    let waiting = h .ofWaiting ∙ ap (λ (n : ℕ). slotsThat n (λ s. waits (txn t s))) e in
+    λ i. record { ok = ok i; updates = updates i; waiting = waiting i }
+
+pub rows-spec : {M : Type 1} → statement M
+rows-spec =
+    tie.close
+    (tie.spec
+    Inv-loop
+    μ-loop
+    shared-slice-read-last
+    shared-slice-read-clock
+    loop-holds
+    mul-at
+    add-at
+    mul-number
+    shared-slice-read-number
+    add-kind
+    mul-kind
+    shared-slice-read-kind
+    add-start
+    mul-start
+    shared-slice-read-start
+    add-wanted
+    mul-wanted
+    shared-slice-read-wanted
+    add-item
+    mul-item
+    shared-slice-read-item
+    free-ok-requires
+    update-ok-requires
+    shl-updates
+    shl-waiting
+    query-ok-requires
+    add-slot
+    loop-less
+    loop-again
+    returns)

@@ -1,0 +1,2 @@
+-- What the test of the transaction rows is proved against, besides the rules.
+pub mod Shape

@@ -1,0 +1,3 @@
+-- Laws of the starts in order.
+pub mod Fill
+pub mod Between

@@ -1,0 +1,2 @@
+-- What the starts in order are proved against.
+pub mod Ordered

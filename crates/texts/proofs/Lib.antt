@@ -1,0 +1,4 @@
+-- Laws of text in lent bytes.
+pub mod Places
+pub mod Written
+pub mod Buffers

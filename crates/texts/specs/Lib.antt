@@ -1,0 +1,2 @@
+-- Text written over lent bytes.
+pub mod Written

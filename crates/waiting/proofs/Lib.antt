@@ -1,0 +1,5 @@
+-- Laws of the waits as words of slots.
+pub mod Blocking
+pub mod Linking
+pub mod Rounds
+pub mod Handed

@@ -1,0 +1,2 @@
+-- What the waits are proved against, besides the rules.
+pub mod Waiting

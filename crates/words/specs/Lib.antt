@@ -1,0 +1,2 @@
+-- What a pass over words is proved against.
+pub mod Zeros
