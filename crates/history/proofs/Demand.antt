@@ -6,11 +6,11 @@ use Rattle.names.specs.declared.Sizes.{Sizes}
 use Rattle.names.specs.Sizes.{base}
 use Rattle.rules.specs.Answers.{Call}
 use Rattle.history.specs.Serial.{Serializes}
-use Rattle.history.specs.Undisturbed.{Undisturbed}
+use Rattle.history.specs.Undisturbed.{ReadsAsBegun, Undisturbed}
 use Rattle.history.specs.Ended.{EndedForEver}
 use Rattle.history.specs.Beside.{Beside}
 use Rattle.history.proofs.Theorem.{serializes}
-use Rattle.history.proofs.Query.{undisturbed}
+use Rattle.history.proofs.Query.{reads-as-begun, undisturbed}
 use Rattle.history.proofs.Happens.{run-good}
 use Rattle.history.proofs.Ended.{run-never-bad, ended-for-ever}
 use Rattle.history.proofs.Numbers.{upward}
@@ -20,6 +20,9 @@ use Rattle.history.proofs.ByAnswers.{told-by-answers}
 module _ (S : Sizes) (enough : S .slots ≤ S .places) (room : 1 ≤ S .places) where
   pub demand-3-sizes : ((cs : List Call) → Serializes S cs) × Undisturbed S
   demand-3-sizes = (serializes S enough room, undisturbed S enough room)
+
+  pub reads-sizes : ReadsAsBegun S
+  reads-sizes = reads-as-begun S enough room
 
   pub beside-sizes : ((cs : List Call) → Beside S cs) × EndedForEver S
   beside-sizes = (
@@ -36,6 +39,10 @@ module _ (S : Sizes) (enough : S .slots ≤ S .places) (room : 1 ≤ S .places) 
 -- ---- of the appliance's
 pub demand-3 : ((cs : List Call) → Serializes base cs) × Undisturbed base
 demand-3 = demand-3-sizes base (omega arith) (omega arith)
+
+-- demand 2: "a query reads the newest version committed when it began"
+pub demand-2-query : ReadsAsBegun base
+demand-2-query = reads-sizes base (omega arith) (omega arith)
 
 pub demand-3-beside : ((cs : List Call) → Beside base cs) × EndedForEver base
 demand-3-beside = beside-sizes base (omega arith) (omega arith)

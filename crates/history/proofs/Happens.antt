@@ -102,7 +102,7 @@ module _ (S : Sizes) (enough : S .slots ≤ S .places) (G : Tables) (g : Good S 
   happens c d (readQuery n s x C q b) = plainly c _ _ refl (query-read-turn S G g n s x C q b) (λ u. refl)
   happens c d (wroteOwn n s x v U h) = plainly c _ _ refl (own-write-turn S G g n s _ x U v h) (λ u. refl)
   happens c d (wroteTaken n s x v U h alone q) = plainly c _ _ refl (taken-turn S G g n s _ x U v alone) (λ u. refl)
-  happens c d (committedUpdate n s C u l) =
+  happens c d (committedUpdate n s C u i l) =
       grants c _ _ refl (commit-turn S G g enough n s C (eq-make n n refl) u)
       (λ us K.
       ap (λ (b : Bool). did b (Commit n) ((done S d G) .answer))

@@ -1,4 +1,4 @@
--- "Calls by others after a query began never alter the numbers it reads."
+-- "a query reads the newest version committed when it began"; "Calls by others after a query began never alter the numbers it reads."
 use Prim.Native.Nat.{ℕ}
 use mathlib.Core.Bool.{cond}
 use mathlib.Core.List.{List, [], _∷_, _++_}
@@ -6,10 +6,21 @@ use mathlib.Core.Path.{_≡_}
 use Rattle.names.specs.declared.Sizes.{Sizes}
 use Rattle.names.specs.declared.Answer.{Answer}
 use Rattle.rules.specs.Tables.{fresh}
-use Rattle.rules.specs.Answers.{Call, BeginQuery, granted}
+use Rattle.rules.specs.Versions.{newest}
+use Rattle.rules.specs.Answers.{Call, BeginQuery, Read, granted}
 use Rattle.rules.specs.Step.{step}
-use Rattle.history.specs.Runs.{Event, run, endOf}
+use Rattle.history.specs.Runs.{Event, run, endOf, Every}
 use Rattle.history.specs.Happened.{names}
+
+-- "a query reads the newest version committed when it began": after the calls `before` from fresh tables a query begins under the
+-- number n. In whatever follows, every read that is granted to it gives the newest value of before its begin
+unfoldable pub ReadsAsBegun : Sizes → Type 0
+ReadsAsBegun S =
+    (before cs : List Call) (n : ℕ)
+    → let G = endOf S before (fresh S) in
+    let o = step S BeginQuery G in
+    o .answer .code ≡ granted → o .answer .number ≡ n
+    → Every (λ e. (x : ℕ) → e .call ≡ Read n x → e .answer .code ≡ granted → e .answer .value ≡ newest S (G .versions) x) (run S cs (o .after))
 
 -- the calls that name the transaction n
 unfoldable pub callsOf : ℕ → List Call → List Call

@@ -11,6 +11,7 @@ use Rattle.rules.specs.Tested.{good}
 use Rattle.rules.specs.Answers.{Call, code, Refusal, BadTables, Outcome}
 use Rattle.rules.specs.Step.{step, act}
 use Rattle.rules.specs.Conditions.{When, order, Answered}
+use Rattle.rules.specs.Promises.{CodeExactly}
 use Rattle.rules.proofs.Tests.{true-is, false-is}
 use Rattle.rules.proofs.Equal.{good→Good, Good→good}
 use Rattle.rules.proofs.Steps.{step-good, step-bad}
@@ -41,7 +42,7 @@ answered S c G = go (good S G) refl
     go false e =
         subst (λ (o : Outcome). Answered S c G (order c) (o .answer .code)) (sym (step-bad S c G e)) (on-bad S c G (λ g. false-is e (Good→good S G g)))
 
-pub code-exactly : (S : Sizes) (c : Call) (G : Tables) (k : ℕ) → ((step S c G) .answer .code ≡ k) ↔ Answered S c G (order c) k
+pub code-exactly : (S : Sizes) → CodeExactly S
 code-exactly S c G k = (
   λ e. subst (Answered S c G (order c)) e (answered S c G),
   λ h. answered-once S c G (order c) ((step S c G) .answer .code) k (answered S c G) h,

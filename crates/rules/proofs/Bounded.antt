@@ -162,7 +162,7 @@ module _ (B : ℕ) where
             (found _ _ (value-at vs (b .values x i) (place start vs)) (place-bound start x i), b)
         way-bounded c d a (wroteOwn n s x v u h) = (bare 0 (omega arith), locked-bounded s x (u .known) (replaced (lock (G .locks) x) v) a)
         way-bounded c d a (wroteTaken n s x v u h f r) = (bare 0 (omega arith), locked-bounded s x (u .known) (taken (lock (G .locks) x) s v) a)
-        way-bounded c d a (committedUpdate n s C u l) = (bare (clock (G .txns) + 1) (let m = g .clockMost in omega arith), committed-bounded s (C .inside) u)
+        way-bounded c d a (committedUpdate n s C u i l) = (bare (clock (G .txns) + 1) (let m = g .clockMost in omega arith), committed-bounded s (C .inside) u)
         way-bounded c d a (committedQuery n s C q) = (bare 0 (omega arith), ended-bounded s (C .inside))
         way-bounded c d a (abortedUpdate n s C u) = (bare 0 (omega arith), aborted-bounded s)
         way-bounded c d a (abortedQuery n s C q) = (bare 0 (omega arith), ended-bounded s (C .inside))

@@ -1,4 +1,4 @@
--- The transaction that a call names, the free slot, and the caller's kind. Assumes nothing.
+-- The transaction that a call names, the free slot, and the caller's kind.
 use Prim.Native.Nat.{ℕ, _≤_, _<_}
 use mathlib.Core.Path.{_≡_, refl, sym, _∙_, subst}
 use mathlib.Core.Logic.{_≢_, _⊎_, inl, inr}
@@ -11,15 +11,10 @@ use Rattle.names.specs.declared.Sizes.{Sizes}
 use Rattle.rules.specs.Tables.{Tables, txn, live, liveUpdate, liveQuery, slotOf, freeSlot, anUpdate, aQuery}
 use Rattle.rules.specs.Good.{Good}
 use Rattle.rules.specs.Answers.{Call}
+pub use Rattle.rules.specs.Conditions.{Caller, Free}
 use Rattle.rules.specs.Conditions.{Names, CallerIn}
 use Rattle.rules.proofs.Tests.{and-left, and-right, and-both, true-is, not-make, not-use, eq-make, same?}
 use Rattle.rules.proofs.Counts.{first-le, first-passes, first-least}
-
--- the transaction with the number n lives in slot s
-pub record Caller (S : Sizes) (G : Tables) (n s : ℕ) : Type 0 where
-  pub inside : s < S .slots
-  pub alive : T (live (txn (G .txns) s))
-  pub name : (txn (G .txns) s) .number ≡ n
 
 -- ---- the slot that is found under a number
 -- the test that slotOf makes
@@ -85,10 +80,6 @@ caller-found S G g s n i a e = go (same? (slotOf S (G .txns) n) s)
     go (inr d) = absurd (g .distinct (slotOf S (G .txns) n) s (C .inside) i d a (C .name ∙ sym e))
 
 -- ---- the lowest free slot
-pub record Free (S : Sizes) (t : List ℕ) (s : ℕ) : Type 0 where
-  pub inside : s < S .slots
-  pub free : T (live (txn t s)) → ⊥
-  pub lowest : (r : ℕ) → r < s → T (live (txn t r))
 
 -- a slot that is not live is not before the one that is found
 free-before : (S : Sizes) (t : List ℕ) (r : ℕ) → r < S .slots → r < freeSlot S t → T (live (txn t r))

@@ -1,5 +1,5 @@
 -- Which words an update's commit and a query's end change: the version row of an item that the committer does not hold exclusively
--- keeps every word. Assumes nothing.
+-- keeps every word.
 use Prim.Native.Nat.{ℕ, zero, suc, _+_, _-_, _*_, _≤_, _<_}
 use mathlib.Core.Path.{_≡_, refl, sym, ap, _∙_, subst}
 use mathlib.Core.Logic.{_≢_, _⊎_, inl, inr}
@@ -11,12 +11,14 @@ use lib.ListN.{length, getD, drop, replicate, set, length-set, length-replicate,
 use lib.Seq.{ext-getD, length-take-le}
 use lib.Dec.{T}
 use Rattle.names.specs.declared.Sizes.{Sizes}
+use Rattle.names.specs.Layout.{clockAt}
 use Rattle.rules.specs.Words.{row}
 use Rattle.rules.specs.Tables.{Tables, txnWords, versionRow, clock, txn, setTxn, noTxn, live, liveUpdate, liveQuery}
 use Rattle.rules.specs.Tables.{starts, lock, holdsExclusive}
 use Rattle.rules.specs.Versions.{pairs, pairWords, versionsIn, versionsOf, rowOf, kept}
 use Rattle.rules.specs.Good.{Good, GoodVersions}
 use Rattle.rules.specs.Step.{committed, ended, withNew}
+use Rattle.rules.specs.Changed.{Committed, Ended}
 use Rattle.rules.proofs.Tests.{same?, is-true, is-false}
 use Rattle.rules.proofs.Rows.{row-word}
 use Rattle.rules.proofs.Views.{txn-setTxn, txn-setTxn-other, txn-top}
@@ -26,7 +28,7 @@ use Rattle.rules.proofs.Starts.{starts-same, starts-lt}
 use Rattle.rules.proofs.Rewrites.{length-rewritten, row-rewritten, versions-rewritten}
 use Rattle.rules.proofs.EqualVersions.{Good→read}
 use Rattle.rules.proofs.Callers.{query-not-update}
-use Rattle.rules.proofs.Changes.{RowChanged, WordAndRowChanged, LocksReleased, setTxn-changes, top-changes, release-changes}
+use Rattle.rules.proofs.Changes.{setTxn-changes, top-changes, release-changes}
 
 -- ---- a row's versions, written back
 -- n pairs read off the words l and written, with m pairs of zeros behind
@@ -63,32 +65,6 @@ pub row-words :
     (w x : ℕ) (v v′ : List ℕ) → row w x v′ ≡ row w x v → (j : ℕ) → j < w → getD v′ (w * x + j) 0 ≡ getD v (w * x + j) 0
 row-words w x v v′ e j h =
     sym (row-word w x j v′ h) ∙ ap (λ (r : List ℕ). getD r j 0) e ∙ row-word w x j v h
-
--- ---- what is said of the tables G before and G′ after
--- "An update takes clock plus 1 .." "Its locks, working values and row go." A row gets a new pair in front where s holds the item
--- exclusively, and keeps every word elsewhere
-pub record Committed (S : Sizes) (s : ℕ) (G G′ : Tables) : Type 0 where
-  pub txns : WordAndRowChanged 1 (clock (G .txns) + 1) s noTxn (G .txns) (G′ .txns)
-  pub locks : LocksReleased S s (G .locks) (G′ .locks)
-  pub size : length (G′ .versions) ≡ length (G .versions)
-  pub written :
-      (x : ℕ) → x < S .items → T (holdsExclusive (lock (G .locks) x) s)
-      → row (versionRow S) x (G′ .versions)
-      ≡ rowOf S
-      (kept (starts S (G .txns))
-      (record { stamp = clock (G .txns) + 1; value = (lock (G .locks) x) .working } ∷ versionsOf S (G .versions) x))
-  pub others :
-      (x j : ℕ) → x < S .items → j < versionRow S → (T (holdsExclusive (lock (G .locks) x) s) → ⊥)
-      → getD (G′ .versions) (versionRow S * x + j) 0 ≡ getD (G .versions) (versionRow S * x + j) 0
-
--- "A query only ends.": its row goes, and the versions that none but it read
-pub record Ended (S : Sizes) (s : ℕ) (G G′ : Tables) : Type 0 where
-  pub txns : RowChanged s noTxn (G .txns) (G′ .txns)
-  pub locks : G′ .locks ≡ G .locks
-  pub size : length (G′ .versions) ≡ length (G .versions)
-  pub each :
-      (x : ℕ) → x < S .items
-      → row (versionRow S) x (G′ .versions) ≡ rowOf S (kept (starts S (G′ .txns)) (versionsOf S (G .versions) x))
 
 -- a free row is no query
 free-no-query : liveQuery noTxn ≡ false
@@ -136,13 +112,13 @@ module _ (S : Sizes) (G : Tables) (g : Good S G) (enough : S .slots ≤ S .place
     c = clock t + 1
 
     abbrev t′ : List ℕ
-    t′ = setTxn (set t 1 c) s noTxn
+    t′ = setTxn (set t clockAt c) s noTxn
 
     abbrev l : List ℕ
     l = G .locks
 
-    size′ : length (set t 1 c) ≡ txnWords S
-    size′ = length-set t 1 c ∙ g .txnsExact
+    size′ : length (set t clockAt c) ≡ txnWords S
+    size′ = length-set t clockAt c ∙ g .txnsExact
 
     -- the committer is no query, so the queries are those of before
     queries : starts S t′ ≡ starts S t
@@ -151,10 +127,10 @@ module _ (S : Sizes) (G : Tables) (g : Good S G) (enough : S .slots ≤ S .place
         go : (r : ℕ) → (r ≡ s) ⊎ (r ≢ s) → (txn t′ r ≡ txn t r) ⊎ ((liveQuery (txn t′ r) ≡ false) × (liveQuery (txn t r) ≡ false))
         go r (inl e) =
             inr (
-              ap (λ (m : ℕ). liveQuery (txn t′ m)) e ∙ ap liveQuery (txn-setTxn (set t 1 c) s noTxn S size′ inside) ∙ free-no-query,
+              ap (λ (m : ℕ). liveQuery (txn t′ m)) e ∙ ap liveQuery (txn-setTxn (set t clockAt c) s noTxn S size′ inside) ∙ free-no-query,
               ap (λ (m : ℕ). liveQuery (txn t m)) e ∙ is-false (liveQuery (txn t s)) (λ q. query-not-update t s q update),
             )
-        go r (inr d) = inl (txn-setTxn-other (set t 1 c) s noTxn r d ∙ txn-top t 1 c r (omega arith))
+        go r (inr d) = inl (txn-setTxn-other (set t clockAt c) s noTxn r d ∙ txn-top t clockAt c r (omega arith))
 
     pub committed-starts : starts S ((committed S s G) .txns) ≡ starts S (G .txns)
     unfolding committed
@@ -164,7 +140,7 @@ module _ (S : Sizes) (G : Tables) (g : Good S G) (enough : S .slots ≤ S .place
     committed-room = starts-lt S t s inside (is-false (liveQuery (txn t s)) (λ q. query-not-update t s q update))
 
     room′ : length (starts S t′) < S .places
-    room′ = let a = committed-room in let b = left-starts S (set t 1 c) size′ s inside in omega arith
+    room′ = let a = committed-room in let b = left-starts S (set t clockAt c) size′ s inside in omega arith
 
     pub committed-versions :
         (x : ℕ) → x < S .items
@@ -196,7 +172,7 @@ module _ (S : Sizes) (G : Tables) (g : Good S G) (enough : S .slots ≤ S .place
     unfolding committed withNew
     committed-changes =
         record {
-          txns = top-changes S t (g .txnsExact) s inside 1 c (omega arith) noTxn;
+          txns = top-changes S t (g .txnsExact) s inside clockAt c (omega arith) noTxn;
           locks = release-changes S s l (g .locksExact);
           size = length-rewritten S (starts S t′) (withNew l s c) v room′ (g .versionsExact) ∙ sym (g .versionsExact);
           written = λ x known a. rw (is-true (holdsExclusive (lock l x) s) a) at (rows x known);

@@ -1,5 +1,5 @@
--- Which words of the transactions and of the locks a begin, a wait, a grant, an abort write, and that no other word changes. Assumes nothing.
-use Prim.Native.Nat.{ℕ, zero, suc, _+_, _*_, _<_}
+-- Which words of the transactions and of the locks a begin, a wait, a grant, an abort write, and that no other word changes.
+use Prim.Native.Nat.{ℕ, zero, suc, _+_, _*_, _≤_, _<_}
 use mathlib.Core.Path.{_≡_, refl, sym, ap, _∙_, subst}
 use mathlib.Core.Logic.{_≢_, _⊎_, inl, inr}
 use mathlib.Core.Bool.{false, _&&_, not}
@@ -10,63 +10,26 @@ use lib.ListN.{length, getD, set, length-set}
 use lib.Seq.{getD-set-same, getD-set-other}
 use lib.Dec.{T, eqb, eqb→eq}
 use Rattle.names.specs.declared.Sizes.{Sizes}
+use Rattle.names.specs.Layout.{lastNumberAt, txnHead, txnLockAt, txnItemAt}
 use Rattle.rules.specs.Words.{bit, withoutBit}
 use Rattle.rules.specs.Tables.{Tables, txnAt, txnWords, lockRow, lockWords, lastNumber, Txn, txn, setTxn, setAwaited, noTxn, newTxn}
 use Rattle.rules.specs.Tables.{noLock, sharedLock, exclusiveLock, Lock, lock, setLock, holds, holdsShared, holdsExclusive, released, release}
 use Rattle.rules.specs.Good.{Good}
+use Rattle.rules.specs.Changed.{Elsewhere, RowChanged, WordAndRowChanged, AwaitedChanged, LockChanged, LocksReleased, newcomer, Begun, Locked, Aborted}
 use Rattle.rules.specs.Step.{begun, cleared, locked, aborted, awaitsOther, replaced, withTxns, withLocks}
 use Rattle.rules.proofs.Tests.{and-left, and-right, and-both, or-left, or-right, is-false, false-is, not-make, ne-make, same?}
-use Rattle.rules.proofs.Views.{length-setTxn, word-setTxn, txn-setTxn, setAwaited-same, lock-setLock, length-setLock, lock-release, length-release}
-
--- ---- what is said of two lists of words, t before and t′ after
--- word j is none of the five words of row s
-abbrev pub Elsewhere : ℕ → ℕ → Type 0
-Elsewhere s j = (j < txnAt s) ⊎ (txnAt s + 4 < j)
-
--- row s is r afterwards, and no other word changes
-pub record RowChanged (s : ℕ) (r : Txn) (t t′ : List ℕ) : Type 0 where
-  pub size : length t′ ≡ length t
-  pub here : txn t′ s ≡ r
-  pub others : (j : ℕ) → Elsewhere s j → getD t′ j 0 ≡ getD t j 0
-
--- word w is v and row s is r afterwards, and no other word changes
-pub record WordAndRowChanged (w v s : ℕ) (r : Txn) (t t′ : List ℕ) : Type 0 where
-  pub size : length t′ ≡ length t
-  pub word : getD t′ w 0 ≡ v
-  pub here : txn t′ s ≡ r
-  pub others : (j : ℕ) → j ≢ w → Elsewhere s j → getD t′ j 0 ≡ getD t j 0
-
--- the awaited fields of row s are k and x afterwards, and no other word changes
-pub record AwaitedChanged (s k x : ℕ) (t t′ : List ℕ) : Type 0 where
-  pub size : length t′ ≡ length t
-  pub awaitedLock : getD t′ (txnAt s + 3) 0 ≡ k
-  pub awaitedItem : getD t′ (txnAt s + 4) 0 ≡ x
-  pub others : (j : ℕ) → j ≢ txnAt s + 3 → j ≢ txnAt s + 4 → getD t′ j 0 ≡ getD t j 0
-
--- the lock of item x is h afterwards, and no other word changes
-pub record LockChanged (x : ℕ) (h : Lock) (l l′ : List ℕ) : Type 0 where
-  pub size : length l′ ≡ length l
-  pub here : lock l′ x ≡ h
-  pub others : (j : ℕ) → (j < lockRow * x) ⊎ (lockRow * x + 2 < j) → getD l′ j 0 ≡ getD l j 0
-
--- every lock is without slot s afterwards, and a lock that s does not hold keeps every word
-pub record LocksReleased (S : Sizes) (s : ℕ) (l l′ : List ℕ) : Type 0 where
-  pub size : length l′ ≡ length l
-  pub each : (x : ℕ) → x < S .items → lock l′ x ≡ released s (lock l x)
-  pub others :
-      (x k : ℕ) → x < S .items → k < lockRow → (T (holds (lock l x) s) → ⊥) → getD l′ (lockRow * x + k) 0 ≡ getD l (lockRow * x + k) 0
+use Rattle.rules.proofs.Views.{length-setTxn, outside-setTxn, txn-setTxn, setAwaited-same, lock-setLock, length-setLock, lock-release, length-release}
 
 -- ---- rows of the transactions
 module _ (S : Sizes) (t : List ℕ) (exact : length t ≡ txnWords S) (s : ℕ) (inside : s < S .slots) where
   elsewhere : (u : List ℕ) (r : Txn) (j : ℕ) → Elsewhere s j → getD (setTxn u s r) j 0 ≡ getD u j 0
-  elsewhere u r j (inl h) = word-setTxn u s r j (omega arith) (omega arith) (omega arith) (omega arith) (omega arith)
-  elsewhere u r j (inr h) = word-setTxn u s r j (omega arith) (omega arith) (omega arith) (omega arith) (omega arith)
+  elsewhere u r j o = outside-setTxn u s r j o
 
   pub setTxn-changes : (r : Txn) → RowChanged s r t (setTxn t s r)
   setTxn-changes r = record { size = length-setTxn t s r; here = txn-setTxn t s r S exact inside; others = elsewhere t r }
 
   -- with one of the two words before the rows
-  pub top-changes : (w v : ℕ) → w < 2 → (r : Txn) → WordAndRowChanged w v s r t (setTxn (set t w v) s r)
+  pub top-changes : (w v : ℕ) → w < txnHead → (r : Txn) → WordAndRowChanged w v s r t (setTxn (set t w v) s r)
   top-changes w v h r =
       record {
         size = length-setTxn (set t w v) s r ∙ length-set t w v;
@@ -80,9 +43,9 @@ module _ (S : Sizes) (t : List ℕ) (exact : length t ≡ txnWords S) (s : ℕ) 
   setAwaited-changes k x =
       record {
         size = simp length-set;
-        awaitedLock = rw (getD-set-other _ (txnAt s + 4) (txnAt s + 3) x 0 (omega arith)) (getD-set-same t (txnAt s + 3) k 0 (omega arith));
-        awaitedItem = getD-set-same (set t (txnAt s + 3) k) (txnAt s + 4) x 0 (simp length-set (omega arith));
-        others = λ j m n. getD-set-other (set t (txnAt s + 3) k) (txnAt s + 4) j x 0 n ∙ getD-set-other t (txnAt s + 3) j k 0 m;
+        awaitedLock = rw (getD-set-other _ (txnAt s + txnItemAt) (txnAt s + txnLockAt) x 0 (omega arith)) (getD-set-same t (txnAt s + txnLockAt) k 0 (omega arith));
+        awaitedItem = getD-set-same (set t (txnAt s + txnLockAt) k) (txnAt s + txnItemAt) x 0 (simp length-set (omega arith));
+        others = λ j m n. getD-set-other (set t (txnAt s + txnLockAt) k) (txnAt s + txnItemAt) j x 0 n ∙ getD-set-other t (txnAt s + txnLockAt) j k 0 m;
       }
 
   pub cleared-changes : AwaitedChanged s noLock 0 t (cleared t s)
@@ -107,7 +70,7 @@ setLock-changes S l e x known h =
     apart : (j : ℕ) → j ≢ 3 * x → j ≢ 3 * x + 1 → j ≢ 3 * x + 2 → getD (setLock l x h) j 0 ≡ getD l j 0
     apart j a b c = rw (getD-set-other _ (3 * x + 2) j (h .working) 0 c, getD-set-other _ (3 * x + 1) j (h .exclusive) 0 b, getD-set-other _ (3 * x) j (h .shared) 0 a)
 
-    out : (j : ℕ) → (j < lockRow * x) ⊎ (lockRow * x + 2 < j) → getD (setLock l x h) j 0 ≡ getD l j 0
+    out : (j : ℕ) → (j < lockRow * x) ⊎ (lockRow * x + lockRow ≤ j) → getD (setLock l x h) j 0 ≡ getD l j 0
     out j (inl b) = apart j (omega arith) (omega arith) (omega arith)
     out j (inr b) = apart j (omega arith) (omega arith) (omega arith)
 
@@ -136,34 +99,12 @@ release-changes S s l e =
     }
 
 -- ---- the calls' own
--- the row that a begin writes
-abbrev pub newcomer : Tables → ℕ → ℕ → Txn
-newcomer G k q = newTxn (lastNumber (G .txns) + 1) k q
-
--- "The lowest free slot gets last number plus 1.": two places in the transactions, and nothing else at all
-pub record Begun (s k q : ℕ) (G G′ : Tables) : Type 0 where
-  pub txns : WordAndRowChanged 0 (lastNumber (G .txns) + 1) s (newcomer G k q) (G .txns) (G′ .txns)
-  pub locks : G′ .locks ≡ G .locks
-  pub versions : G′ .versions ≡ G .versions
-
--- "A grant clears the awaited fields.", and the lock of item x is h
-pub record Locked (s x : ℕ) (h : Lock) (G G′ : Tables) : Type 0 where
-  pub txns : AwaitedChanged s noLock 0 (G .txns) (G′ .txns)
-  pub locks : LockChanged x h (G .locks) (G′ .locks)
-  pub versions : G′ .versions ≡ G .versions
-
--- "Abort removes locks, working values and the row"
-pub record Aborted (S : Sizes) (s : ℕ) (G G′ : Tables) : Type 0 where
-  pub txns : RowChanged s noTxn (G .txns) (G′ .txns)
-  pub locks : LocksReleased S s (G .locks) (G′ .locks)
-  pub versions : G′ .versions ≡ G .versions
-
 module _ (S : Sizes) (G : Tables) (g : Good S G) (s : ℕ) (inside : s < S .slots) where
   pub begun-changes : (k q : ℕ) → Begun s k q G (begun k q s G)
   unfolding begun
   begun-changes k q =
       record {
-        txns = top-changes S (G .txns) (g .txnsExact) s inside 0 (lastNumber (G .txns) + 1) (omega arith) (newcomer G k q);
+        txns = top-changes S (G .txns) (g .txnsExact) s inside lastNumberAt (lastNumber (G .txns) + 1) (omega arith) (newcomer G k q);
         locks = refl;
         versions = refl;
       }

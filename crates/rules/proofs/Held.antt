@@ -1,63 +1,82 @@
--- Two-phase locks: a granted read leaves its caller with a lock on the item, a granted write with the exclusive one.
--- Assumes nothing.
+-- Two-phase locks: a granted read leaves its caller with a lock on the item, a granted write with the exclusive one, without the
+-- shared bit and with the value that was written.
 use Prim.Native.Nat.{ℕ, suc, _<_}
-use mathlib.Core.Path.{_≡_, refl}
+use mathlib.Core.Path.{_≡_, refl, sym, ap, _∙_, subst}
 use native.Mathlib.Omega.{arith}
 use lib.Dec.{T}
 use Rattle.names.specs.declared.Sizes.{Sizes}
-use Rattle.rules.specs.Words.{bit, withBit}
-use Rattle.rules.specs.Tables.{Tables, setAwaited, Lock, lock, holds, holdsShared, holdsExclusive}
-use Rattle.rules.specs.Waits.{circleAt}
+use Rattle.rules.specs.Words.{bit, withBit, withoutBit}
+use Rattle.rules.specs.Tables.{Tables, txn, liveUpdate, liveQuery, Lock, lock, holds, holdsShared, holdsExclusive}
 use Rattle.rules.specs.Good.{Good}
-use Rattle.rules.specs.Locks.{Asked, toRead, toWrite, wanted, Cell, decision}
-use Rattle.rules.specs.Answers.{Outcome, granted}
-use Rattle.rules.specs.Step.{access, cellDeed, conflicted, done, locked, sharedToo, taken, replaced}
-use Rattle.rules.proofs.Tests.{or-left, or-right, true-is, eq-make}
-use Rattle.rules.proofs.Bits.{withBit-here}
+use Rattle.rules.specs.Locks.{Asked, toRead, toWrite}
+use Rattle.rules.specs.Answers.{Read, Write, Outcome, Deed, granted}
+use Rattle.rules.specs.Step.{step, judged, act, done, locked, sharedToo, taken, replaced}
+use Rattle.rules.specs.Conditions.{Caller}
+use Rattle.rules.specs.Promises.{asking, HoldsFor, GrantedHolds}
+use Rattle.rules.proofs.Tests.{or-left, or-right, true-is, is-true, eq-make}
+use Rattle.rules.proofs.Bits.{withBit-here, withoutBit-here}
+use Rattle.rules.proofs.Equal.{Good→good}
+use Rattle.rules.proofs.Steps.{step-good}
 use Rattle.rules.proofs.Views.{lock-setLock}
-use Rattle.rules.proofs.Steps.{cond-case}
-use Rattle.rules.proofs.Decisions.{CellIs, ownCell, newestCell, shareCell, replaceCell, exchangeCell, excludeCell, readConflict, writeConflict, cell}
+use Rattle.rules.proofs.Callers.{caller-found, query-not-update}
+use Rattle.rules.proofs.Decisions.{never-both}
+use Rattle.rules.proofs.Ways.{refusal-code, Way, refused, waited, readOwn, readNewest, readShared, readQuery, wroteOwn, wroteTaken}
+use Rattle.rules.proofs.Judged.{way}
+use Rattle.rules.proofs.Outcomes.{granted-good}
 
--- the lock that a grant of a leaves slot s
-abbrev pub HoldsFor : Asked → Lock → ℕ → Type 0
-HoldsFor toRead h s = T (holds h s)
-HoldsFor toWrite h s = T (holdsExclusive h s)
-
-module _ (S : Sizes) (G : Tables) (g : Good S G) (s x v : ℕ) (known : x < S .items) where
-  abbrev h : Lock
-  h = lock (G .locks) x
+module _ (S : Sizes) (G : Tables) (g : Good S G) (n s : ℕ) (C : Caller S G n s) (up : T (liveUpdate (txn (G .txns) s))) where
+  -- a number is borne once
+  same-slot : (r : ℕ) → Caller S G n r → r ≡ s
+  same-slot r R = sym (caller-found S G g r n (R .inside) (R .alive) (R .name)) ∙ caller-found S G g s n (C .inside) (C .alive) (C .name)
 
   -- the lock that was written is there
-  written : (h′ : Lock) → lock ((locked s x h′ G) .locks) x ≡ h′
+  written : (r x : ℕ) → x < S .items → (h : Lock) → lock ((locked r x h G) .locks) x ≡ h
   unfolding locked
-  written h′ = lock-setLock (G .locks) x h′ S (g .locksExact) known
+  written r x known h = lock-setLock (G .locks) x h S (g .locksExact) known
 
-  by-taken : T (holdsExclusive (lock ((locked s x (taken h s v) G) .locks) x) s)
-  unfolding holdsExclusive
-  by-taken = rw (written (taken h s v)) (eq-make (suc s) (suc s) refl)
+  read-holds :
+      (x : ℕ) (d : Deed) → Way S G (Read n x) d → (done S d G) .answer .code ≡ granted → T (holds (lock ((done S d G) .after .locks) x) s)
+  unfolding done holds
+  read-holds x d (refused r m) z = absurd (refusal-code r z)
+  read-holds x d (waited r k y w) z = absurd (omega arith)
+  read-holds x d (readOwn m r y U h) z =
+      subst (λ (i : ℕ). T (holds (lock (G .locks) x) i)) (same-slot r (U .caller)) (or-right (holdsShared (lock (G .locks) x) r) _ h)
+  read-holds x d (readNewest m r y U h) z =
+      subst (λ (i : ℕ). T (holds (lock (G .locks) x) i)) (same-slot r (U .caller)) (or-left (holdsShared (lock (G .locks) x) r) _ h)
+  read-holds x d (readShared m r y U h f) z =
+      subst (λ (i : ℕ). T (holds (lock ((locked r x (sharedToo (lock (G .locks) x) r) G) .locks) x) i)) (same-slot r (U .caller))
+      (rw (written r x (U .known) (sharedToo (lock (G .locks) x) r))
+      (unfold holdsShared in (or-left (bit (withBit ((lock (G .locks) x) .shared) r) r) _ (true-is (withBit-here ((lock (G .locks) x) .shared) r)))))
+  read-holds x d (readQuery m r y D q i) z =
+      absurd (query-not-update (G .txns) s (subst (λ (j : ℕ). T (liveQuery (txn (G .txns) j))) (same-slot r D) q) up)
 
-  -- a conflict is no grant
-  no-grant : (k : ℕ) (P : Outcome → Type 0) → (done S (conflicted S s k x G) G) .answer .code ≡ granted → P (done S (conflicted S s k x G) G)
-  unfolding conflicted done
-  no-grant k P =
-      cond-case (λ d. (done S d G) .answer .code ≡ granted → P (done S d G)) (circleAt S (setAwaited (G .txns) s k x) (G .locks) s) _ _
-      (λ e z. absurd (omega arith)) (λ e z. absurd (omega arith))
+  -- what a write leaves the slot r
+  abbrev Left : ℕ → ℕ → Outcome → ℕ → Type 0
+  Left x v o r = HoldsFor toWrite v (lock (o .after .locks) x) r
 
-  cell-holds :
-      (a : Asked) (d : Cell) → CellIs S h s a d → (done S (cellDeed S s (wanted a) x v G d) G) .answer .code ≡ granted
-      → HoldsFor a (lock ((done S (cellDeed S s (wanted a) x v G d) G) .after .locks) x) s
-  unfolding cellDeed done
-  cell-holds a d (ownCell k) z = unfold holds in (or-right (holdsShared h s) _ k)
-  cell-holds a d (newestCell k) z = unfold holds in (or-left (holdsShared h s) _ k)
-  cell-holds a d (shareCell k f) z =
-      rw (written (sharedToo h s)) (unfold holds holdsShared in (or-left (bit (withBit (h .shared) s) s) _ (true-is (withBit-here (h .shared) s))))
-  cell-holds a d (replaceCell k) z = rw (written (replaced h v)) (unfold holdsExclusive in k)
-  cell-holds a d (exchangeCell k f) z = by-taken
-  cell-holds a d (excludeCell k f) z = by-taken
-  cell-holds a d (readConflict k b) z = no-grant _ (λ o. T (holds (lock (o .after .locks) x) s)) z
-  cell-holds a d (writeConflict k b) z = no-grant _ (λ o. T (holdsExclusive (lock (o .after .locks) x) s)) z
+  write-holds : (x v : ℕ) (d : Deed) → Way S G (Write n x v) d → (done S d G) .answer .code ≡ granted → Left x v (done S d G) s
+  unfolding done
+  write-holds x v d (refused r m) z = absurd (refusal-code r z)
+  write-holds x v d (waited r k y w) z = absurd (omega arith)
+  write-holds x v d (wroteOwn m r y u U h) z =
+      let e = written r x (U .known) (replaced (lock (G .locks) x) v) in
+      subst (Left x v (done S d G)) (same-slot r (U .caller))
+      (rw e (unfold holdsExclusive in h), rw e (λ k. never-both S G g x (U .known) r r h (unfold holdsShared in k)), ap (λ (h : Lock). h .working) e)
+  write-holds x v d (wroteTaken m r y u U h alone room) z =
+      let e = written r x (U .known) (taken (lock (G .locks) x) r v) in
+      subst (Left x v (done S d G)) (same-slot r (U .caller)) (
+        rw e (unfold holdsExclusive in (eq-make (suc r) (suc r) refl)),
+        rw e (λ k. subst T (withoutBit-here ((lock (G .locks) x) .shared) r) (unfold holdsShared in k)),
+        ap (λ (h : Lock). h .working) e,
+      )
 
-  pub granted-holds :
-      (a : Asked) → (done S (access S a s x v G) G) .answer .code ≡ granted → HoldsFor a (lock ((done S (access S a s x v G) G) .after .locks) x) s
-  unfolding access
-  granted-holds a = cell-holds a (decision S a h s) (cell S G g x known s a)
+pub granted-holds : (S : Sizes) → GrantedHolds S
+unfolding act
+granted-holds S G a n s x v C up z = go a (granted-good S (asking a n x v) G z) z
+  where
+    acts : (a : Asked) → Good S G → step S (asking a n x v) G ≡ act S (asking a n x v) G
+    acts a g = step-good S (asking a n x v) G (is-true _ (Good→good S G g))
+
+    go : (a : Asked) → Good S G → (step S (asking a n x v) G) .answer .code ≡ granted → HoldsFor a v (lock ((step S (asking a n x v) G) .after .locks) x) s
+    go toRead g z = rw (acts toRead g) (read-holds S G g n s C up x (judged S (Read n x) G) (way S G g (Read n x)) (rw (acts toRead g) at z))
+    go toWrite g z = rw (acts toWrite g) (write-holds S G g n s C up x v (judged S (Write n x v) G) (way S G g (Write n x v)) (rw (acts toWrite g) at z))

@@ -7,7 +7,7 @@ use mathlib.Core.Bool.{true, false, not}
 use mathlib.Core.List.{[], _∷_}
 use native.Mathlib.Omega.{arith}
 use lib.Dec.{T, eqb}
-use borrow.Author.Tests.{eqb-true, eqb-false, leb-false}
+use borrow.Author.Tests.{eqb-true, eqb-false, leb-false, not-false}
 use Rattle.names.specs.declared.Sizes.{Sizes}
 use Rattle.names.specs.Sizes.{firstStamp, lastWord}
 use Rattle.rules.specs.Tables.{Tables, clock, txn, noLock, sharedLock, exclusiveLock, anUpdate, aQuery}
@@ -97,6 +97,7 @@ module _ (S : Sizes) (G : Tables) (g : Good S G) where
                 update = up;
                 wants = (refl, refl);
                 some = wanted-lock toRead;
+                free = w;
                 may = record { listed = omega arith; known = λ e. known; none = λ e. absurd (omega arith); shared = λ e. o; exclusive = λ e. absurd (omega arith); room = λ e. absurd (omega arith) };
                 circle = z;
               })))
@@ -164,6 +165,7 @@ module _ (S : Sizes) (G : Tables) (g : Good S G) where
                 update = up;
                 wants = (refl, refl);
                 some = wanted-lock toWrite;
+                free = w;
                 may = record { listed = omega arith; known = λ e. known; none = λ e. absurd (omega arith); shared = λ e. absurd (omega arith); exclusive = λ e. o; room = λ e. room o };
                 circle = z;
               })))
@@ -182,7 +184,7 @@ module _ (S : Sizes) (G : Tables) (g : Good S G) where
       tests S c G ClockSpent _ (eqb (clock (G .txns)) lastWord) _ (λ z. omega arith, λ z. omega arith)
       (λ h. (i, C, up, eqb-true (clock (G .txns)) lastWord h))
       (λ h w. eqb-false (clock (G .txns)) lastWord h (w .3))
-      (λ h. grants S c G _ (committedUpdate n i (caller-in S G n e) up (eqb-false (clock (G .txns)) lastWord h)) refl))))
+      (λ h. grants S c G _ (committedUpdate n i (caller-in S G n e) up (eqb-true ((txn (G .txns) i) .awaitedLock) noLock (not-false _ f)) (eqb-false (clock (G .txns)) lastWord h)) refl))))
     where
       c : Call
       c = Commit n

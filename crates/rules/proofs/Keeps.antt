@@ -11,6 +11,7 @@ use Rattle.rules.specs.Good.{Good}
 use Rattle.rules.specs.Tested.{good}
 use Rattle.rules.specs.Answers.{Call, Outcome, Deed}
 use Rattle.rules.specs.Step.{step, act, judged, done, queryRead}
+use Rattle.rules.specs.Promises.{StaysGood}
 use Rattle.rules.proofs.Tests.{is-true}
 use Rattle.rules.proofs.Equal.{Good→good}
 use Rattle.rules.proofs.Steps.{step-good}
@@ -57,12 +58,12 @@ module _ (S : Sizes) (enough : S .slots ≤ S .places) (G : Tables) (g : Good S 
       (taken-good S t (lock l x) (g .lockGood x (U .known)) s (U .caller .inside) (U .update) alone v)
       (taken-others S t (lock l x) (g .lockGood x (U .known)) s (U .caller .inside) (U .update) alone v)
       (λ k. inr room)
-  way-keeps c d (committedUpdate n s C u m) = committed-good S enough G g s (C .inside) u m
+  way-keeps c d (committedUpdate n s C u i m) = committed-good S enough G g s (C .inside) u m
   way-keeps c d (committedQuery n s C q) = ended-good S enough G g s (C .inside) q
   way-keeps c d (abortedUpdate n s C u) = aborted-good S enough G g s (C .inside) u
   way-keeps c d (abortedQuery n s C q) = ended-good S enough G g s (C .inside) q
 
-pub keeps : (S : Sizes) → S .slots ≤ S .places → (c : Call) (G : Tables) → Good S G → Good S ((step S c G) .after)
+pub keeps : (S : Sizes) → S .slots ≤ S .places → StaysGood S
 unfolding act
 keeps S enough c G g =
     subst (λ (o : Outcome). Good S (o .after)) (sym (step-good S c G (is-true (good S G) (Good→good S G g))))

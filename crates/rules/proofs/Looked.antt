@@ -1,9 +1,9 @@
 -- How far a query looks: to the newest version that is old enough, and at most 2 plus the number of live queries with a
--- later start. Assumes nothing.
+-- later start.
 use Prim.Native.Nat.{ℕ, suc, _+_, _-_, _≤_, _<_}
-use mathlib.Core.Path.{subst}
-use mathlib.Core.Bool.{_&&_}
-use mathlib.Core.List.{List}
+use mathlib.Core.Path.{_≡_, refl, ap, subst}
+use mathlib.Core.Bool.{Bool, true, false, _&&_, cond}
+use mathlib.Core.List.{List, [], _∷_}
 use native.Mathlib.Omega.{arith}
 use lib.ListN.{length}
 use lib.Dec.{T, eqb, ltb, lt→ltb}
@@ -13,22 +13,29 @@ use Rattle.rules.specs.Tables.{txn, liveQuery, starts}
 use Rattle.rules.specs.Versions.{Version, versionsIn, stampAt, place}
 use Rattle.rules.specs.Good.{GoodVersions}
 use Rattle.rules.specs.Tested.{allRead}
+pub use Rattle.rules.specs.Promises.{later}
 use Rattle.rules.proofs.Tests.{and-both, eq-make}
 use Rattle.rules.proofs.Counts.{some-mem}
 use Rattle.rules.proofs.Choice.{length-versionsIn, place-above, place-fits, place-le, place-least, place-exists}
-use Rattle.rules.proofs.Passing.{counted, passing-all, passing-some}
+use Rattle.rules.proofs.Passing.{tally, counted, passing-all, passing-some}
 use Rattle.rules.proofs.Trim.{reader}
 use Rattle.rules.proofs.EqualVersions.{Good→read}
 
--- how many of the starts qs are later than q
-unfoldable pub later : ℕ → List ℕ → ℕ
-later q qs = counted (λ s. ltb q s) qs
+-- the later starts are counted as others are
+later-counted : (q : ℕ) (qs : List ℕ) → later q qs ≡ counted (λ s. ltb q s) qs
+unfolding later counted tally
+later-counted q [] = refl
+later-counted q (s ∷ qs) = go (ltb q s) (later-counted q qs)
+  where
+    go : (b : Bool) → later q qs ≡ counted (λ s. ltb q s) qs → cond b (suc (later q qs)) (later q qs) ≡ tally b (counted (λ s. ltb q s) qs)
+    go true e = ap suc e
+    go false e = e
 
 -- each version between the newest and the chosen one has a reader of its own, and that reader's start is later than q
 pub looked-most : (qs : List ℕ) (vs : List Version) (q : ℕ) → T (allRead qs vs 0 vs) → suc (place q vs) ≤ 2 + later q qs
-unfolding later
 looked-most qs vs q h =
     let n = place q vs - 1 in
+    let e = later-counted q qs in
     let a = passing-all (λ i. some (λ s. ltb q s && eqb (place s vs) i) qs) 1 n each in
     let b = passing-some (λ s. ltb q s) (λ s. place s vs) qs 1 n in
     omega arith

@@ -14,78 +14,19 @@ use Rattle.rules.specs.Tested.{good}
 use Rattle.rules.specs.Answers.{Call, BeginUpdate, BeginQuery, Read, Write, Commit, Abort, Outcome, says, granted, code, refuses, BadTables, Deed}
 use Rattle.rules.specs.Step.{step, act, judged, done, begun, queryRead}
 use Rattle.rules.specs.Step.{withLocks, locked, replaced, sharedToo, taken, committed, ended, aborted}
+use Rattle.rules.specs.Changed.{Granted, updateBegins, queryBegins, ownRead, sharedRead, sharedTaken, queryReads, valueReplaced}
+use Rattle.rules.specs.Changed.{sharedExchanged, exclusiveTaken, updateCommits, queryCommits, updateAborts, queryAborts}
+use Rattle.rules.specs.Promises.{GrantedChanges}
 use Rattle.rules.proofs.Tests.{or-left, or-right, true-is}
 use Rattle.rules.proofs.Equal.{good→Good}
 use Rattle.rules.proofs.Steps.{cond-case}
 use Rattle.rules.proofs.Callers.{Caller, Free}
-use Rattle.rules.proofs.Changes.{LockChanged, Begun, Locked, Aborted, setLock-changes, begun-changes, locked-changes, aborted-changes}
+use Rattle.rules.proofs.Changes.{setLock-changes, begun-changes, locked-changes, aborted-changes}
 use Rattle.rules.proofs.Changes.{own-unchanged, replace-unchanged}
-use Rattle.rules.proofs.ChangedVersions.{Committed, Ended, committed-changes, ended-changes}
+use Rattle.rules.proofs.ChangedVersions.{committed-changes, ended-changes}
 use Rattle.rules.proofs.Judged.{way}
 use Rattle.rules.proofs.Ways.{refusal-code, Updater, Way, refused, waited, beganUpdate, beganQuery, readOwn, readNewest, readShared, readQuery}
 use Rattle.rules.proofs.Ways.{wroteOwn, wroteTaken, committedUpdate, committedQuery, abortedUpdate, abortedQuery}
-
--- ---- every granted call: its four numbers, the tables afterwards, and which words of them are others than before
-pub data Granted (S : Sizes) (G : Tables) : Call → Outcome → Type 0 where
-  -- "begin: number is the new number"
-  updateBegins :
-      (s : ℕ) → Free S (G .txns) s → Begun s anUpdate 0 G (begun anUpdate 0 s G)
-      → Granted S G BeginUpdate (says granted 0 (lastNumber (G .txns) + 1) 0 (begun anUpdate 0 s G))
-  queryBegins :
-      (s : ℕ) → Free S (G .txns) s → Begun s aQuery (clock (G .txns)) G (begun aQuery (clock (G .txns)) s G)
-      → Granted S G BeginQuery (says granted 0 (lastNumber (G .txns) + 1) 0 (begun aQuery (clock (G .txns)) s G))
-  -- "own working value": no word changes
-  ownRead :
-      (n x s : ℕ) → Updater S G n s sharedLock x → T (holdsExclusive (lock (G .locks) x) s)
-      → Granted S G (Read n x) (says granted ((lock (G .locks) x) .working) 0 0 G)
-  -- "newest value": no word changes
-  sharedRead :
-      (n x s : ℕ) → Updater S G n s sharedLock x → T (holdsShared (lock (G .locks) x) s)
-      → Granted S G (Read n x) (says granted (newest S (G .versions) x) 0 1 G)
-  -- "take shared, newest value"
-  sharedTaken :
-      (n x s : ℕ) → Updater S G n s sharedLock x → (T (holds (lock (G .locks) x) s) → ⊥)
-      → Locked s x (sharedToo (lock (G .locks) x) s) G (locked s x (sharedToo (lock (G .locks) x) s) G)
-      → Granted S G (Read n x) (says granted (newest S (G .versions) x) 0 1 (locked s x (sharedToo (lock (G .locks) x) s) G))
-  -- "the newest version whose stamp is at most its start": no word changes
-  queryReads :
-      (n x s : ℕ) → Caller S G n s → T (liveQuery (txn (G .txns) s)) → x < S .items
-      → Granted S G (Read n x)
-      (says granted
-      ((choice ((txn (G .txns) s) .start) (versionsOf S (G .versions) x)) .value)
-      0
-      (suc (place ((txn (G .txns) s) .start) (versionsOf S (G .versions) x)))
-      G)
-  -- "replace the working value": the transactions and the versions are the very same lists
-  valueReplaced :
-      (n x v s : ℕ) → Updater S G n s exclusiveLock x → T (holdsExclusive (lock (G .locks) x) s)
-      → LockChanged x (replaced (lock (G .locks) x) v) (G .locks) (setLock (G .locks) x (replaced (lock (G .locks) x) v))
-      → Granted S G (Write n x v) (says granted 0 0 0 (withLocks G (G .txns) (setLock (G .locks) x (replaced (lock (G .locks) x) v))))
-  -- "exchange for exclusive"
-  sharedExchanged :
-      (n x v s : ℕ) → Updater S G n s exclusiveLock x → T (holdsShared (lock (G .locks) x) s)
-      → Locked s x (taken (lock (G .locks) x) s v) G (locked s x (taken (lock (G .locks) x) s v) G)
-      → Granted S G (Write n x v) (says granted 0 0 0 (locked s x (taken (lock (G .locks) x) s v) G))
-  -- "take exclusive"
-  exclusiveTaken :
-      (n x v s : ℕ) → Updater S G n s exclusiveLock x → (T (holds (lock (G .locks) x) s) → ⊥)
-      → Locked s x (taken (lock (G .locks) x) s v) G (locked s x (taken (lock (G .locks) x) s v) G)
-      → Granted S G (Write n x v) (says granted 0 0 0 (locked s x (taken (lock (G .locks) x) s v) G))
-  -- "update commit: number is the stamp"
-  updateCommits :
-      (n s : ℕ) → Caller S G n s → T (liveUpdate (txn (G .txns) s)) → Committed S s G (committed S s G)
-      → Granted S G (Commit n) (says granted 0 (clock (G .txns) + 1) 0 (committed S s G))
-  -- "A query only ends."
-  queryCommits :
-      (n s : ℕ) → Caller S G n s → T (liveQuery (txn (G .txns) s)) → Ended S s G (ended S s G)
-      → Granted S G (Commit n) (says granted 0 0 0 (ended S s G))
-  updateAborts :
-      (n s : ℕ) → Caller S G n s → T (liveUpdate (txn (G .txns) s)) → Aborted S s G (aborted S s G)
-      → Granted S G (Abort n) (says granted 0 0 0 (aborted S s G))
-  -- "for a query is the same as commit"
-  queryAborts :
-      (n s : ℕ) → Caller S G n s → T (liveQuery (txn (G .txns) s)) → Ended S s G (ended S s G)
-      → Granted S G (Abort n) (says granted 0 0 0 (ended S s G))
 
 -- what is shown of an outcome o of the call c
 abbrev Shown : Sizes → Tables → Call → Outcome → Type 0
@@ -121,7 +62,7 @@ module _ (S : Sizes) (enough : S .slots ≤ S .places) (G : Tables) (g : Good S 
       (sym (replace-unchanged S G g s (U .caller .inside) x (U .known) v h (U .free)))
       (valueReplaced n x v s U h (setLock-changes S (G .locks) (g .locksExact) x (U .known) (replaced (lock (G .locks) x) v)))
   way-shown c d (wroteTaken n s x v U h alone room) z = takes n s x v U h
-  way-shown c d (committedUpdate n s C u m) z = updateCommits n s C u (committed-changes S G g enough s (C .inside) u)
+  way-shown c d (committedUpdate n s C u i m) z = updateCommits n s C u (committed-changes S G g enough s (C .inside) u)
   way-shown c d (committedQuery n s C q) z = queryCommits n s C q (ended-changes S G g enough s (C .inside))
   way-shown c d (abortedUpdate n s C u) z = updateAborts n s C u (aborted-changes S G g s (C .inside))
   way-shown c d (abortedQuery n s C q) z = queryAborts n s C q (ended-changes S G g enough s (C .inside))
@@ -134,9 +75,7 @@ granted-good S c G =
     (λ e z. good→Good S G (true-is e)) (λ e z. absurd (omega arith))
 
 -- "0 granted": each call that is answered 0 is one of these, with these four numbers and these words
-pub granted-changes :
-    (S : Sizes) → S .slots ≤ S .places
-    → (c : Call) (G : Tables) → (step S c G) .answer .code ≡ granted → Granted S G c (step S c G)
+pub granted-changes : (S : Sizes) → S .slots ≤ S .places → GrantedChanges S
 unfolding step act
 granted-changes S enough c G =
     cond-case (Shown S G c) (good S G) (act S c G) (refuses BadTables G)

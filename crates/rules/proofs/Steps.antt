@@ -6,6 +6,7 @@ use Rattle.rules.specs.Tables.{Tables}
 use Rattle.rules.specs.Tested.{good}
 use Rattle.rules.specs.Answers.{Call, Outcome, refuses, BadTables}
 use Rattle.rules.specs.Step.{act, step}
+use Rattle.rules.specs.Promises.{OneOutcome}
 
 pub step-good : (S : Sizes) (c : Call) (G : Tables) → good S G ≡ true → step S c G ≡ act S c G
 unfolding step
@@ -16,8 +17,7 @@ unfolding step
 step-bad S c G e = rw e
 
 -- "no second outcome fits": there is one outcome that is `step`'s, and whatever else is `step`'s is that one
-pub one-outcome :
-    (S : Sizes) (c : Call) (G : Tables) → (o : Outcome) × (o ≡ step S c G) × ((p : Outcome) → p ≡ step S c G → p ≡ o)
+pub one-outcome : (S : Sizes) → OneOutcome S
 one-outcome S c G = (step S c G, refl, λ p e. e)
 
 -- a test: what both ways have, the choice has. One line for each branch of nested tests

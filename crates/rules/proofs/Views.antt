@@ -101,9 +101,6 @@ module _ (t : List ℕ) (s : ℕ) (r : Txn) where
   unfolding setTxn
   outside-setTxn j o = put-out (txnAt s) (txnWordsOf r) t 0 j (⊎-elim (λ h. inl (omega arith)) (λ h. inr (omega arith)) o)
 
-  pub word-setTxn : (j : ℕ) → j ≢ txnAt s → j ≢ txnAt s + 1 → j ≢ txnAt s + 2 → j ≢ txnAt s + 3 → j ≢ txnAt s + 4 → getD (setTxn t s r) j 0 ≡ getD t j 0
-  word-setTxn j n₀ n₁ n₂ n₃ n₄ = outside-setTxn j (⊎-elim (λ h. inl h) (λ h. inr (omega arith)) (below? j (txnAt s)))
-
   pub lastNumber-setTxn : lastNumber (setTxn t s r) ≡ lastNumber t
   lastNumber-setTxn = outside-setTxn _ (inl (omega arith))
 

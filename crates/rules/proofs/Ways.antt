@@ -15,8 +15,8 @@ use Rattle.rules.specs.Answers.{Wait, Deadlock, UnknownTransaction, Unkn
 use Rattle.rules.specs.Answers.{Deed, Refused, Waits, Begins, ReadsByStart, ReadsOwn, ReadsNewest, TakesShared}
 use Rattle.rules.specs.Answers.{Replaces, TakesExclusive, Commits, Ends, Aborts, asSlot, asItem, asStamp}
 use Rattle.rules.specs.Step.{awaitsOther}
-use Rattle.rules.specs.Conditions.{CallerIn, Wants, Circle}
-use Rattle.rules.proofs.Callers.{Caller, Free}
+pub use Rattle.rules.specs.Conditions.{Updater}
+use Rattle.rules.specs.Conditions.{Caller, Free, CallerIn, Wants, Circle}
 use Rattle.rules.proofs.Awaits.{MayAwait}
 
 -- no refusal has the code of a grant
@@ -51,19 +51,13 @@ refusal-most QuotaSpent = omega arith
 abbrev pub Mere : Refusal → Type 0
 Mere r = (code r ≢ code BadTables) × (code r ≢ code Wait)
 
--- the update n in slot s asks for a lock of kind k on the item x, and awaits nothing else
-pub record Updater (S : Sizes) (G : Tables) (n s k x : ℕ) : Type 0 where
-  pub caller : Caller S G n s
-  pub update : T (liveUpdate (txn (G .txns) s))
-  pub known : x < S .items
-  pub free : awaitsOther (G .txns) s k x ≡ false
-
 -- the caller of c in slot s may note that it awaits a lock of kind k on the item x
 pub record Waiter (c : Call) (S : Sizes) (G : Tables) (s k x : ℕ) : Type 0 where
   pub caller : CallerIn c S G s
   pub update : T (liveUpdate (txn (G .txns) s))
   pub wants : Wants c k x
   pub some : k ≢ noLock
+  pub free : awaitsOther (G .txns) s k x ≡ false
   pub may : MayAwait S G s k x
   pub circle : Circle G s k x → ⊥
 
@@ -85,7 +79,9 @@ pub data Way (S : Sizes) (G : Tables) : Call → Deed → Type 0 where
       (n s x v : ℕ) → Updater S G n s exclusiveLock x → T (holdsShared (lock (G .locks) x) s) ⊎ (T (holds (lock (G .locks) x) s) → ⊥)
       → ((r : ℕ) → r ≢ s → T (holds (lock (G .locks) x) r) → ⊥) → exclusivesOf S (G .locks) s ≢ S .quota
       → Way S G (Write n x v) (TakesExclusive (asSlot s) (asItem x) v)
-  committedUpdate : (n s : ℕ) → Caller S G n s → T (liveUpdate (txn (G .txns) s)) → clock (G .txns) ≢ lastWord → Way S G (Commit n) (Commits (asSlot s))
+  committedUpdate :
+      (n s : ℕ) → Caller S G n s → T (liveUpdate (txn (G .txns) s)) → (txn (G .txns) s) .awaitedLock ≡ noLock → clock (G .txns) ≢ lastWord
+      → Way S G (Commit n) (Commits (asSlot s))
   committedQuery : (n s : ℕ) → Caller S G n s → T (liveQuery (txn (G .txns) s)) → Way S G (Commit n) (Ends (asSlot s))
   abortedUpdate : (n s : ℕ) → Caller S G n s → T (liveUpdate (txn (G .txns) s)) → Way S G (Abort n) (Aborts (asSlot s))
   abortedQuery : (n s : ℕ) → Caller S G n s → T (liveQuery (txn (G .txns) s)) → Way S G (Abort n) (Ends (asSlot s))

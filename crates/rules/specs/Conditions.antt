@@ -1,8 +1,9 @@
 -- Document 01, "What comes back": when each code is answered, row by row of the table, and in which order they are tested. `step` is
--- proved to answer so. Assumes nothing.
+-- proved to answer so.
 use Prim.Native.Nat.{ℕ, _≤_, _<_}
 use mathlib.Core.Path.{_≡_}
 use mathlib.Core.Logic.{_≢_, _⊎_}
+use mathlib.Core.Bool.{false}
 use mathlib.Core.List.{List, [], _∷_}
 use lib.Dec.{T}
 use Rattle.names.specs.declared.Sizes.{Sizes}
@@ -14,6 +15,26 @@ use Rattle.rules.specs.Good.{Good}
 use Rattle.rules.specs.Answers.{Call, BeginUpdate, BeginQuery, Read, Write, Commit, Abort, granted, code, Refusal}
 use Rattle.rules.specs.Answers.{Wait, Deadlock, UnknownTransaction, UnknownItem, QueryMayNotWrite, StillWaiting}
 use Rattle.rules.specs.Answers.{NoSlot, NumbersSpent, ClockSpent, BadTables, QuotaSpent}
+use Rattle.rules.specs.Step.{awaitsOther}
+
+-- the transaction with the number n lives in slot s
+pub record Caller (S : Sizes) (G : Tables) (n s : ℕ) : Type 0 where
+  pub inside : s < S .slots
+  pub alive : T (live (txn (G .txns) s))
+  pub name : (txn (G .txns) s) .number ≡ n
+
+-- s is the lowest free slot
+pub record Free (S : Sizes) (t : List ℕ) (s : ℕ) : Type 0 where
+  pub inside : s < S .slots
+  pub free : T (live (txn t s)) → ⊥
+  pub lowest : (r : ℕ) → r < s → T (live (txn t r))
+
+-- the update n in slot s asks for a lock of kind k on the item x, and awaits nothing else
+pub record Updater (S : Sizes) (G : Tables) (n s k x : ℕ) : Type 0 where
+  pub caller : Caller S G n s
+  pub update : T (liveUpdate (txn (G .txns) s))
+  pub known : x < S .items
+  pub free : awaitsOther (G .txns) s k x ≡ false
 
 -- the call names the transaction n
 abbrev pub Names : Call → ℕ → Type 0

@@ -1,4 +1,4 @@
--- Document 01, in its order: the tables, when they are good, the six calls, what comes back.
+-- Document 01, in its order: the tables, when they are good, the six calls, what comes back. Then what is promised of them.
 pub mod Words
 pub mod Tables
 pub mod Versions
@@ -9,3 +9,5 @@ pub mod Locks
 pub mod Answers
 pub mod Step
 pub mod Conditions
+pub mod Changed
+pub mod Promises

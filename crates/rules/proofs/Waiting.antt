@@ -1,0 +1,246 @@
+-- A waiting transaction stays so: calls by others leave every live row as it is, its own awaited call made again closes no circle.
+use Prim.Native.Nat.{ℕ, _<_}
+use mathlib.Core.Path.{_≡_, refl, sym, ap, _∙_, subst}
+use mathlib.Core.Logic.{_≢_, _⊎_, inl, inr}
+use mathlib.Core.Bool.{Bool, true, false, _&&_, not}
+use mathlib.Core.List.{List, [], _∷_}
+use native.Mathlib.Omega.{arith}
+use lib.Dec.{T, eqb, eqb→eq}
+use lib.ListN.{set}
+use Rattle.names.specs.declared.Sizes.{Sizes}
+use Rattle.names.specs.Layout.{txnHead, lastNumberAt, clockAt}
+use Rattle.rules.specs.Tables.{Tables, Txn, txn, setTxn, setAwaited, noTxn, live, liveQuery, noLock}
+use Rattle.rules.specs.Good.{Good}
+use Rattle.rules.specs.Answers.{Outcome, Call, BeginUpdate, BeginQuery, Read, Write, Commit, Abort, Deed, granted, code, Refusal}
+use Rattle.rules.specs.Answers.{Wait, Deadlock, UnknownTransaction, UnknownItem, QueryMayNotWrite, StillWaiting, NoSlot, NumbersSpent, ClockSpent, BadTables, QuotaSpent}
+use Rattle.rules.specs.Step.{step, act, judged, done, begun, cleared, locked, committed, ended, aborted, awaitsOther, queryRead, withTxns}
+use Rattle.rules.specs.Conditions.{Caller, Free, Updater, CallerIn, ConflictIn, Names, Wants, Circle, When, order, Answered}
+use Rattle.rules.specs.Promises.{codeOf, after, StaysWaiting, OthersLeave, RepeatedWaits}
+use Rattle.rules.proofs.Tests.{is-true, false-is, true-is, and-both, and-left, and-right, ne-make, not-make, same?}
+use Rattle.rules.proofs.Equal.{Good→good}
+use Rattle.rules.proofs.Views.{awaiting, setAwaited-row, setAwaited-same, txn-setTxn-other, txn-top}
+use Rattle.rules.proofs.Steps.{step-good}
+use Rattle.rules.proofs.Callers.{caller-found}
+use Rattle.rules.proofs.Deadlock.{repeated}
+use Rattle.rules.proofs.Judged.{way}
+use Rattle.rules.proofs.Ways.{Way, refused, waited, beganUpdate, beganQuery, readOwn, readNewest, readShared, readQuery}
+use Rattle.rules.proofs.Ways.{wroteOwn, wroteTaken, committedUpdate, committedQuery, abortedUpdate, abortedQuery}
+use Rattle.rules.proofs.Refused.{wait-is}
+use Rattle.rules.proofs.Answered.{answered}
+
+-- ---- a call names one transaction at most, and wants one lock
+named? : (c : Call) (m : ℕ) → Names c m ⊎ (Names c m → ⊥)
+named? BeginUpdate m = inr (λ h. h)
+named? BeginQuery m = inr (λ h. h)
+named? (Read n x) m = same? n m
+named? (Write n x v) m = same? n m
+named? (Commit n) m = same? n m
+named? (Abort n) m = same? n m
+
+one-name : (c : Call) (m n : ℕ) → Names c m → Names c n → m ≡ n
+one-name BeginUpdate m n a b = absurd a
+one-name BeginQuery m n a b = absurd a
+one-name (Read i x) m n a b = sym a ∙ b
+one-name (Write i x v) m n a b = sym a ∙ b
+one-name (Commit i) m n a b = sym a ∙ b
+one-name (Abort i) m n a b = sym a ∙ b
+
+one-want : (c : Call) (j k x y : ℕ) → Wants c j x → Wants c k y → (j ≡ k) × (x ≡ y)
+one-want BeginUpdate j k x y a b = absurd a
+one-want BeginQuery j k x y a b = absurd a
+one-want (Read i z) j k x y a b = (a .0 ∙ sym (b .0), sym (a .1) ∙ b .1)
+one-want (Write i z v) j k x y a b = (a .0 ∙ sym (b .0), sym (a .1) ∙ b .1)
+one-want (Commit i) j k x y a b = absurd a
+one-want (Abort i) j k x y a b = absurd a
+
+-- and has one caller
+one-caller : (S : Sizes) (G : Tables) → Good S G → (c : Call) (r s : ℕ) → CallerIn c S G r → CallerIn c S G s → r ≡ s
+one-caller S G g c r s C D =
+    let e = one-name c ((txn (G .txns) r) .number) ((txn (G .txns) s) .number) (C .named) (D .named) in
+    sym (caller-found S G g r ((txn (G .txns) s) .number) (C .inside) (C .alive) e)
+    ∙ caller-found S G g s ((txn (G .txns) s) .number) (D .inside) (D .alive) refl
+
+module _ (S : Sizes) (G : Tables) (g : Good S G) (s : ℕ) (inside : s < S .slots) where
+  abbrev t : List ℕ
+  t = G .txns
+
+  abbrev R : Txn
+  R = txn t s
+
+  -- ---- a deed writes one row at most, that of its slot r
+  module _ (r : ℕ) (d : s ≢ r) where
+    awaited-other : (k x : ℕ) → txn (setAwaited t r k x) s ≡ R
+    awaited-other k x = ap (λ (u : List ℕ). txn u s) (setAwaited-row t r k x) ∙ txn-setTxn-other t r _ s d
+
+    cleared-other : txn (cleared t r) s ≡ R
+    unfolding cleared
+    cleared-other = awaited-other noLock 0
+
+    left-other : (w v : ℕ) → w < txnHead → (Q : Txn) → txn (setTxn (set t w v) r Q) s ≡ R
+    left-other w v h Q = txn-setTxn-other (set t w v) r Q s d ∙ txn-top t w v s h
+
+  abbrev Same : Deed → Type 0
+  Same d = txn ((done S d G) .after .txns) s ≡ R
+
+  -- ---- calls by others
+  module _ (lives : T (live R)) where
+    apart : (c : Call) → (Names c (R .number) → ⊥) → (r : ℕ) → Names c ((txn t r) .number) → s ≢ r
+    apart c o r h e = o (subst (λ (m : ℕ). Names c ((txn t m) .number)) (sym e) h)
+
+    new : (r : ℕ) → Free S t r → s ≢ r
+    new r F e = F .free (subst (λ (m : ℕ). T (live (txn t m))) e lives)
+
+    named : (c : Call) → (Names c (R .number) → ⊥) → (n r : ℕ) → Names c n → Caller S G n r → s ≢ r
+    named c o n r h C = apart c o r (subst (Names c) (sym (C .name)) h)
+
+    other-row : (c : Call) (d : Deed) → Way S G c d → (Names c (R .number) → ⊥) → Same d
+    unfolding done queryRead begun locked committed ended aborted
+    other-row c d (refused r m) o = refl
+    other-row c d (waited r k x w) o = awaited-other r (apart c o r (w .caller .named)) k x
+    other-row c d (beganUpdate r F l) o = left-other r (new r F) lastNumberAt _ (omega arith) _
+    other-row c d (beganQuery r F l) o = left-other r (new r F) lastNumberAt _ (omega arith) _
+    other-row c d (readOwn n r x U h) o = cleared-other r (named c o n r refl (U .caller))
+    other-row c d (readNewest n r x U h) o = cleared-other r (named c o n r refl (U .caller))
+    other-row c d (readShared n r x U h f) o = cleared-other r (named c o n r refl (U .caller))
+    other-row c d (readQuery n r x C q i) o = refl
+    other-row c d (wroteOwn n r x v U h) o = cleared-other r (named c o n r refl (U .caller))
+    other-row c d (wroteTaken n r x v U h f m) o = cleared-other r (named c o n r refl (U .caller))
+    other-row c d (committedUpdate n r C u i l) o = left-other r (named c o n r refl C) clockAt _ (omega arith) noTxn
+    other-row c d (committedQuery n r C q) o = txn-setTxn-other t r noTxn s (named c o n r refl C)
+    other-row c d (abortedUpdate n r C u) o = txn-setTxn-other t r noTxn s (named c o n r refl C)
+    other-row c d (abortedQuery n r C q) o = txn-setTxn-other t r noTxn s (named c o n r refl C)
+
+  -- ---- its own calls, while it awaits
+  module _ (awaits : R .awaitedLock ≢ noLock) where
+    alive : T (live R)
+    unfolding live
+    alive = ne-make (R .number) 0 (λ e. awaits (ap (λ (Q : Txn). Q .awaitedLock) (g .txnGood s inside .free e)))
+
+    -- test 6 lets the awaited call pass, and none but it
+    this : (k x : ℕ) → awaitsOther t s k x ≡ false → (R .awaitedLock ≡ k) × (R .awaitedItem ≡ x)
+    unfolding awaitsOther
+    this k x e = go (eqb (R .awaitedLock) k && eqb (R .awaitedItem) x) refl
+      where
+        go : (b : Bool) → (eqb (R .awaitedLock) k && eqb (R .awaitedItem) x) ≡ b → (R .awaitedLock ≡ k) × (R .awaitedItem ≡ x)
+        go true f = (
+          eqb→eq (R .awaitedLock) k (and-left (eqb (R .awaitedLock) k) _ (true-is f)),
+          eqb→eq (R .awaitedItem) x (and-right (eqb (R .awaitedLock) k) _ (true-is f)),
+        )
+        go false f = absurd (false-is e (and-both (not (eqb (R .awaitedLock) noLock)) _ (ne-make (R .awaitedLock) noLock awaits)
+            (not-make (eqb (R .awaitedLock) k && eqb (R .awaitedItem) x) (λ h. false-is f h))))
+
+    abbrev Stays : Call → Deed → Type 0
+    Stays c d =
+        Same d
+        ⊎ ((Names c (R .number) × Wants c (R .awaitedLock) (R .awaitedItem) × ((done S d G) .answer .code ≡ granted)) ⊎ (c ≡ Abort (R .number)))
+
+    -- whoever bears its number is it
+    here : (n r : ℕ) → n ≡ R .number → Caller S G n r → r ≡ s
+    here n r e C = sym (caller-found S G g r n (C .inside) (C .alive) (C .name)) ∙ caller-found S G g s n inside alive (sym e)
+
+    module _ (n r : ℕ) (e : n ≡ R .number) where
+      it : {k x : ℕ} → Updater S G n r k x → (R .awaitedLock ≡ k) × (R .awaitedItem ≡ x)
+      it {k} {x} U = this k x (subst (λ (m : ℕ). awaitsOther t m k x ≡ false) (here n r e (U .caller)) (U .free))
+
+      busy : Caller S G n r → (txn t r) .awaitedLock ≡ noLock → ⊥
+      busy C i = awaits (subst (λ (m : ℕ). (txn t m) .awaitedLock ≡ noLock) (here n r e C) i)
+
+      idle : Caller S G n r → T (liveQuery (txn t r)) → ⊥
+      idle C q = busy C (g .txnGood r (C .inside) .queryIdle q)
+
+    own-row : (c : Call) (d : Deed) → Way S G c d → Names c (R .number) → Stays c d
+    unfolding done
+    own-row c d (refused r m) e = inl refl
+    own-row c d (waited r k x w) e = inl (noted r k x (stands c r (w .caller) e) (w .free))
+      where
+        noted : (r k x : ℕ) → r ≡ s → awaitsOther t r k x ≡ false → txn (setAwaited t r k x) s ≡ R
+        noted r k x q f =
+            let p = this k x (subst (λ (m : ℕ). awaitsOther t m k x ≡ false) q f) in
+            ap (λ (m : ℕ). txn (setAwaited t m k x) s) q
+            ∙ ap (λ (j : ℕ). txn (setAwaited t s j x) s) (sym (p .0))
+            ∙ ap (λ (y : ℕ). txn (setAwaited t s (R .awaitedLock) y) s) (sym (p .1))
+            ∙ ap (λ (u : List ℕ). txn u s) (setAwaited-same t s)
+
+        -- the caller of a call that names it
+        stands : (c : Call) (r : ℕ) → CallerIn c S G r → Names c (R .number) → r ≡ s
+        stands c r C e = one-caller S G g c r s C (record { inside = inside; alive = alive; named = e })
+    own-row c d (readOwn n r x U h) e = let p = it n r e U in inr (inl (e, (p .0, sym (p .1)), refl))
+    own-row c d (readNewest n r x U h) e = let p = it n r e U in inr (inl (e, (p .0, sym (p .1)), refl))
+    own-row c d (readShared n r x U h f) e = let p = it n r e U in inr (inl (e, (p .0, sym (p .1)), refl))
+    own-row c d (readQuery n r x C q i) e = absurd (idle n r e C q)
+    own-row c d (wroteOwn n r x v U h) e = let p = it n r e U in inr (inl (e, (p .0, sym (p .1)), refl))
+    own-row c d (wroteTaken n r x v U h f m) e = let p = it n r e U in inr (inl (e, (p .0, sym (p .1)), refl))
+    own-row c d (committedUpdate n r C u i l) e = absurd (busy n r e C i)
+    own-row c d (committedQuery n r C q) e = absurd (idle n r e C q)
+    own-row c d (abortedUpdate n r C u) e = inr (inr (ap Abort e))
+    own-row c d (abortedQuery n r C q) e = absurd (idle n r e C q)
+
+-- ---- told of `step`
+acts : (S : Sizes) (c : Call) (G : Tables) → Good S G → step S c G ≡ done S (judged S c G) G
+unfolding act
+acts S c G g = step-good S c G (is-true _ (Good→good S G g))
+
+pub others-leave : (S : Sizes) → OthersLeave S
+others-leave S c G s g inside lives others =
+    subst (λ (o : Outcome). txn (o .after .txns) s ≡ txn (G .txns) s) (sym (acts S c G g))
+    (other-row S G g s inside lives c (judged S c G) (way S G g c) others)
+
+-- what is shown of the outcome o
+abbrev Shown : Tables → ℕ → Call → Outcome → Type 0
+Shown G s c o =
+    (txn (o .after .txns) s ≡ txn (G .txns) s)
+    ⊎ ((Names c ((txn (G .txns) s) .number) × Wants c ((txn (G .txns) s) .awaitedLock) ((txn (G .txns) s) .awaitedItem) × (o .answer .code ≡ granted))
+    ⊎ (c ≡ Abort ((txn (G .txns) s) .number)))
+
+pub stays-waiting : (S : Sizes) → StaysWaiting S
+stays-waiting S c G s g inside awaits = subst (Shown G s c) (sym (acts S c G g)) (go (named? c ((txn (G .txns) s) .number)))
+  where
+    go : Names c ((txn (G .txns) s) .number) ⊎ (Names c ((txn (G .txns) s) .number) → ⊥) → Shown G s c (done S (judged S c G) G)
+    go (inl e) = own-row S G g s inside awaits c (judged S c G) (way S G g c) e
+    go (inr d) = inl (other-row S G g s inside (alive S G g s inside awaits) c (judged S c G) (way S G g c) d)
+
+-- ---- the awaited call made again
+-- a call that is answered 2 is in a conflict, and its wait would close a circle
+deadlocked : (S : Sizes) (c : Call) (G : Tables) (rs : List Refusal) (k : ℕ) → Answered S c G rs k → k ≡ code Deadlock → When S c G Deadlock
+unfolding Answered
+deadlocked S c G [] k p e = absurd (omega arith)
+deadlocked S c G (r ∷ rs) k (inl p) e = it r (p .0) (sym (p .1) ∙ e)
+  where
+    it : (r : Refusal) → When S c G r → code r ≡ code Deadlock → When S c G Deadlock
+    it Wait w q = absurd (omega arith)
+    it Deadlock w q = w
+    it UnknownTransaction w q = absurd (omega arith)
+    it UnknownItem w q = absurd (omega arith)
+    it QueryMayNotWrite w q = absurd (omega arith)
+    it StillWaiting w q = absurd (omega arith)
+    it NoSlot w q = absurd (omega arith)
+    it NumbersSpent w q = absurd (omega arith)
+    it ClockSpent w q = absurd (omega arith)
+    it BadTables w q = absurd (omega arith)
+    it QuotaSpent w q = absurd (omega arith)
+deadlocked S c G (r ∷ rs) k (inr p) e = deadlocked S c G rs k (p .1) e
+
+pub repeated-waits : (S : Sizes) → RepeatedWaits S
+unfolding When
+repeated-waits S c G s g C awaits wants = (λ e. never (deadlocked S c G (order c) (codeOf S c G) (answered S c G) e), again)
+  where
+    R : Txn
+    R = txn (G .txns) s
+
+    never : ((r : ℕ) × (k : ℕ) × (x : ℕ) × ConflictIn c S G r k x × Circle G r k x) → ⊥
+    never w =
+        let K = w .3 in
+        let q = one-want c (w .1) (R .awaitedLock) (w .2) (R .awaitedItem) (K .wants) wants in
+        repeated S G g s s
+        (subst (λ (y : ℕ). Circle G s (R .awaitedLock) y) (q .1)
+        (subst (λ (k : ℕ). Circle G s k (w .2)) (q .0) (subst (λ (r : ℕ). Circle G r (w .1) (w .2)) (one-caller S G g c (w .0) s (K .caller) C) (w .4))))
+
+    again : codeOf S c G ≡ code Wait → after S c G ≡ G
+    again e =
+        let w = wait-is S c G e in
+        let q = one-want c (w .1) (R .awaitedLock) (w .2) (R .awaitedItem) (w .4) wants in
+        w .5
+        ∙ ap (λ (r : ℕ). withTxns G (setAwaited (G .txns) r (w .1) (w .2))) (one-caller S G g c (w .0) s (w .3) C)
+        ∙ ap (λ (k : ℕ). withTxns G (setAwaited (G .txns) s k (w .2))) (q .0)
+        ∙ ap (λ (x : ℕ). withTxns G (setAwaited (G .txns) s (R .awaitedLock) x)) (q .1)
+        ∙ ap (withTxns G) (setAwaited-same (G .txns) s)

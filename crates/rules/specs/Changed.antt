@@ -1,0 +1,165 @@
+-- Which words a call changes, and that no other does: said of the words before and after. `step` is proved to change exactly these
+-- (Promises: GrantedChanges, WaitWords).
+use Prim.Native.Nat.{ℕ, suc, _+_, _*_, _≤_, _<_}
+use mathlib.Core.Path.{_≡_}
+use mathlib.Core.Logic.{_≢_, _⊎_}
+use mathlib.Core.List.{List, _∷_}
+use lib.ListN.{length, getD}
+use lib.Dec.{T}
+use Rattle.names.specs.declared.Sizes.{Sizes}
+use Rattle.names.specs.Layout.{lastNumberAt, clockAt, txnRow, txnLockAt, txnItemAt}
+use Rattle.rules.specs.Words.{row}
+use Rattle.rules.specs.Tables.{Tables, txnAt, lockRow, versionRow, lastNumber, clock, Txn, txn, noTxn, newTxn, noLock, anUpdate, aQuery}
+use Rattle.rules.specs.Tables.{sharedLock, exclusiveLock, liveUpdate, liveQuery, starts, Lock, lock, setLock, holds, holdsShared, holdsExclusive, released}
+use Rattle.rules.specs.Versions.{versionsOf, newest, place, choice, rowOf, kept}
+use Rattle.rules.specs.Answers.{Call, BeginUpdate, BeginQuery, Read, Write, Commit, Abort, Outcome, says, granted}
+use Rattle.rules.specs.Step.{begun, locked, replaced, sharedToo, taken, withLocks, committed, ended, aborted}
+use Rattle.rules.specs.Conditions.{Caller, Free, Updater}
+
+-- ---- what is said of two lists of words, t before and t′ after
+-- word j is none of the words of row s
+abbrev pub Elsewhere : ℕ → ℕ → Type 0
+Elsewhere s j = (j < txnAt s) ⊎ (txnAt s + txnRow ≤ j)
+
+-- row s is r afterwards, and no other word changes
+pub record RowChanged (s : ℕ) (r : Txn) (t t′ : List ℕ) : Type 0 where
+  pub size : length t′ ≡ length t
+  pub here : txn t′ s ≡ r
+  pub others : (j : ℕ) → Elsewhere s j → getD t′ j 0 ≡ getD t j 0
+
+-- word w is v and row s is r afterwards, and no other word changes
+pub record WordAndRowChanged (w v s : ℕ) (r : Txn) (t t′ : List ℕ) : Type 0 where
+  pub size : length t′ ≡ length t
+  pub word : getD t′ w 0 ≡ v
+  pub here : txn t′ s ≡ r
+  pub others : (j : ℕ) → j ≢ w → Elsewhere s j → getD t′ j 0 ≡ getD t j 0
+
+-- the awaited fields of row s are k and x afterwards, and no other word changes
+pub record AwaitedChanged (s k x : ℕ) (t t′ : List ℕ) : Type 0 where
+  pub size : length t′ ≡ length t
+  pub awaitedLock : getD t′ (txnAt s + txnLockAt) 0 ≡ k
+  pub awaitedItem : getD t′ (txnAt s + txnItemAt) 0 ≡ x
+  pub others : (j : ℕ) → j ≢ txnAt s + txnLockAt → j ≢ txnAt s + txnItemAt → getD t′ j 0 ≡ getD t j 0
+
+-- the lock of item x is h afterwards, and no other word changes
+pub record LockChanged (x : ℕ) (h : Lock) (l l′ : List ℕ) : Type 0 where
+  pub size : length l′ ≡ length l
+  pub here : lock l′ x ≡ h
+  pub others : (j : ℕ) → (j < lockRow * x) ⊎ (lockRow * x + lockRow ≤ j) → getD l′ j 0 ≡ getD l j 0
+
+-- every lock is without slot s afterwards, and a lock that s does not hold keeps every word
+pub record LocksReleased (S : Sizes) (s : ℕ) (l l′ : List ℕ) : Type 0 where
+  pub size : length l′ ≡ length l
+  pub each : (x : ℕ) → x < S .items → lock l′ x ≡ released s (lock l x)
+  pub others :
+      (x k : ℕ) → x < S .items → k < lockRow → (T (holds (lock l x) s) → ⊥) → getD l′ (lockRow * x + k) 0 ≡ getD l (lockRow * x + k) 0
+
+-- ---- the calls' own
+-- the row that a begin writes
+abbrev pub newcomer : Tables → ℕ → ℕ → Txn
+newcomer G k q = newTxn (lastNumber (G .txns) + 1) k q
+
+-- "The lowest free slot gets last number plus 1.": two places in the transactions, and nothing else at all
+pub record Begun (s k q : ℕ) (G G′ : Tables) : Type 0 where
+  pub txns : WordAndRowChanged lastNumberAt (lastNumber (G .txns) + 1) s (newcomer G k q) (G .txns) (G′ .txns)
+  pub locks : G′ .locks ≡ G .locks
+  pub versions : G′ .versions ≡ G .versions
+
+-- "A grant clears the awaited fields.", and the lock of item x is h
+pub record Locked (s x : ℕ) (h : Lock) (G G′ : Tables) : Type 0 where
+  pub txns : AwaitedChanged s noLock 0 (G .txns) (G′ .txns)
+  pub locks : LockChanged x h (G .locks) (G′ .locks)
+  pub versions : G′ .versions ≡ G .versions
+
+-- "Abort removes locks, working values and the row"
+pub record Aborted (S : Sizes) (s : ℕ) (G G′ : Tables) : Type 0 where
+  pub txns : RowChanged s noTxn (G .txns) (G′ .txns)
+  pub locks : LocksReleased S s (G .locks) (G′ .locks)
+  pub versions : G′ .versions ≡ G .versions
+
+-- "An update takes clock plus 1 .." "Its locks, working values and row go." A row gets a new pair in front where s holds the item
+-- exclusively, and keeps every word elsewhere
+pub record Committed (S : Sizes) (s : ℕ) (G G′ : Tables) : Type 0 where
+  pub txns : WordAndRowChanged clockAt (clock (G .txns) + 1) s noTxn (G .txns) (G′ .txns)
+  pub locks : LocksReleased S s (G .locks) (G′ .locks)
+  pub size : length (G′ .versions) ≡ length (G .versions)
+  pub written :
+      (x : ℕ) → x < S .items → T (holdsExclusive (lock (G .locks) x) s)
+      → row (versionRow S) x (G′ .versions)
+      ≡ rowOf S
+      (kept (starts S (G .txns))
+      (record { stamp = clock (G .txns) + 1; value = (lock (G .locks) x) .working } ∷ versionsOf S (G .versions) x))
+  pub others :
+      (x j : ℕ) → x < S .items → j < versionRow S → (T (holdsExclusive (lock (G .locks) x) s) → ⊥)
+      → getD (G′ .versions) (versionRow S * x + j) 0 ≡ getD (G .versions) (versionRow S * x + j) 0
+
+-- "A query only ends.": its row goes, and the versions that none but it read
+pub record Ended (S : Sizes) (s : ℕ) (G G′ : Tables) : Type 0 where
+  pub txns : RowChanged s noTxn (G .txns) (G′ .txns)
+  pub locks : G′ .locks ≡ G .locks
+  pub size : length (G′ .versions) ≡ length (G .versions)
+  pub each :
+      (x : ℕ) → x < S .items
+      → row (versionRow S) x (G′ .versions) ≡ rowOf S (kept (starts S (G′ .txns)) (versionsOf S (G .versions) x))
+
+-- ---- every granted call: its four numbers, the tables afterwards, and which words of them are others than before
+pub data Granted (S : Sizes) (G : Tables) : Call → Outcome → Type 0 where
+  -- "begin: number is the new number"
+  updateBegins :
+      (s : ℕ) → Free S (G .txns) s → Begun s anUpdate 0 G (begun anUpdate 0 s G)
+      → Granted S G BeginUpdate (says granted 0 (lastNumber (G .txns) + 1) 0 (begun anUpdate 0 s G))
+  queryBegins :
+      (s : ℕ) → Free S (G .txns) s → Begun s aQuery (clock (G .txns)) G (begun aQuery (clock (G .txns)) s G)
+      → Granted S G BeginQuery (says granted 0 (lastNumber (G .txns) + 1) 0 (begun aQuery (clock (G .txns)) s G))
+  -- "own working value": no word changes
+  ownRead :
+      (n x s : ℕ) → Updater S G n s sharedLock x → T (holdsExclusive (lock (G .locks) x) s)
+      → Granted S G (Read n x) (says granted ((lock (G .locks) x) .working) 0 0 G)
+  -- "newest value": no word changes
+  sharedRead :
+      (n x s : ℕ) → Updater S G n s sharedLock x → T (holdsShared (lock (G .locks) x) s)
+      → Granted S G (Read n x) (says granted (newest S (G .versions) x) 0 1 G)
+  -- "take shared, newest value"
+  sharedTaken :
+      (n x s : ℕ) → Updater S G n s sharedLock x → (T (holds (lock (G .locks) x) s) → ⊥)
+      → Locked s x (sharedToo (lock (G .locks) x) s) G (locked s x (sharedToo (lock (G .locks) x) s) G)
+      → Granted S G (Read n x) (says granted (newest S (G .versions) x) 0 1 (locked s x (sharedToo (lock (G .locks) x) s) G))
+  -- "the newest version whose stamp is at most its start": no word changes
+  queryReads :
+      (n x s : ℕ) → Caller S G n s → T (liveQuery (txn (G .txns) s)) → x < S .items
+      → Granted S G (Read n x)
+      (says granted
+      ((choice ((txn (G .txns) s) .start) (versionsOf S (G .versions) x)) .value)
+      0
+      (suc (place ((txn (G .txns) s) .start) (versionsOf S (G .versions) x)))
+      G)
+  -- "replace the working value": the transactions and the versions are the very same lists
+  valueReplaced :
+      (n x v s : ℕ) → Updater S G n s exclusiveLock x → T (holdsExclusive (lock (G .locks) x) s)
+      → LockChanged x (replaced (lock (G .locks) x) v) (G .locks) (setLock (G .locks) x (replaced (lock (G .locks) x) v))
+      → Granted S G (Write n x v) (says granted 0 0 0 (withLocks G (G .txns) (setLock (G .locks) x (replaced (lock (G .locks) x) v))))
+  -- "exchange for exclusive"
+  sharedExchanged :
+      (n x v s : ℕ) → Updater S G n s exclusiveLock x → T (holdsShared (lock (G .locks) x) s)
+      → Locked s x (taken (lock (G .locks) x) s v) G (locked s x (taken (lock (G .locks) x) s v) G)
+      → Granted S G (Write n x v) (says granted 0 0 0 (locked s x (taken (lock (G .locks) x) s v) G))
+  -- "take exclusive"
+  exclusiveTaken :
+      (n x v s : ℕ) → Updater S G n s exclusiveLock x → (T (holds (lock (G .locks) x) s) → ⊥)
+      → Locked s x (taken (lock (G .locks) x) s v) G (locked s x (taken (lock (G .locks) x) s v) G)
+      → Granted S G (Write n x v) (says granted 0 0 0 (locked s x (taken (lock (G .locks) x) s v) G))
+  -- "update commit: number is the stamp"
+  updateCommits :
+      (n s : ℕ) → Caller S G n s → T (liveUpdate (txn (G .txns) s)) → Committed S s G (committed S s G)
+      → Granted S G (Commit n) (says granted 0 (clock (G .txns) + 1) 0 (committed S s G))
+  -- "A query only ends."
+  queryCommits :
+      (n s : ℕ) → Caller S G n s → T (liveQuery (txn (G .txns) s)) → Ended S s G (ended S s G)
+      → Granted S G (Commit n) (says granted 0 0 0 (ended S s G))
+  updateAborts :
+      (n s : ℕ) → Caller S G n s → T (liveUpdate (txn (G .txns) s)) → Aborted S s G (aborted S s G)
+      → Granted S G (Abort n) (says granted 0 0 0 (aborted S s G))
+  -- "for a query is the same as commit"
+  queryAborts :
+      (n s : ℕ) → Caller S G n s → T (liveQuery (txn (G .txns) s)) → Ended S s G (ended S s G)
+      → Granted S G (Abort n) (says granted 0 0 0 (ended S s G))

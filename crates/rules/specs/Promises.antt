@@ -1,0 +1,189 @@
+-- What is promised of `step`, a statement for each sentence: this is what docs/PROMISES.md cites. Each is proved for all sizes (in the
+-- file of proofs/ that is named beside it), where a row may grow for those with at least as many places as slots.
+use Prim.Native.Nat.{ℕ, suc, _+_, _≤_, _<_}
+use mathlib.Core.Path.{_≡_}
+use mathlib.Core.Logic.{_≢_, _⊎_, _↔_}
+use mathlib.Core.Bool.{false, cond}
+use mathlib.Core.List.{List, [], _∷_}
+use lib.ListN.{length, getD}
+use lib.Dec.{T, ltb}
+use Rattle.names.specs.declared.Sizes.{Sizes}
+use Rattle.rules.specs.Tables.{Tables, clock, txn, live, liveUpdate, liveQuery, starts, noLock, Lock, lock, holds, holdsShared, holdsExclusive}
+use Rattle.rules.specs.Versions.{Version, noVersion, versionsOf, stampAt, place, choice}
+use Rattle.rules.specs.Waits.{blocks}
+use Rattle.rules.specs.Good.{Good}
+use Rattle.rules.specs.Locks.{Asked, toRead, toWrite, wanted}
+use Rattle.rules.specs.Answers.{Call, Read, Write, Abort, Outcome, says, granted, code, Wait, Deadlock}
+use Rattle.rules.specs.Step.{step, writesFurther, withNew, committed, ended}
+use Rattle.rules.specs.Conditions.{Caller, CallerIn, Updater, Names, Wants, Circle, order, Answered}
+use Rattle.rules.specs.Changed.{AwaitedChanged, Granted}
+
+-- the code that a call is answered, and the tables that it leaves
+abbrev pub codeOf : Sizes → Call → Tables → ℕ
+codeOf S c G = (step S c G) .answer .code
+
+abbrev pub after : Sizes → Call → Tables → Tables
+after S c G = (step S c G) .after
+
+-- ==== every call on any tables
+
+-- "Show once that no second outcome fits" (Steps)
+abbrev pub OneOutcome : Sizes → Type 0
+OneOutcome S = (c : Call) (G : Tables) → (o : Outcome) × (o ≡ step S c G) × ((p : Outcome) → p ≡ step S c G → p ≡ o)
+
+-- "each refusal under its stated condition and no other", in the document's order (Answered)
+abbrev pub CodeExactly : Sizes → Type 0
+CodeExactly S = (c : Call) (G : Tables) (k : ℕ) → (codeOf S c G ≡ k) ↔ Answered S c G (order c) k
+
+-- "a refusal changes no word, .." (Refused)
+abbrev pub RefusedUnchanged : Sizes → Type 0
+RefusedUnchanged S = (c : Call) (G : Tables) → codeOf S c G ≢ granted → codeOf S c G ≢ code Wait → after S c G ≡ G
+
+-- ".. only a wait is noted down": "only the caller's awaited fields" (Refused)
+pub record Noted (S : Sizes) (c : Call) (G : Tables) : Type 0 where
+  pub slot : ℕ
+  pub lockKind : ℕ
+  pub item : ℕ
+  pub caller : CallerIn c S G slot
+  pub wants : Wants c lockKind item
+  pub txns : AwaitedChanged slot lockKind item (G .txns) ((after S c G) .txns)
+  pub locks : (after S c G) .locks ≡ G .locks
+  pub versions : (after S c G) .versions ≡ G .versions
+
+abbrev pub WaitWords : Sizes → Type 0
+WaitWords S = (c : Call) (G : Tables) → codeOf S c G ≡ code Wait → Noted S c G
+
+-- "What is not named is 0.": beside a refusal's code (Refused)
+abbrev pub RefusedZeros : Sizes → Type 0
+RefusedZeros S =
+    (c : Call) (G : Tables) → codeOf S c G ≢ granted
+    → (step S c G) .answer ≡ record { code = codeOf S c G; value = 0; number = 0; looked = 0 }
+
+-- "0 granted": its four numbers, and exactly the words that the document names (Outcomes)
+abbrev pub GrantedChanges : Sizes → Type 0
+GrantedChanges S = (c : Call) (G : Tables) → codeOf S c G ≡ granted → Granted S G c (step S c G)
+
+-- "Every call on good tables leaves good tables." (Keeps)
+abbrev pub StaysGood : Sizes → Type 0
+StaysGood S = (c : Call) (G : Tables) → Good S G → Good S (after S c G)
+
+-- ==== an update's read or write
+
+-- the call by which the transaction n asks to read the item x, or to write v there
+abbrev pub asking : Asked → ℕ → ℕ → ℕ → Call
+asking toRead n x v = Read n x
+asking toWrite n x v = Write n x v
+
+-- "an update's read or write that passes the earlier tests": n in slot s is an update, the item is known, nothing else is awaited, and
+-- the quota of request E2 leaves room for a write
+pub record Passes (S : Sizes) (G : Tables) (a : Asked) (n s x : ℕ) : Type 0 where
+  pub asks : Updater S G n s (wanted a) x
+  pub room : a ≡ toWrite → writesFurther S (G .locks) s x ≡ false
+
+-- another holder's lock conflicts
+abbrev pub Conflicting : Sizes → Tables → Asked → ℕ → ℕ → Type 0
+Conflicting S G a s x = (b : ℕ) × (b < S .slots) × T (blocks (lock (G .locks) x) (wanted a) s b)
+
+-- ".. is granted exactly when no other holder's lock conflicts, ..": it is answered the code k exactly where Q holds (Granted)
+abbrev pub AnsweredWhere : Sizes → ℕ → (Tables → Asked → ℕ → ℕ → Type 0) → Type 0
+AnsweredWhere S k Q =
+    (G : Tables) (a : Asked) (n s x v : ℕ) → Good S G → Passes S G a n s x → (codeOf S (asking a n x v) G ≡ k) ↔ Q G a s x
+
+abbrev pub GrantedExactly : Sizes → Type 0
+GrantedExactly S = AnsweredWhere S granted (λ G a s x. Conflicting S G a s x → ⊥)
+
+-- ".. and refused as a deadlock exactly when its wait would close a circle of waits"
+abbrev pub DeadlockExactly : Sizes → Type 0
+DeadlockExactly S = AnsweredWhere S (code Deadlock) (λ G a s x. Conflicting S G a s x × Circle G s (wanted a) x)
+
+abbrev pub WaitExactly : Sizes → Type 0
+WaitExactly S = AnsweredWhere S (code Wait) (λ G a s x. Conflicting S G a s x × (Circle G s (wanted a) x → ⊥))
+
+-- "A taken exclusive lock clears the caller's shared bit and sets the working value.": what a granted call leaves the slot s (Held)
+abbrev pub HoldsFor : Asked → ℕ → Lock → ℕ → Type 0
+HoldsFor toRead v h s = T (holds h s)
+HoldsFor toWrite v h s = T (holdsExclusive h s) × (T (holdsShared h s) → ⊥) × (h .working ≡ v)
+
+abbrev pub GrantedHolds : Sizes → Type 0
+GrantedHolds S =
+    (G : Tables) (a : Asked) (n s x v : ℕ) → Caller S G n s → T (liveUpdate (txn (G .txns) s))
+    → codeOf S (asking a n x v) G ≡ granted → HoldsFor a v (lock ((after S (asking a n x v) G) .locks) x) s
+
+-- ==== waiting
+
+-- "A waiting transaction stays so until it makes the same kind of call on the same item again and is granted, or is aborted": else its
+-- row stays as it is, whoever calls (Waiting)
+abbrev pub StaysWaiting : Sizes → Type 0
+StaysWaiting S =
+    (c : Call) (G : Tables) (s : ℕ) → Good S G → s < S .slots → (txn (G .txns) s) .awaitedLock ≢ noLock
+    → (txn ((after S c G) .txns) s ≡ txn (G .txns) s)
+    ⊎ ((Names c ((txn (G .txns) s) .number) × Wants c ((txn (G .txns) s) .awaitedLock) ((txn (G .txns) s) .awaitedItem) × (codeOf S c G ≡ granted))
+    ⊎ (c ≡ Abort ((txn (G .txns) s) .number)))
+
+-- calls by others leave the row of a live transaction as it is (Waiting)
+abbrev pub OthersLeave : Sizes → Type 0
+OthersLeave S =
+    (c : Call) (G : Tables) (s : ℕ) → Good S G → s < S .slots → T (live (txn (G .txns) s))
+    → (Names c ((txn (G .txns) s) .number) → ⊥) → txn ((after S c G) .txns) s ≡ txn (G .txns) s
+
+-- the awaited call made again is never a deadlock, and if it waits again no word changes (Waiting)
+abbrev pub RepeatedWaits : Sizes → Type 0
+RepeatedWaits S =
+    (c : Call) (G : Tables) (s : ℕ) → Good S G → CallerIn c S G s → (txn (G .txns) s) .awaitedLock ≢ noLock
+    → Wants c ((txn (G .txns) s) .awaitedLock) ((txn (G .txns) s) .awaitedItem)
+    → (codeOf S c G ≢ code Deadlock) × (codeOf S c G ≡ code Wait → after S c G ≡ G)
+
+-- ==== versions
+
+-- "The value is that of the newest version whose stamp is at most its start. .. The looked count is the place of that version in its
+-- row, from 1.": vs are the versions, q is the start (Queries)
+pub record NewestUpTo (q : ℕ) (vs : List Version) (k : ℕ) : Type 0 where
+  pub there : k < length vs
+  pub upTo : stampAt vs k ≤ q
+  pub newest : (j : ℕ) → j < length vs → stampAt vs j ≤ q → k ≤ j
+
+-- how many of the starts qs are later than q
+unfoldable pub later : ℕ → List ℕ → ℕ
+later q [] = 0
+later q (s ∷ qs) = let rest = later q qs in cond (ltb q s) (suc rest) rest
+
+-- "No lock, no wait.": no word changes. "It is at most 2 plus the number of live queries with a later start."
+abbrev pub QueryReads : Sizes → Type 0
+QueryReads S =
+    (G : Tables) (n s x : ℕ) → Good S G → Caller S G n s → T (liveQuery (txn (G .txns) s)) → x < S .items
+    → let q = (txn (G .txns) s) .start in
+    let vs = versionsOf S (G .versions) x in
+    (k : ℕ) × NewestUpTo q vs k × (step S (Read n x) G ≡ says granted ((getD vs k noVersion) .value) 0 (suc k) G)
+    × (suc k ≤ 2 + later q (starts S (G .txns)))
+
+-- "every row keeps its newest version and those that some live query reads, and no others": the versions vs of item x, as they are in
+-- the tables G. "So .. 16 places are always enough" (Queries)
+pub record TrimmedTo (S : Sizes) (vs : List Version) (G : Tables) (x : ℕ) : Type 0 where
+  pub newest : getD (versionsOf S (G .versions) x) 0 noVersion ≡ getD vs 0 noVersion
+  pub read :
+      (r : ℕ) → r < S .slots → T (liveQuery (txn (G .txns) r))
+      → choice ((txn (G .txns) r) .start) (versionsOf S (G .versions) x) ≡ choice ((txn (G .txns) r) .start) vs
+  pub noOther :
+      (k : ℕ) → 0 < k → k < length (versionsOf S (G .versions) x)
+      → (r : ℕ) × (r < S .slots) × T (liveQuery (txn (G .txns) r)) × (place ((txn (G .txns) r) .start) (versionsOf S (G .versions) x) ≡ k)
+  pub places : length (versionsOf S (G .versions) x) ≤ S .slots
+
+-- "after a query's end"
+abbrev pub EndTrims : Sizes → Type 0
+EndTrims S =
+    (G : Tables) (s : ℕ) → Good S G → s < S .slots → (x : ℕ) → x < S .items
+    → TrimmedTo S (versionsOf S (G .versions) x) (ended S s G) x
+
+-- "After an update's commit": with the new pair in front, where it holds the item exclusively
+abbrev pub CommitTrims : Sizes → Type 0
+CommitTrims S =
+    (G : Tables) (s : ℕ) → Good S G → s < S .slots → T (liveUpdate (txn (G .txns) s)) → (x : ℕ) → x < S .items
+    → TrimmedTo S (withNew (G .locks) s (clock (G .txns) + 1) x (versionsOf S (G .versions) x)) (committed S s G) x
+
+-- so a query that lives through a commit chooses the very same version
+abbrev pub CommitKeeps : Sizes → Type 0
+CommitKeeps S =
+    (G : Tables) (s r : ℕ) → Good S G → s < S .slots → T (liveUpdate (txn (G .txns) s)) → r < S .slots → T (liveQuery (txn (G .txns) r))
+    → (x : ℕ) → x < S .items
+    → choice ((txn (G .txns) r) .start) (versionsOf S ((committed S s G) .versions) x)
+    ≡ choice ((txn (G .txns) r) .start) (versionsOf S (G .versions) x)
