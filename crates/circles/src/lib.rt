@@ -12,6 +12,7 @@ ghost use Rattle.rules.specs.Words.{bit};
 ghost use Rattle.circles.specs.Links.{LinkWords, Waiting, NoCircle, Leads};
 ghost use Rattle.circles.specs.Peel.{peeled, Swept};
 ghost use Rattle.circles.specs.Visits.{Open};
+use names::Slot;
 
 // How many slots there are, as an index.
 const SLOTS: usize = names::SLOTS as usize;
@@ -110,9 +111,9 @@ fn search(waits: &[u64], done: u64, todo: u64, goal: u64) -> bool
 
 // Is a slot of `from` the goal, or can one walk from it to the goal? Where `from` holds whom the
 // goal would wait for, this says whether that wait would close a circle.
-pub fn reaches(waits: &[u64], from: u64, goal: u64) -> bool
+pub fn reaches(waits: &[u64], from: u64, goal: Slot) -> bool
     requires { ⌜ LinkWords (now waits) × (from < 2 ^ base .slots) ⌝ }
-    ensures { λ r. ⌜ T r ↔ Leads (now (waits .entry)) from goal ⌝ }
+    ensures { λ r. ⌜ T r ↔ Leads (now (waits .entry)) from (goal .0) ⌝ }
 {
-    search(waits, 0, from, goal)
+    search(waits, 0, from, goal.0)
 }

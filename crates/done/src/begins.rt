@@ -29,6 +29,6 @@ pub fn waits(txns: &mut [u64], slot: Slot, lock: u64, item: Item) -> Answer
     requires { ⌜ (length (now txns) ≡ txnWords base) × (slot .0 < base .slots) ⌝ }
     ensures { λ r. ⌜ ((l v : List ℕ) → outcome r (now (txns .exit)) l v ≡ done base (Waits slot lock item) (tables (now (txns .entry)) l v)) ⌝ }
 {
-    rows::set_awaited(txns, slot, lock, item.0);
+    rows::set_awaited(txns, slot, lock, item);
     Answer::refused(Refusal::Wait)
 }

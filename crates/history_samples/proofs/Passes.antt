@@ -17,7 +17,7 @@ use Rattle.history.specs.Happened.{got, put, Happening, did, told, happened, be
 use Rattle.history.specs.Serial.{zeros, agrees, final, accessOf, grantedTo, placeOf, order, oneByOne, serial}
 use Rattle.history.specs.Undisturbed.{callsOf, heard}
 use Rattle.history_samples.specs.Samples.{serializes, runPasses, mixed, stored, lateSnapshot, timelySnapshot, lostUpdate, keptUpdate, dirtyRead}
-use Rattle.history_samples.specs.Samples.{quietly, among, updateAlone, updateAfter}
+use Rattle.history_samples.specs.Samples.{quietly, among, undisturbed, updateAlone, updateAfter, heardAlone, heardAfter}
 
 -- the happenings of a run from fresh tables, as they are computed: whoever unfolds this computes with all the rules and with the definitions of demand 3
 unfoldable computed : List Call → List Happening
@@ -78,14 +78,12 @@ query-calls : callsOf 1 quietly ≡ callsOf 1 among
 unfolding computed quietly among
 query-calls = refl
 
-query-alone :
-    heard 1 (run base (BeginQuery ∷ quietly) (fresh base)) ≡ (0, 0) ∷ (5, 0) ∷ (4, 0) ∷ (0, 0) ∷ (0, 0) ∷ (3, 0) ∷ []
-unfolding computed quietly
+query-alone : heard 1 (run base (BeginQuery ∷ quietly) (fresh base)) ≡ undisturbed
+unfolding computed quietly undisturbed
 query-alone = refl
 
-query-among :
-    heard 1 (run base (BeginQuery ∷ among) (fresh base)) ≡ (0, 0) ∷ (5, 0) ∷ (4, 0) ∷ (0, 0) ∷ (0, 0) ∷ (3, 0) ∷ []
-unfolding computed among
+query-among : heard 1 (run base (BeginQuery ∷ among) (fresh base)) ≡ undisturbed
+unfolding computed among undisturbed
 query-among = refl
 
 -- ---- an update is disturbed, so that the statement is not empty: the same call, another number
@@ -93,10 +91,10 @@ update-calls : callsOf 1 updateAlone ≡ callsOf 1 updateAfter
 unfolding computed updateAlone updateAfter
 update-calls = refl
 
-update-alone : heard 1 (run base updateAlone (fresh base)) ≡ (0, 0) ∷ []
-unfolding computed updateAlone
+update-alone : heard 1 (run base updateAlone (fresh base)) ≡ heardAlone
+unfolding computed updateAlone heardAlone
 update-alone = refl
 
-update-after : heard 1 (run base updateAfter (fresh base)) ≡ (0, 77) ∷ []
-unfolding computed updateAfter
+update-after : heard 1 (run base updateAfter (fresh base)) ≡ heardAfter
+unfolding computed updateAfter heardAfter
 update-after = refl

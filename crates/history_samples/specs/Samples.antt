@@ -73,6 +73,10 @@ dirtyRead =
 unfoldable pub quietly : List Call
 quietly = Read 1 5 ∷ Write 1 5 3 ∷ Read 1 64 ∷ Read 1 5 ∷ Commit 1 ∷ Read 1 5 ∷ []
 
+-- what it hears in both: codes and values
+unfoldable pub undisturbed : List (ℕ × ℕ)
+undisturbed = (0, 0) ∷ (5, 0) ∷ (4, 0) ∷ (0, 0) ∷ (0, 0) ∷ (3, 0) ∷ []
+
 unfoldable pub among : List Call
 among =
     BeginUpdate ∷ Write 2 5 77 ∷ Read 1 5 ∷ Commit 2 ∷ BeginQuery ∷ Write 1 5 3 ∷ BeginUpdate ∷ Write 4 5 78 ∷ Commit 4 ∷ Read 1 64
@@ -84,3 +88,10 @@ updateAlone = BeginUpdate ∷ Read 1 5 ∷ []
 
 unfoldable pub updateAfter : List Call
 updateAfter = BeginUpdate ∷ BeginUpdate ∷ Write 2 5 77 ∷ Commit 2 ∷ Read 1 5 ∷ []
+
+-- what it hears alone, and after the commit
+unfoldable pub heardAlone : List (ℕ × ℕ)
+heardAlone = (0, 0) ∷ []
+
+unfoldable pub heardAfter : List (ℕ × ℕ)
+heardAfter = (0, 77) ∷ []

@@ -29,11 +29,10 @@ fn conflict(txns: &[u64], locks: &[u64], slot: Slot, lock: u64, item: Item) -> D
     ensures { λ r. ⌜ r ≡ conflicted base (slot .0) lock (item .0) (ofLocks (now (txns .entry)) (now (locks .entry))) ⌝ }
 {
     let row = rows::lock_at(locks, item);
-    let s = slot.0;
-    let from = waiting::blockers(row.shared, row.exclusive, lock, s);
+    let from = waiting::blockers(row.shared, row.exclusive, lock, slot);
     let waiters = waiting::waits(txns, locks);
     let links = waiters.links;
-    if circles::reaches(&links, from, s) {
+    if circles::reaches(&links, from, slot) {
         return Deed::Refused(Refusal::Deadlock);
     }
     Deed::Waits(slot, lock, item)

@@ -1,5 +1,6 @@
 // The transaction table: its head, and a row for each slot.
 use names::CLOCK_AT;
+use names::Item;
 use names::LAST_NUMBER_AT;
 use names::Number;
 use names::SLOTS;
@@ -111,14 +112,14 @@ pub fn awaited_item(txns: &[u64], slot: Slot) -> u64
     txns[at + TXN_ITEM_AT]
 }
 
-// The awaited lock and item of a slot.
-pub fn set_awaited(txns: &mut [u64], slot: Slot, lock: u64, item: u64)
+// The awaited lock and item of a slot; where nothing is awaited, the item 0.
+pub fn set_awaited(txns: &mut [u64], slot: Slot, lock: u64, item: Item)
     requires { ⌜ (length (now txns) ≡ txnWords base) × (slot .0 < base .slots) ⌝ }
-    ensures { λ _. ⌜ now (txns .exit) ≡ setAwaited (now (txns .entry)) (slot .0) lock item ⌝ }
+    ensures { λ _. ⌜ now (txns .exit) ≡ setAwaited (now (txns .entry)) (slot .0) lock (item .0) ⌝ }
 {
     let at = TXN_HEAD + TXN_ROW * (slot.0 as usize);
     txns[at + TXN_LOCK_AT] = lock;
-    txns[at + TXN_ITEM_AT] = item;
+    txns[at + TXN_ITEM_AT] = item.0;
 }
 
 // The row of a slot goes: each of its words becomes 0.

@@ -12,6 +12,7 @@ use names::LOCK_EXCLUSIVE_AT;
 use names::LOCK_ROW;
 use names::NO_LOCK;
 use names::SHARED_LOCK;
+use names::Slot;
 use names::TXN_HEAD;
 use names::TXN_ITEM_AT;
 use names::TXN_LOCK_AT;
@@ -36,9 +37,9 @@ fn awaiter_ok(shared: u64, exclusive: u64, wanted: u64, slot: u64) -> bool
 
 // The word of the slots other than `slot` whose hold on a lock conflicts with a request by `slot`
 // for the lock `wanted`; `shared` and `exclusive` say who holds it.
-pub fn blockers(shared: u64, exclusive: u64, wanted: u64, slot: u64) -> u64
-    requires { ⌜ (shared < 2 ^ base .slots) × (exclusive ≤ base .slots) × (slot < base .slots) ⌝ }
-    ensures { λ r. ⌜ ((working : ℕ) → Blockers (record { shared = shared; exclusive = exclusive; working = working }) wanted slot r) ⌝ }
+pub fn blockers(shared: u64, exclusive: u64, wanted: u64, slot: Slot) -> u64
+    requires { ⌜ (shared < 2 ^ base .slots) × (exclusive ≤ base .slots) × (slot .0 < base .slots) ⌝ }
+    ensures { λ r. ⌜ ((working : ℕ) → Blockers (record { shared = shared; exclusive = exclusive; working = working }) wanted (slot .0) r) ⌝ }
 {
     let mut all: u64 = 0;
     if exclusive != 0 {
@@ -47,7 +48,7 @@ pub fn blockers(shared: u64, exclusive: u64, wanted: u64, slot: u64) -> u64
     if wanted == EXCLUSIVE_LOCK {
         all = all | shared;
     }
-    all ^ (all & (1 << slot))
+    all ^ (all & (1 << slot.0))
 }
 
 // One pass over the rows that await a lock: whether each may, and whom each slot waits for.
@@ -67,7 +68,7 @@ pub fn waits(txns: &[u64], locks: &[u64]) -> Waiters
             let exclusive = locks[LOCK_ROW * item + LOCK_EXCLUSIVE_AT];
             let waiter = slot as u64;
             ok = awaiter_ok(shared, exclusive, wanted, waiter) & ok;
-            links[slot] = blockers(shared, exclusive, wanted, waiter);
+            links[slot] = blockers(shared, exclusive, wanted, Slot(waiter));
         }
         slot += 1;
     }

@@ -4,7 +4,7 @@ use Rattle.circles.proofs.reaches.Statement.{statement}
 use Rattle.circles.proofs.reaches.Tie as tie
 
 search-requires : tie.Need-search-requires
-search-requires c κs = (c .before .pre .0, opening (c .before .args .waits .now) (c .before .args .from) (c .before .args .goal) (c .before .pre .1))
+search-requires c κs = (c .before .pre .0, opening (c .before .args .waits .now) (c .before .args .from) (c .before .args .goal .0) (c .before .pre .1))
 
 returns : tie.Need-returns
 returns c = c .search .ensures
