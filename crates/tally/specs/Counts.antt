@@ -1,10 +1,11 @@
--- What is counted: a trial more, and the words of two tables that differ. Assumes nothing.
+-- What is counted: a trial more, and the words of two tables that differ.
 use Prim.Native.Nat.{ℕ, zero, suc, _+_, _%_, _^_}
 use mathlib.Core.Bool.{Bool, true, false, _&&_, _||_, cond}
 use mathlib.Core.List.{List, [], _∷_}
-use lib.Dec.{eqb, ltb}
+use lib.Dec.{eqb}
 use lib.ListN.{getD, drop}
 use Rattle.names.specs.declared.Answer.{Answer}
+use Rattle.names.specs.Answers.{granted}
 use Rattle.tally.specs.declared.score.Score.{Score}
 use Rattle.tally.specs.declared.tally.Tally.{Tally}
 
@@ -12,9 +13,10 @@ use Rattle.tally.specs.declared.tally.Tally.{Tally}
 abbrev pub same : Answer → Answer → Bool
 same a b = eqb (a .code) (b .code) && eqb (a .value) (b .value) && eqb (a .number) (b .number) && eqb (a .looked) (b .looked)
 
--- an answer as expected: the same four numbers, and no word changed where they are a refusal, whose code is above 1
+-- an answer as expected: the same four numbers, and but for a grant no word other than it must be, which is what it was before the
+-- call, or what a wait notes (Noted: noted); others is how many words are
 abbrev pub asExpected : Answer → ℕ → Answer → Bool
-asExpected found changed wanted = same found wanted && (ltb (wanted .code) 2 || eqb changed 0)
+asExpected found others wanted = same found wanted && (eqb (wanted .code) granted || eqb others 0)
 
 -- one more, as words count: after the greatest comes 0
 abbrev pub more : ℕ → ℕ

@@ -4,8 +4,12 @@ ghost use mathlib.Core.Path.{_≡_};
 ghost use Rattle.tally.specs.Counts.{same, asExpected};
 ghost use Rattle.tally.specs.Counts.{more as one·more, counted as tally·counted};
 
-// From this code on an answer is a refusal, which changes no word.
+// From this code on an answer is a refusal, which changes no word; the code before it is a wait.
 pub const REFUSED: u64 = 2;
+
+pub const WAIT: u64 = 1;
+
+const GRANTED: u64 = 0;
 
 // The trial that is played, the number of its next step, and how many steps of all trials were
 // tried and were as expected.
@@ -28,10 +32,11 @@ pub fn equal(a: Answer, b: Answer) -> bool
     (a.code == b.code) & (a.value == b.value) & (a.number == b.number) & (a.looked == b.looked)
 }
 
-pub fn as_expected(found: Answer, changed: u64, wanted: Answer) -> bool
-    ensures { λ r. ⌜ r ≡ asExpected found changed wanted ⌝ }
+// Whether an answer is the expected one, and but for a grant no word is other than it must be.
+pub fn as_expected(found: Answer, others: u64, wanted: Answer) -> bool
+    ensures { λ r. ⌜ r ≡ asExpected found others wanted ⌝ }
 {
-    equal(found, wanted) & ((wanted.code < REFUSED) | (changed == 0))
+    equal(found, wanted) & ((wanted.code == GRANTED) | (others == 0))
 }
 
 impl Tally {

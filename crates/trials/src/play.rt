@@ -77,9 +77,9 @@ fn made(stage: Stage, line: Line, call: Call) -> Stage {
     let before = stage.tables;
     let called = before.call(call);
     let after = called.tables;
-    let changed = after.changed(before);
+    let others = after.changed(before.noted(wanted.code, call));
     let tally = stage.tally;
-    let counted = expect(tally, called.answer, changed as u64, wanted);
+    let counted = expect(tally, called.answer, others as u64, wanted);
     let rows = stage.rows;
     Stage {
         tables: after,

@@ -9,6 +9,7 @@ use names::LOCK_WORDS;
 use names::SLOTS;
 use names::TXN_WORDS;
 use names::VERSION_WORDS;
+use tally::WAIT;
 ghost use mathlib.Core.Path.{_≡_};
 ghost use Prim.Native.Nat.{_+_, _≤_};
 ghost use Rattle.tally.specs.Counts.{differing};
@@ -77,6 +78,12 @@ fn make_on(
     let l = least(lent.locks, locks.len());
     let v = least(lent.versions, versions.len());
     keeper::call(call, &mut txns[..t], &mut locks[..l], &mut versions[..v])
+}
+
+// What a call that waits notes in so many words.
+fn note_on(txns: &mut [u64], lent: Lent, call: Call) {
+    let t = least(lent.txns, txns.len());
+    tally::note(&mut txns[..t], call);
 }
 
 // Where a word of a row stands in its table.
@@ -173,6 +180,23 @@ impl Tables {
                 locks: locks as usize,
                 versions: versions as usize,
             },
+        }
+    }
+
+    // The tables as a refusal leaves them, and a wait, which notes what is awaited.
+    pub fn noted(self, code: u64, call: Call) -> Tables {
+        let mut txns = self.txns;
+        let locks = self.locks;
+        let versions = self.versions;
+        let lent = self.lent;
+        if code == WAIT {
+            note_on(&mut txns, lent, call);
+        }
+        Tables {
+            txns,
+            locks,
+            versions,
+            lent,
         }
     }
 

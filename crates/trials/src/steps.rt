@@ -25,13 +25,13 @@ pub fn head(tally: Tally) {
 
 // The answer to a call: its line, which has said what was expected, ends with what was found, after
 // a refusal with how many words of the tables are others too.
-pub fn expect(tally: Tally, found: Answer, changed: u64, wanted: Answer) -> Tally
-    ensures { λ r. ⌜ r ≡ counted tally (asExpected found changed wanted) ⌝ }
+pub fn expect(tally: Tally, found: Answer, others: u64, wanted: Answer) -> Tally
+    ensures { λ r. ⌜ r ≡ counted tally (asExpected found others wanted) ⌝ }
 {
     say::say(b", found ");
     say::answer(found);
-    say_changed(wanted.code, changed);
-    let ok = as_expected(found, changed, wanted);
+    say_changed(wanted.code, others);
+    let ok = as_expected(found, others, wanted);
     say::end(ok);
     tally.counted(ok)
 }
