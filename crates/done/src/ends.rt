@@ -18,9 +18,10 @@ pub fn ends(txns: &mut [u64], versions: &mut [u64], slot: Slot) -> Answer
     requires { ⌜ Trimmed (now txns) (now versions) × (slot .0 < base .slots) ⌝ }
     ensures { λ r. ⌜ ((l : List ℕ) → outcome r (now (txns .exit)) l (now (versions .exit)) ≡ done base (Ends slot) (tables (now (txns .entry)) l (now (versions .entry)))) ⌝ }
 {
+    let start = rows::start(&txns[..], slot);
     rows::leave(txns, slot);
-    let starts = starts::starts_in_order(&txns[..]);
-    rewrites::trim_all(versions, &starts);
+    let beside = starts::beside(&txns[..], start.0);
+    rewrites::forget_all(versions, start, beside);
     Answer::granted()
 }
 
@@ -33,8 +34,8 @@ pub fn commits(txns: &mut [u64], locks: &mut [u64], versions: &mut [u64], slot: 
     let stamp = rows::clock(&txns[..]).0 + 1;
     rows::set_clock(txns, Stamp(stamp));
     rows::leave(txns, slot);
-    let starts = starts::starts_in_order(&txns[..]);
-    rewrites::commit_all(versions, &locks[..], slot, Stamp(stamp), &starts);
+    let beside = starts::beside(&txns[..], stamp);
+    rewrites::commit_all(versions, &locks[..], slot, Stamp(stamp), beside);
     rows::release(locks, slot);
     Answer::numbered(stamp)
 }

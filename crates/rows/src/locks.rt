@@ -94,7 +94,10 @@ pub fn release(locks: &mut [u64], slot: Slot)
     let mut x: u64 = 0;
     while x < ITEMS {
         let row = lock_at(&locks[..], Item(x));
-        set_lock(locks, Item(x), without(row, slot));
+        let s = slot.0;
+        if (row.exclusive == s + 1) | ((row.shared >> s) % 2 == 1) {
+            set_lock(locks, Item(x), without(row, slot));
+        }
         x += 1;
     }
 }
