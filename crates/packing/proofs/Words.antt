@@ -12,11 +12,11 @@ use lib.Dec.{ltb}
 use borrow.Author.Tests.{ltb-true, ltb-false}
 use Rattle.names.specs.Sizes.{base}
 use Rattle.rules.specs.Tables.{versionRow}
-use Rattle.rules.specs.Versions.{Version, noVersion, versionsIn, rowOf}
+use Rattle.rules.specs.Versions.{Version, noVersion, versionsIn, stampAt, rowOf}
 use Rattle.rules.proofs.Choice.{length-versionsIn}
 use Rattle.rules.proofs.ChangedVersions.{rowOf-versionsIn}
 use Rattle.choices.specs.Pairs.{countIn, stampIn, valueIn}
-use Rattle.choices.proofs.Read.{pairAt, version-in}
+use Rattle.choices.proofs.Read.{pairAt, version-in, stamp-in}
 use Rattle.packing.specs.Changed.{TidyRow, without}
 use Rattle.packing.specs.Moved.{MovedBack, MovedUp}
 
@@ -66,6 +66,14 @@ module _ (stamp value : ℕ) (m : List ℕ) (vs : List Version) where
           }
       pair (suc k) h =
           pair-words w m (suc k) (suc k) (other (suc k * 2 + 1) (omega arith)) (other (suc k * 2 + 2) (omega arith)) ∙ p k (omega arith)
+
+-- the test by which the version that was the newest stays, on the words of the row
+module _ (r : List ℕ) (t : TidyRow r) (below : ℕ) where
+  pub first-stays : stampIn r 0 < below → stampAt (versionsIn r) 0 < below
+  first-stays h = let e = stamp-in r 0 (t .sound .least) in omega arith
+
+  pub first-goes : below ≤ stampIn r 0 → below ≤ stampAt (versionsIn r) 0
+  first-goes h = let e = stamp-in r 0 (t .sound .least) in omega arith
 
 module _ (r : List ℕ) (t : TidyRow r) (stamp value : ℕ) where
   -- the pair takes the place of the newest

@@ -1,7 +1,7 @@
 -- A row of versions as it is rewritten: with a new version in front, and with one less.
 use Prim.Native.Nat.{ℕ, suc, _-_, _*_, _<_}
 use mathlib.Core.Path.{_≡_}
-use mathlib.Core.Bool.{Bool, true, _||_, cond}
+use mathlib.Core.Bool.{Bool, _||_, cond}
 use mathlib.Core.List.{List, _∷_, _++_}
 use lib.ListN.{getD, length, take, drop}
 use lib.Dec.{eqb, ltb}
@@ -17,9 +17,10 @@ pub record TidyRow (r : List ℕ) : Type 0 where
   pub sound : SoundRow r
   pub unused : (k : ℕ) → 2 * countIn r < k → getD r k 0 ≡ 0
 
--- v in front of vs, where the first of vs stays or v takes its place
-abbrev pub fronted : Bool → Version → List Version → List Version
-fronted stays v vs = v ∷ cond stays vs (drop 1 vs)
+-- v in front of vs, below being one more than the greatest start below its stamp: the first of vs stays where that start reads
+-- it, else v takes its place
+abbrev pub fronted : ℕ → Version → List Version → List Version
+fronted below v vs = v ∷ cond (ltb (stampAt vs 0) below) vs (drop 1 vs)
 
 -- vs without the version at place k
 abbrev pub without : ℕ → List Version → List Version
@@ -36,7 +37,7 @@ needed s below next vs =
 abbrev pub leftBy : ℕ → ℕ → ℕ → List Version → List Version
 leftBy s below next vs = cond (needed s below next vs) vs (without (place s vs) vs)
 
--- a row that a version can be put in front of
-pub record Frontable (r : List ℕ) (stays : Bool) : Type 0 where
+-- a row that has room for a version in front
+pub record Frontable (r : List ℕ) (below : ℕ) : Type 0 where
   pub tidy : TidyRow r
-  pub room : stays ≡ true → countIn r < base .places
+  pub room : stampAt (versionsIn r) 0 < below → countIn r < base .places

@@ -29,13 +29,14 @@ fn move_back(row: &mut [u64], n: usize)
     }
 }
 
-// Puts the pair of stamp and value in front. The version that was the newest stays behind it, or
-// the pair takes its place.
-pub fn put_front(row: &mut [u64], stays: bool, stamp: u64, value: u64)
-    requires { ⌜ Frontable (now row) stays ⌝ }
-    ensures { λ _. ⌜ now (row .exit) ≡ rowOf base (fronted stays (record { stamp = stamp; value = value }) (versionsIn (now (row .entry)))) ⌝ }
+// Puts the pair of stamp and value in front, below being one more than the greatest start below the
+// stamp. The version that was the newest stays behind it where that start reads it; else the pair
+// takes its place.
+pub fn put_front(row: &mut [u64], below: u64, stamp: u64, value: u64)
+    requires { ⌜ Frontable (now row) below ⌝ }
+    ensures { λ _. ⌜ now (row .exit) ≡ rowOf base (fronted below (record { stamp = stamp; value = value }) (versionsIn (now (row .entry)))) ⌝ }
 {
-    if stays {
+    if row[VERSION_STAMP_AT] < below {
         let count = row[VERSION_COUNT_AT];
         move_back(row, (count as usize) * VERSION_PAIR);
         row[VERSION_COUNT_AT] = count + 1;
