@@ -9,6 +9,7 @@
 
 #include <stdio.h>
 #include <stdlib.h>
+#include <string.h>
 #include <time.h>
 
 #define RUNS 7
@@ -138,6 +139,55 @@ static void measure_full_jobs(void)
     printf("  %-34s %8.0f ns\n", "write of a further item, refused", further);
 }
 
+/* The commit of this transaction on the tables as they are, which are put back after each. */
+static void measure_commit(const char *what, uint64_t number)
+{
+    static uint64_t t[KEEPER_TXN_WORDS], l[KEEPER_LOCK_WORDS], v[KEEPER_VERSION_WORDS];
+    memcpy(t, txns, sizeof t);
+    memcpy(l, locks, sizeof l);
+    memcpy(v, versions, sizeof v);
+    double best = 1e18;
+    for (int run = 0; run < RUNS; run++) {
+        double sum = 0;
+        for (int i = 0; i < CALLS; i++) {
+            memcpy(txns, t, sizeof t);
+            memcpy(locks, l, sizeof l);
+            memcpy(versions, v, sizeof v);
+            double t0 = now();
+            struct keeper_answer a = keeper_commit(TABLES, number);
+            double t1 = now();
+            granted(a);
+            sum += t1 - t0;
+        }
+        best = better(best, sum);
+    }
+    memcpy(txns, t, sizeof t);
+    memcpy(locks, l, sizeof l);
+    memcpy(versions, v, sizeof v);
+    printf("  %-34s %8.0f ns\n", what, best);
+}
+
+/* Ends and commits that rewrite rows. The queries are those of fill(), numbered in steps of 3. */
+static void measure_rows(void)
+{
+    printf("rows rewritten\n");
+    keeper_fresh(TABLES);
+    measure_commit("commit of 32 items, one version", full_job(0, 1));
+    keeper_fresh(TABLES);
+    fill();
+    uint64_t n = granted(keeper_begin_query(TABLES)).number;
+    measure_commit("query's end, no version goes", n);
+    granted(keeper_commit(TABLES, n));
+    measure_commit("query's end, one of each row goes", 1 + 3 * (KEEPER_SLOTS / 2));
+    measure_commit("commit of 32 items, full rows", full_job(0, 1));
+    /* the first to read by 15 starts: 15 versions become 16 */
+    keeper_fresh(TABLES);
+    fill();
+    granted(keeper_commit(TABLES, 1));
+    granted(keeper_begin_query(TABLES));
+    measure_commit("commit of 32 items, rows get full", full_job(0, 1));
+}
+
 int main(void)
 {
     double clock_cost = 1e18;
@@ -155,5 +205,6 @@ int main(void)
     measure("full tables: 15 live queries, 16 versions of each item", 1);
     keeper_fresh(TABLES);
     measure_full_jobs();
+    measure_rows();
     return 0;
 }

@@ -11,13 +11,14 @@ use Rattle.rules.specs.Words.{row}
 use Rattle.rules.specs.Tables.{versionRow}
 use Rattle.rules.specs.Versions.{Version, noVersion, versionsIn, versionsOf, stampAt, place}
 use Rattle.rules.proofs.Choice.{length-versionsIn, place-fits}
+use Rattle.rules.proofs.Reading.{place-is}
 use Rattle.rules.proofs.Rows.{row-word}
 use Rattle.choices.specs.Pairs.{countIn, stampIn}
 use Rattle.choices.specs.Choosable.{Choosable, ChoosableIn}
 use Rattle.choices.specs.Looks.{halvings, mostLooks}
 use Rattle.choices.proofs.Lent.{length-row}
 use Rattle.choices.proofs.Halvings.{fewer, at-most}
-use Rattle.choices.proofs.Read.{version-in, stamp-in, place-is}
+use Rattle.choices.proofs.Read.{version-in, stamp-in}
 
 -- ---- in one row
 -- what the loop knows: the chosen place is one of lo .. hi

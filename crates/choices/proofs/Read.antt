@@ -1,14 +1,12 @@
--- The words of a row as versions, and the place that a start reads.
-use Prim.Native.Nat.{ℕ, zero, suc, _+_, _*_, _<_, _≤_}
+-- The words of a row as versions.
+use Prim.Native.Nat.{ℕ, zero, suc, _+_, _*_, _<_}
 use mathlib.Core.Path.{_≡_, refl, ap, _∙_}
-use mathlib.Core.Logic.{_⊎_, inl, inr}
 use mathlib.Core.List.{List}
 use native.Mathlib.Omega.{arith}
-use native.Mathlib.Nat.{not-suc-le-zero, le-of-suc-le-suc, eq-or-lt-of-le}
-use lib.ListN.{getD, length, drop}
+use native.Mathlib.Nat.{not-suc-le-zero, le-of-suc-le-suc}
+use lib.ListN.{getD, drop}
 use lib.Seq.{getD-drop}
-use Rattle.rules.specs.Versions.{Version, noVersion, pairs, versionsIn, stampAt, place}
-use Rattle.rules.proofs.Choice.{place-fits, place-least}
+use Rattle.rules.specs.Versions.{Version, noVersion, pairs, versionsIn, stampAt}
 use Rattle.choices.specs.Pairs.{countIn, stampIn, valueIn}
 
 -- ---- the version at place k is the pair behind the count and k pairs
@@ -40,12 +38,3 @@ version-in r k h =
 pub stamp-in : (r : List ℕ) (k : ℕ) → k < countIn r → stampAt (versionsIn r) k ≡ stampIn r k
 unfolding stampAt
 stamp-in r k h = ap (λ (v : Version). v .stamp) (version-in r k h)
-
--- ---- a start reads the version at place j that is old enough, where those before it are too new
-pub place-is :
-    (q : ℕ) (vs : List Version) (j : ℕ) → j < length vs → stampAt vs j ≤ q → ((i : ℕ) → i < j → q < stampAt vs i) → place q vs ≡ j
-place-is q vs j h o f = go (eq-or-lt-of-le (place-least q vs j h o))
-  where
-    go : (place q vs ≡ j) ⊎ (place q vs < j) → place q vs ≡ j
-    go (inl e) = e
-    go (inr l) = absurd (let a = f (place q vs) l in let b = place-fits q vs (omega arith) in omega arith)

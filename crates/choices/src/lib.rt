@@ -26,7 +26,7 @@ pub struct Choice {
 
 // The place, from 0, of the newest version in a row that is at most start. Stamps fall along a row, so
 // it is found by halving: every place before lo is too new, the place hi is old enough.
-fn place_in(row: &[u64], start: u64) -> usize
+pub fn place_in(row: &[u64], start: u64) -> usize
     requires { ⌜ ChoosableIn (now row) start ⌝ }
     ensures { λ k. ⌜ k ≡ place start (versionsIn (now (row .entry))) ⌝ }
 {

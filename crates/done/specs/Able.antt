@@ -24,7 +24,7 @@ Able G (TakesShared s x) = (s .0 < base .slots) × (x .0 < base .items)
 Able G (Replaces s x v) = (s .0 < base .slots) × (x .0 < base .items)
 Able G (TakesExclusive s x v) = (s .0 < base .slots) × (x .0 < base .items)
 Able G (Commits s) = (s .0 < base .slots) × T (liveUpdate (txn (G .txns) (s .0)))
-Able G (Ends s) = s .0 < base .slots
+Able G (Ends s) = (s .0 < base .slots) × T (liveQuery (txn (G .txns) (s .0)))
 Able G (Aborts s) = s .0 < base .slots
 
 -- ---- what the parts ask

@@ -36,9 +36,9 @@ way-able G c d (readQuery n s x C q i) = (C .inside, i, q)
 way-able G c d (wroteOwn n s x v U h) = (U .caller .inside, U .known)
 way-able G c d (wroteTaken n s x v U h f r) = (U .caller .inside, U .known)
 way-able G c d (committedUpdate n s C u i l) = (C .inside, u)
-way-able G c d (committedQuery n s C q) = C .inside
+way-able G c d (committedQuery n s C q) = (C .inside, q)
 way-able G c d (abortedUpdate n s C u) = C .inside
-way-able G c d (abortedQuery n s C q) = C .inside
+way-able G c d (abortedQuery n s C q) = (C .inside, q)
 
 pub judged-able : (G : Tables) → Good base G → (c : Call) {d : Deed} → d ≡ judged base c G → Able G d
 judged-able G g c {d} e = subst (Able G) (sym e) (way-able G c (judged base c G) (way base G g c))

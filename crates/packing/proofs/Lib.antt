@@ -1,4 +1,4 @@
--- Laws of the row writer.
-pub mod Keep
-pub mod Pack
-pub mod Renew
+-- Laws of a row that is rewritten in place.
+pub mod Shifts
+pub mod Words
+pub mod Test

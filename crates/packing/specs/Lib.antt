@@ -1,2 +1,3 @@
 -- What the row writer is proved against, besides the rules.
-pub mod Packed
+pub mod Changed
+pub mod Moved

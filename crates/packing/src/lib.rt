@@ -1,94 +1,88 @@
-// One row rewritten, with a new version in front or without: the newest version stays, and those
-// that some start reads. The row is packed into an array, and copied back.
+// One row of versions rewritten in place: a new version put in front, or the version taken out that
+// only one who leaves has read. What does not change is not written.
 //
-// Proved against `kept` of the rules, for a row and starts as specs/Packed asks.
+// Proved for rows as specs/Changed asks, on numbers alone: which versions the rules keep is told by
+// rules/proofs/Leaving, and tied to these functions in the crate rewrites.
 ghost use mathlib.Core.Path.{_≡_};
-ghost use mathlib.Core.List.{List, _∷_};
-ghost use Prim.Native.Nat.{ℕ};
-ghost use lib.ListN.{length, drop};
+ghost use Prim.Native.Nat.{_+_, _≤_, _<_};
+ghost use lib.ListN.{length};
 ghost use Rattle.names.specs.Sizes.{base};
-ghost use Rattle.rules.specs.Tables.{versionRow};
-ghost use Rattle.rules.specs.Versions.{versionsIn, rowOf};
-ghost use Rattle.starts.specs.Ordered.{lanes};
-ghost use Rattle.starts.specs.Ordered.{between};
-ghost use Rattle.packing.specs.Packed.{readAfter, newWords, Few, Packable, Writable};
+ghost use Rattle.names.specs.Layout.{versionPair};
+ghost use Rattle.rules.specs.Versions.{versionsIn, rowOf, place};
+ghost use Rattle.choices.specs.Pairs.{countIn};
+ghost use Rattle.packing.specs.Changed.{TidyRow, Frontable, fronted, without, leftBy};
+ghost use Rattle.packing.specs.Moved.{MovedBack, MovedUp};
 use names::VERSION_COUNT_AT;
 use names::VERSION_PAIR;
-use names::VERSION_ROW;
 use names::VERSION_STAMP_AT;
 use names::VERSION_VALUE_AT;
-use starts::LANES;
 
-// Whether one of the starts lies from lo on and below hi: who has such a start reads the version
-// of stamp lo, if hi is the stamp before it.
-fn read_between(starts: &[u64], lo: u64, hi: u64) -> bool
-    requires { ⌜ length (now starts) ≡ lanes ⌝ }
-    ensures { λ r. ⌜ r ≡ between (now (starts .entry)) lo hi ⌝ }
+// The first n words behind the count move one pair back.
+fn move_back(row: &mut [u64], n: usize)
+    requires { ⌜ n + versionPair < length (now row) ⌝ }
+    ensures { λ _. ⌜ MovedBack (now (row .entry)) (now (row .exit)) n ⌝ }
 {
-    let mut any = false;
-    let mut k: usize = 0;
-    while k < LANES {
-        any = ((lo <= starts[k]) & (starts[k] < hi)) | any;
-        k += 1;
+    let mut k = n;
+    while 0 < k {
+        row[k + VERSION_PAIR] = row[k];
+        k -= 1;
     }
-    any
 }
 
-// The words of a row with this pair in front, and behind it the versions that some start reads of
-// those from place from on.
-fn packed(row: &[u64], starts: &[u64], stamp: u64, value: u64, from: usize) -> [u64; VERSION_ROW]
-    requires { ⌜ Packable (now row) (now starts) stamp from ⌝ }
-    ensures { λ r. ⌜ r ≡ rowOf base (record { stamp = stamp; value = value } ∷ readAfter (now (starts .entry)) stamp (drop from (versionsIn (now (row .entry))))) ⌝ }
+// Puts the pair of stamp and value in front, below being one more than the greatest start below the
+// stamp. The version that was the newest stays behind it where that start reads it; else the pair
+// takes its place.
+pub fn put_front(row: &mut [u64], below: u64, stamp: u64, value: u64)
+    requires { ⌜ Frontable (now row) below ⌝ }
+    ensures { λ _. ⌜ now (row .exit) ≡ rowOf base (fronted below (record { stamp = stamp; value = value }) (versionsIn (now (row .entry)))) ⌝ }
 {
-    let mut out = [0u64; VERSION_ROW];
-    out[VERSION_STAMP_AT] = stamp;
-    out[VERSION_VALUE_AT] = value;
-    let count = row[VERSION_COUNT_AT] as usize;
-    let mut w: usize = 1;
-    let mut hi = stamp;
+    if row[VERSION_STAMP_AT] < below {
+        let count = row[VERSION_COUNT_AT];
+        move_back(row, (count as usize) * VERSION_PAIR);
+        row[VERSION_COUNT_AT] = count + 1;
+    }
+    row[VERSION_STAMP_AT] = stamp;
+    row[VERSION_VALUE_AT] = value;
+}
+
+// The words from .. to are overwritten by those a pair behind them.
+fn move_up(row: &mut [u64], from: usize, to: usize)
+    requires { ⌜ (from ≤ to) × (to + versionPair ≤ length (now row)) ⌝ }
+    ensures { λ _. ⌜ MovedUp (now (row .entry)) (now (row .exit)) from to ⌝ }
+{
     let mut j = from;
-    while j < count {
-        let lo = row[j * VERSION_PAIR + VERSION_STAMP_AT];
-        if read_between(starts, lo, hi) {
-            out[w * VERSION_PAIR + VERSION_STAMP_AT] = lo;
-            out[w * VERSION_PAIR + VERSION_VALUE_AT] = row[j * VERSION_PAIR + VERSION_VALUE_AT];
-            w += 1;
-        }
-        hi = lo;
+    while j < to {
+        row[j] = row[j + VERSION_PAIR];
         j += 1;
     }
-    out[VERSION_COUNT_AT] = w as u64;
-    out
 }
 
-// The words of a row as write_row leaves it.
-fn renewed(row: &[u64], starts: &[u64], new: bool, stamp: u64, value: u64) -> [u64; VERSION_ROW]
-    requires { ⌜ Writable (now row) (now starts) new stamp ⌝ }
-    ensures { λ r. ⌜ ((qs : List ℕ) → Few qs (now (starts .entry)) → r ≡ newWords qs new stamp value (now (row .entry))) ⌝ }
+// Takes out the version at place k: those behind it move up, and the last pair is unused.
+fn close_gap(row: &mut [u64], k: usize)
+    requires { ⌜ TidyRow (now row) × (k < countIn (now row)) ⌝ }
+    ensures { λ _. ⌜ now (row .exit) ≡ rowOf base (without k (versionsIn (now (row .entry)))) ⌝ }
 {
-    if new {
-        return packed(row, starts, stamp, value, 0);
+    let count = row[VERSION_COUNT_AT];
+    let last = (count as usize) * VERSION_PAIR - 1;
+    move_up(row, k * VERSION_PAIR + VERSION_STAMP_AT, last);
+    row[last] = 0;
+    row[last + 1] = 0;
+    row[VERSION_COUNT_AT] = count - 1;
+}
+
+// One who read by this start has left: takes out the version that it read, unless that is the
+// newest, or one of the neighbours reads it too.
+pub fn forget(row: &mut [u64], start: u64, below: u64, next: u64)
+    requires { ⌜ TidyRow (now row) × (place start (versionsIn (now row)) < length (versionsIn (now row))) ⌝ }
+    ensures { λ _. ⌜ now (row .exit) ≡ rowOf base (leftBy start below next (versionsIn (now (row .entry)))) ⌝ }
+{
+    if row[VERSION_STAMP_AT] <= start {
+        return;
     }
-    packed(row, starts, row[VERSION_STAMP_AT], row[VERSION_VALUE_AT], 1)
-}
-
-fn copy(row: &mut [u64], from: &[u64])
-    requires { ⌜ (length (now row) ≡ versionRow base) × (length (now from) ≡ versionRow base) ⌝ }
-    ensures { λ _. ⌜ now (row .exit) ≡ now (from .entry) ⌝ }
-{
-    let mut i: usize = 0;
-    while i < VERSION_ROW {
-        row[i] = from[i];
-        i += 1;
+    let k = choices::place_in(&row[..], start);
+    let at = k * VERSION_PAIR + VERSION_STAMP_AT;
+    if (row[at] < below) | (next < row[at - VERSION_PAIR]) {
+        return;
     }
-}
-
-// Rewrites a row: where new is set, with the pair of stamp and value in front. The newest version
-// stays, and those that one of the starts reads.
-pub fn write_row(row: &mut [u64], starts: &[u64], new: bool, stamp: u64, value: u64)
-    requires { ⌜ Writable (now row) (now starts) new stamp ⌝ }
-    ensures { λ _. ⌜ ((qs : List ℕ) → Few qs (now (starts .entry)) → now (row .exit) ≡ newWords qs new stamp value (now (row .entry))) ⌝ }
-{
-    let fresh = renewed(&row[..], starts, new, stamp, value);
-    copy(row, &fresh);
+    close_gap(row, k);
 }

@@ -1,78 +1,109 @@
 -- What the functions ask for, good tables have.
 use Prim.Native.Nat.{ℕ, _<_, _≤_}
-use mathlib.Core.Path.{_≡_, sym, ap, _∙_, subst}
-use mathlib.Core.Bool.{false}
+use mathlib.Core.Path.{_≡_, refl, sym, ap, _∙_, subst}
+use mathlib.Core.Logic.{_≢_, _⊎_, inl, inr}
 use mathlib.Core.List.{List}
 use native.Mathlib.Omega.{arith}
+use lib.ListN.{length}
+use lib.Dec.{T, eqb}
 use Rattle.names.specs.Sizes.{base}
 use Rattle.rules.specs.Words.{row}
-use Rattle.rules.specs.Tables.{Tables, versionRow, clock, txn, liveQuery, starts}
-use Rattle.rules.specs.Versions.{versionsIn, versionsOf, stampAt, rowOf}
+use Rattle.rules.specs.Tables.{Tables, Txn, versionRow, clock, txn, setTxn, noTxn, liveQuery, starts}
+use Rattle.rules.specs.Versions.{versionsOf, stampAt, place, readBySome}
 use Rattle.rules.specs.Good.{Good, GoodVersions}
-use Rattle.rules.proofs.Starts.{starts-lt}
-use Rattle.rules.proofs.Trim.{kept-fixed}
+use Rattle.rules.proofs.Tests.{same?, eq-make}
+use Rattle.rules.proofs.Counts.{some-mem}
+use Rattle.rules.proofs.Starts.{start-in}
+use Rattle.rules.proofs.Ends.{gone-there, gone-room}
 use Rattle.rules.proofs.EqualVersions.{Good→read}
-use Rattle.rules.proofs.ChangedVersions.{rowOf-versionsIn}
-use Rattle.choices.specs.Pairs.{stampIn}
-use Rattle.starts.specs.Ordered.{guard, InOrder}
-use Rattle.choices.specs.SoundRow.{SoundRow}
-use Rattle.packing.specs.Packed.{Few}
-use Rattle.rewrites.specs.Written.{Trimmed, ZeroBehindOne, Trimmable, Committable}
+use Rattle.starts.specs.Ordered.{guard}
+use Rattle.starts.specs.Beside.{Beside}
 use Rattle.choices.proofs.Lent.{length-row}
-use Rattle.choices.proofs.Read.{stamp-in}
-use Rattle.packing.proofs.Renew.{old-kept}
-use Rattle.choices.proofs.Handed.{good-sound}
-
--- the starts in order leave room for one version more where a slot has no live query
-pub few-starts :
-    (t q : List ℕ) → InOrder (starts base t) q → (s : ℕ) → s < base .slots → liveQuery (txn t s) ≡ false → Few (starts base t) q
-few-starts t q o s h e = record { order = o; few = starts-lt base t s h e }
-
-good-zeros : (t r : List ℕ) → GoodVersions base t r → ZeroBehindOne r
-good-zeros t r g = record { zeros = λ e k h. g .unused k (omega arith) }
+use Rattle.choices.proofs.Handed.{good-sound, good-found}
+use Rattle.packing.specs.Changed.{TidyRow}
+use Rattle.rewrites.specs.Written.{TidyTable, Staying, Leavable, Reading, Committable}
 
 module _ (G : Tables) (g : Good base G) where
-  -- for trim_all and commit_all: all rows are sound, and zero behind a single version
-  pub good-rows : (qs q : List ℕ) → Few qs q → Trimmable (G .versions) q
-  good-rows qs q f =
+  abbrev t : List ℕ
+  t = G .txns
+
+  abbrev v : List ℕ
+  v = G .versions
+
+  good-tidy : TidyTable (G .versions)
+  good-tidy =
       record {
         size = g .versionsExact;
-        rows = λ x h. good-sound (G .txns) (row (versionRow base) x (G .versions)) (g .versionsGood x h);
-        zeros = λ x h. good-zeros (G .txns) (row (versionRow base) x (G .versions)) (g .versionsGood x h);
-        starts = qs;
-        few = f;
+        rows = λ x h.
+            let w : GoodVersions base t (row (versionRow base) x v) = g .versionsGood x h in
+            record { size = length-row x v (g .versionsExact) h; sound = good-sound t (row (versionRow base) x v) w; unused = w .unused };
       }
 
-  -- for commit_all: a stamp above the clock is newer than every version
-  good-newer : (c : ℕ) → clock (G .txns) < c → (x : ℕ) → x < base .items → stampAt (versionsOf base (G .versions) x) 0 < c
-  unfolding versionsOf
-  good-newer c l x h = let a = g .versionsGood x h .first in omega arith
+  -- ---- for forget_all: the query in slot s ends
+  module _ (s : ℕ) (inside : s < base .slots) (query : T (liveQuery (txn (G .txns) s))) (below next : ℕ) where
+    abbrev left : List ℕ
+    left = setTxn t s noTxn
 
-  -- for commit_all: every row is trimmed for the live queries
-  good-trimmed : (q : List ℕ) → Few (starts base (G .txns)) q → (x : ℕ) → x < base .items → Trimmed (row (versionRow base) x (G .versions)) q
-  good-trimmed q f x h =
-      let r = row (versionRow base) x (G .versions) in
-      let w : GoodVersions base (G .txns) r = g .versionsGood x h in
-      let sound : SoundRow r = good-sound (G .txns) r w in
-      let first : stampAt (versionsIn r) 0 ≡ stampIn r 0 = stamp-in r 0 (w .countLeast) in
-      let low : stampIn r 0 ≤ guard = let a = w .first in let b = g .clockMost in omega arith in
-      record {
-        same = λ qs k.
-            ap (rowOf base)
-            (old-kept qs q r k sound low
-            ∙ sym (old-kept (starts base (G .txns)) q r f sound low)
-            ∙ kept-fixed (starts base (G .txns)) (versionsIn r) (Good→read base (G .txns) r w))
-            ∙ rowOf-versionsIn base r (length-row x (G .versions) (g .versionsExact) h) (w .countMost) (w .unused);
-      }
+    abbrev q : ℕ
+    q = (txn t s) .start
 
-  pub good-commits :
-      (qs q : List ℕ) → Few qs q → qs ≡ starts base (G .txns) → (s : ℕ) → s < base .slots → (c : ℕ) → clock (G .txns) < c
-      → Committable (G .versions) (G .locks) q s c
-  good-commits qs q f e s h c l =
-      record {
-        sound = good-rows qs q f;
-        locks = g .locksExact;
-        inside = h;
-        newer = good-newer c l;
-        trimmed = good-trimmed q (subst (λ (u : List ℕ). Few u q) e f);
-      }
+    pub good-staying :
+        Beside (starts base (setTxn (G .txns) s noTxn)) ((txn (G .txns) s) .start) below next
+        → Staying (G .versions) (starts base (setTxn (G .txns) s noTxn)) ((txn (G .txns) s) .start) below next
+    unfolding versionsOf readBySome
+    good-staying b =
+        record {
+          beside = b;
+          few = gone-room base t t s inside (g .txnsExact) (λ r. refl);
+          read = λ x k h z l.
+              let m = (g .versionsGood x h .reads k z) .0 l in
+              who x k (m .0) (m .1) (m .2) (m .3) (same? (m .0) s);
+        }
+      where
+        who :
+            (x k r : ℕ) → r < base .slots → T (liveQuery (txn t r)) → place ((txn t r) .start) (versionsOf base v x) ≡ k → (r ≡ s) ⊎ (r ≢ s)
+            → (place q (versionsOf base v x) ≡ k) ⊎ T (readBySome (starts base left) (versionsOf base v x) k)
+        who x k r i a e (inl d) = inl (ap (λ (n : ℕ). place ((txn t n) .start) (versionsOf base v x)) (sym d) ∙ e)
+        who x k r i a e (inr d) =
+            let there : txn left r ≡ txn t r = gone-there base t t s inside (g .txnsExact) (λ r. refl) r d in
+            let same : place ((txn left r) .start) (versionsOf base v x) ≡ k = ap (λ (u : Txn). place (u .start) (versionsOf base v x)) there ∙ e in
+            inr
+            (some-mem (λ q. eqb (place q (versionsOf base v x)) k) (start-in base left r i (subst (λ (u : Txn). T (liveQuery u)) (sym there) a))
+            (eq-make (place ((txn left r) .start) (versionsOf base v x)) k same))
+
+    pub good-leaves :
+        Beside (starts base (setTxn (G .txns) s noTxn)) ((txn (G .txns) s) .start) below next
+        → Leavable (G .versions) ((txn (G .txns) s) .start) below next
+    unfolding versionsOf
+    good-leaves b =
+        record {
+          tidy = good-tidy;
+          low = λ x h. let a = g .versionsGood x h .first in let c = g .clockMost in omega arith;
+          found = λ x h. good-found G g x s h inside query .found;
+          starts = starts base left;
+          staying = good-staying b;
+        }
+
+  -- ---- for commit_all: the rows are trimmed for the live queries, and a stamp above the clock is newer than every version
+  module _ (qs : List ℕ) (same : qs ≡ starts base (G .txns)) (few : length qs < base .places) (c below next : ℕ) (b : Beside qs c below next) where
+    pub good-reading : Reading (G .versions) qs c below
+    unfolding versionsOf
+    good-reading =
+        record {
+          next = next;
+          beside = b;
+          few = few;
+          read = λ x h. rw same (Good→read base t (row (versionRow base) x v) (g .versionsGood x h));
+        }
+
+    pub good-commits : (s : ℕ) → s < base .slots → clock (G .txns) < c → Committable (G .versions) (G .locks) s c below
+    unfolding versionsOf
+    good-commits s h l =
+        record {
+          tidy = good-tidy;
+          locks = g .locksExact;
+          inside = h;
+          newer = λ x i. let a = g .versionsGood x i .first in omega arith;
+          starts = qs;
+          reading = good-reading;
+        }

@@ -1,4 +1,6 @@
 -- Laws of the version table while its rows are rewritten.
 pub mod Table
-pub mod Trims
+pub mod Kept
+pub mod Forgotten
+pub mod Committed
 pub mod Handed

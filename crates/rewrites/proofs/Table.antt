@@ -1,7 +1,6 @@
 -- The table while its rows are replaced one by one: the rows passed are new, the others as they were.
 use Prim.Native.Nat.{ℕ, zero, suc, _+_, _*_, _<_, _≤_}
 use mathlib.Core.Path.{_≡_, refl, sym, ap, ap₂, _∙_}
-use mathlib.Core.Bool.{false}
 use mathlib.Core.List.{List, _++_, append-assoc}
 use native.Mathlib.Omega.{arith}
 use native.Mathlib.Nat.{add-zero, zero-add, mul-zero}
@@ -15,8 +14,7 @@ use Rattle.rules.specs.Versions.{Version, versionsIn, rowOf, kept, rewritten}
 use Rattle.rules.proofs.Rows.{row-next, row-first, length-mapRows}
 use Rattle.rules.proofs.Choice.{length-rowOf}
 use Rattle.rules.proofs.Trim.{length-kept}
-use Rattle.packing.specs.Packed.{newWords, Few}
-use Rattle.rewrites.specs.Written.{withRow, Trimmed}
+use Rattle.rewrites.specs.Written.{withRow}
 
 -- ---- rows of any width
 module _ (w : ℕ) (f : ℕ → List ℕ → List ℕ) (keeps : (i : ℕ) (r : List ℕ) → length r ≡ w → length (f i r) ≡ w) where
@@ -61,12 +59,6 @@ module _ (w : ℕ) (f : ℕ → List ℕ → List ℕ) (keeps : (i : ℕ) (r : L
 pub row-back : (x : ℕ) (v : List ℕ) → withRow x (row (versionRow base) x v) v ≡ v
 unfolding row
 row-back x v = ap (λ (l : List ℕ). take (versionRow base * x) v ++ l) (take-append-drop (versionRow base) (drop (versionRow base * x) v)) ∙ take-append-drop (versionRow base * x) v
-
--- nor does a trimmed row, rewritten without a new version
-pub trimmed-back :
-    (x : ℕ) (v q : List ℕ) → Trimmed (row (versionRow base) x v) q → (qs : List ℕ) → Few qs q → (stamp value : ℕ)
-    → withRow x (newWords qs false stamp value (row (versionRow base) x v)) v ≡ v
-trimmed-back x v q t qs k stamp value = ap (λ (l : List ℕ). withRow x l v) (t .same qs k) ∙ row-back x v
 
 -- ---- the rows of the version table
 -- the words of row x as f makes them

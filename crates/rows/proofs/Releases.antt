@@ -2,14 +2,17 @@
 use Prim.Native.Nat.{ℕ, zero, suc, _+_, _*_, _/_, _%_, _≤_, _<_}
 use mathlib.Core.Path.{_≡_, refl, sym, ap, _∙_, subst}
 use mathlib.Core.Logic.{_≢_, _⊎_, inl, inr}
+use mathlib.Core.Bool.{false}
 use mathlib.Core.List.{List}
 use native.Mathlib.Omega.{arith}
 use lib.ListN.{length, getD}
 use lib.Seq.{ext-getD}
+use lib.Dec.{T}
 use Rattle.names.specs.Sizes.{base}
 use Rattle.names.specs.declared.Sizes.{Sizes}
-use Rattle.rules.specs.Tables.{lockRow, lockWords, Lock, lock, setLock, released, release}
-use Rattle.rules.proofs.Tests.{same?}
+use Rattle.rules.specs.Words.{bit, withoutBit}
+use Rattle.rules.specs.Tables.{lockRow, lockWords, Lock, lock, setLock, holds, holdsShared, holdsExclusive, released, release}
+use Rattle.rules.proofs.Tests.{same?, is-false, false-is, or-left, or-right}
 use Rattle.rules.proofs.Views.{lock-setLock, lock-setLock-other, length-setLock, lock-release, length-release}
 
 -- two lock tables with the same locks are the same
@@ -59,6 +62,21 @@ one-released s before after x h i r e =
         subst (λ (z : ℕ). lock (setLock after x h) z ≡ released s (lock before z)) (sym q)
         (lock-setLock after x h base (r .size) i ∙ e ∙ ap (released s) (r .left x (omega arith)))
     go y b (inr d) = lock-setLock-other after x h y d ∙ r .done y (omega arith)
+
+-- a lock that the slot does not hold is released already, and writing it back changes nothing
+pub not-held : (s : ℕ) (h : Lock) → holds h s ≡ false → released s h ≡ h
+unfolding released holds holdsShared withoutBit
+not-held s h e =
+    let n : (T (holds h s) → ⊥) = false-is e in
+    rw (is-false (holdsExclusive h s) (λ t. n (or-right (bit (h .shared) s) (holdsExclusive h s) t)), is-false (bit (h .shared) s) (λ t. n (or-left (bit (h .shared) s) (holdsExclusive h s) t)))
+
+pub lock-back : (l : List ℕ) (x : ℕ) → length l ≡ lockWords base → x < base .items → setLock l x (lock l x) ≡ l
+lock-back l x e i =
+    locks-same base (setLock l x (lock l x)) l (length-setLock l x (lock l x) ∙ e) e (λ y b. go y (same? y x))
+  where
+    go : (y : ℕ) → (y ≡ x) ⊎ (y ≢ x) → lock (setLock l x (lock l x)) y ≡ lock l y
+    go y (inl q) = subst (λ (z : ℕ). lock (setLock l x (lock l x)) z ≡ lock l z) (sym q) (lock-setLock l x (lock l x) base e i)
+    go y (inr d) = lock-setLock-other l x (lock l x) y d
 
 pub all-released :
     (s : ℕ) (before after : List ℕ) (x : ℕ) → length before ≡ lockWords base → base .items ≤ x → Released s before after x

@@ -9,7 +9,7 @@ ghost use mathlib.Core.Path.{_≡_};
 ghost use Prim.Native.Nat.{_<_};
 ghost use lib.ListN.{length};
 ghost use Rattle.names.specs.Sizes.{base};
-ghost use Rattle.rules.specs.Tables.{lockWords, lock, setLock, exclusivesOf, released, release};
+ghost use Rattle.rules.specs.Tables.{lockWords, lock, setLock, holds, exclusivesOf, released, release};
 ghost use Rattle.rows.specs.Founds.{lockOf};
 
 // The words of a lock: shared holders (bit i for slot i), exclusive holder (slot plus 1, 0 for
@@ -86,6 +86,26 @@ pub fn without(row: LockRow, slot: Slot) -> LockRow
     }
 }
 
+// Whether a slot holds a lock, shared or exclusively.
+fn held_by(row: LockRow, slot: Slot) -> bool
+    requires { ⌜ slot .0 < base .slots ⌝ }
+    ensures { λ r. ⌜ r ≡ holds (lockOf row) (slot .0) ⌝ }
+{
+    let s = slot.0;
+    ((row.shared >> s) % 2 == 1) | (row.exclusive == s + 1)
+}
+
+// The lock of an item without a slot. It is written only where the slot holds it.
+fn release_item(locks: &mut [u64], item: Item, slot: Slot)
+    requires { ⌜ (length (now locks) ≡ lockWords base) × (item .0 < base .items) × (slot .0 < base .slots) ⌝ }
+    ensures { λ _. ⌜ now (locks .exit) ≡ setLock (now (locks .entry)) (item .0) (released (slot .0) (lock (now (locks .entry)) (item .0))) ⌝ }
+{
+    let row = lock_at(&locks[..], item);
+    if held_by(row, slot) {
+        set_lock(locks, item, without(row, slot));
+    }
+}
+
 // All locks of a slot go.
 pub fn release(locks: &mut [u64], slot: Slot)
     requires { ⌜ (length (now locks) ≡ lockWords base) × (slot .0 < base .slots) ⌝ }
@@ -93,8 +113,7 @@ pub fn release(locks: &mut [u64], slot: Slot)
 {
     let mut x: u64 = 0;
     while x < ITEMS {
-        let row = lock_at(&locks[..], Item(x));
-        set_lock(locks, Item(x), without(row, slot));
+        release_item(locks, Item(x), slot);
         x += 1;
     }
 }

@@ -7,6 +7,8 @@ pub mod Views
 pub mod Choice
 pub mod Passing
 pub mod Trim
+pub mod Reading
+pub mod Leaving
 pub mod Starts
 pub mod Rewrites
 pub mod Circles

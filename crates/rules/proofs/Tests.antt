@@ -7,6 +7,13 @@ use lib.Dec.{T, eqb}
 use borrow.Author.Tests.{eqb-true, eqb-false, ne-eqb, eq-eqb}
 use Rattle.rules.specs.Words.{implies}
 
+-- two tests that say the same are equal
+pub iff-eq : (a b : Bool) → (T a → T b) → (T b → T a) → a ≡ b
+iff-eq true true f g = refl
+iff-eq true false f g = absurd (f tt)
+iff-eq false true f g = absurd (g tt)
+iff-eq false false f g = refl
+
 -- ---- both, either
 pub and-left : (a b : Bool) → T (a && b) → T a
 and-left true b t = tt

@@ -99,7 +99,7 @@ length-kept-le qs vs = from 0 vs
         go false h = omega arith
 
 -- a row all of whose older versions are read is not changed
-kept-fixed-from :
+pub kept-fixed-from :
     (qs : List ℕ) (vs : List Version) (k : ℕ) (rest : List Version) → T (allRead qs vs k rest) → keptFrom qs vs k rest ≡ rest
 unfolding keptFrom allRead
 kept-fixed-from qs vs k [] h = refl

@@ -1,75 +1,51 @@
 -- Which versions the starts in order read: one of them reads a version exactly if one lies between its stamp and the stamp
 -- before it.
 use Prim.Native.Nat.{ℕ, zero, suc, _<_, _≤_}
-use mathlib.Core.Path.{_≡_, sym, subst}
+use mathlib.Core.Path.{_≡_, _∙_}
 use mathlib.Core.Logic.{_⊎_, inl, inr}
 use mathlib.Core.Bool.{Bool, _&&_}
 use mathlib.Core.List.{List, List·Memᴰ}
 use native.Mathlib.Omega.{arith}
-use native.Mathlib.Nat.{eq-or-lt-of-le}
 use lib.ListN.{getD, length}
-use lib.Dec.{T, eqb, leb, ltb, leb→le, le→leb, ltb→lt, lt→ltb, eqb→eq}
+use lib.Dec.{T, leb, ltb, leb→le, le→leb, ltb→lt, lt→ltb}
 use Rattle.rules.specs.Words.{some, someBelow}
-use Rattle.rules.specs.Versions.{Version, stampAt, place, readBySome}
-use Rattle.rules.proofs.Tests.{and-left, and-right, and-both, eq-make}
+use Rattle.rules.specs.Versions.{Version, stampAt, readBySome}
+use Rattle.rules.proofs.Tests.{iff-eq, and-left, and-right, and-both}
 use Rattle.rules.proofs.Counts.{some-mem, mem-some, someBelow→, →someBelow}
-use Rattle.rules.proofs.Choice.{Falls, place-above, place-fits}
-use Rattle.words.proofs.Turns.{iff-eq}
-use Rattle.choices.proofs.Read.{place-is}
+use Rattle.rules.proofs.Choice.{Falls}
+use Rattle.rules.proofs.Reading.{within, read-between}
 use Rattle.starts.specs.Ordered.{lanes, guard, InOrder, between}
 
-module _ (qs q : List ℕ) (ordered : InOrder qs q) (vs : List Version) (fall : Falls vs) (low : stampAt vs 0 ≤ guard) where
-  first-most : (j : ℕ) → j < length vs → stampAt vs j ≤ stampAt vs 0
-  unfolding Falls
-  first-most zero h = omega arith
-  first-most (suc j) h = let a = fall 0 (suc j) (omega arith) h in omega arith
-
-  pub read-same : (j : ℕ) → suc j < length vs → readBySome qs vs (suc j) ≡ between q (stampAt vs (suc j)) (stampAt vs j)
-  unfolding readBySome between Falls
-  read-same j h = iff-eq (some reads qs) (someBelow lanes inside) to from
+module _ (qs q : List ℕ) (ordered : InOrder qs q) where
+  -- the guards are no starts, but nothing is above them
+  in-order : (lo hi : ℕ) → hi ≤ guard → within qs lo hi ≡ between q lo hi
+  unfolding within between
+  in-order lo hi g = iff-eq (some inside qs) (someBelow lanes (λ k. inside (getD q k 0))) to from
     where
-      reads : ℕ → Bool
-      reads s = eqb (place s vs) (suc j)
-
       inside : ℕ → Bool
-      inside k = leb (stampAt vs (suc j)) (getD q k 0) && ltb (getD q k 0) (stampAt vs j)
+      inside s = leb lo s && ltb s hi
 
-      to : T (some reads qs) → T (someBelow lanes inside)
+      to : T (some inside qs) → T (someBelow lanes (λ k. inside (getD q k 0)))
       to t =
-          let m = mem-some reads qs t in
-          let s = m .0 in
-          let e : place s vs ≡ suc j = eqb→eq (place s vs) (suc j) (m .2) in
-          let a : stampAt vs (suc j) ≤ s = subst (λ (k : ℕ). stampAt vs k ≤ s) e (place-fits s vs (omega arith)) in
-          let b : s < stampAt vs j = place-above s vs j (omega arith) in
-          let k = ordered .all s (m .1) in
-          let d = k .2 in
-          →someBelow lanes inside (k .0) (k .1)
-          (and-both (leb (stampAt vs (suc j)) (getD q (k .0) 0)) (ltb (getD q (k .0) 0) (stampAt vs j))
-          (le→leb (stampAt vs (suc j)) (getD q (k .0) 0) (omega arith))
-          (lt→ltb (getD q (k .0) 0) (stampAt vs j) (omega arith)))
+          let m = mem-some inside qs t in
+          let k = ordered .all (m .0) (m .1) in
+          →someBelow lanes (λ k. inside (getD q k 0)) (k .0) (k .1) (rw (k .2) (m .2))
 
-      from : T (someBelow lanes inside) → T (some reads qs)
-      from t = go (ordered .only k (m .1))
+      from : T (someBelow lanes (λ k. inside (getD q k 0))) → T (some inside qs)
+      from t = let m = someBelow→ lanes (λ k. inside (getD q k 0)) t in go (getD q (m .0) 0) (m .2) (ordered .only (m .0) (m .1))
         where
-          m : (i : ℕ) × (i < lanes) × T (inside i)
-          m = someBelow→ lanes inside t
+          go : (s : ℕ) → T (inside s) → (s ≡ guard) ⊎ List·Memᴰ s qs → T (some inside qs)
+          go s h (inl e) = absurd (let a = ltb→lt s hi (and-right (leb lo s) (ltb s hi) h) in omega arith)
+          go s h (inr m) = some-mem inside m h
 
-          k : ℕ
-          k = m .0
+  module _ (vs : List Version) (fall : Falls vs) (low : stampAt vs 0 ≤ guard) where
+    first-most : (j : ℕ) → j < length vs → stampAt vs j ≤ stampAt vs 0
+    unfolding Falls
+    first-most zero h = omega arith
+    first-most (suc j) h = let a = fall 0 (suc j) (omega arith) h in omega arith
 
-          a : stampAt vs (suc j) ≤ getD q k 0
-          a = leb→le (stampAt vs (suc j)) (getD q k 0) (and-left (leb (stampAt vs (suc j)) (getD q k 0)) (ltb (getD q k 0) (stampAt vs j)) (m .2))
-
-          b : getD q k 0 < stampAt vs j
-          b = ltb→lt (getD q k 0) (stampAt vs j) (and-right (leb (stampAt vs (suc j)) (getD q k 0)) (ltb (getD q k 0) (stampAt vs j)) (m .2))
-
-          newer : (i : ℕ) → i < suc j → getD q k 0 < stampAt vs i
-          newer i l = same (eq-or-lt-of-le (let z : i ≤ j = omega arith in z))
-            where
-              same : (i ≡ j) ⊎ (i < j) → getD q k 0 < stampAt vs i
-              same (inl e) = subst (λ (n : ℕ). getD q k 0 < stampAt vs n) (sym e) b
-              same (inr l) = let z = fall i j l (omega arith) in let y = b in omega arith
-
-          go : (getD q k 0 ≡ guard) ⊎ List·Memᴰ (getD q k 0) qs → T (some reads qs)
-          go (inl e) = absurd (let y = b in let z = first-most j (omega arith) in omega arith)
-          go (inr n) = some-mem reads n (eq-make (place (getD q k 0) vs) (suc j) (place-is (getD q k 0) vs (suc j) h a newer))
+    pub read-same : (j : ℕ) → suc j < length vs → readBySome qs vs (suc j) ≡ between q (stampAt vs (suc j)) (stampAt vs j)
+    unfolding Falls
+    read-same j h =
+        read-between vs j h (λ i l. let a = fall i j l (omega arith) in omega arith) qs
+        ∙ in-order (stampAt vs (suc j)) (stampAt vs j) (let a = first-most j (omega arith) in omega arith)

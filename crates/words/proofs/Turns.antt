@@ -8,15 +8,9 @@ use native.Mathlib.Omega.{arith}
 use lib.Bits.{bitOr, or-zero-l, or-add-and, and-le-r, and-le-l}
 use lib.Dec.{T, eqb, eqb→eq}
 use Rattle.rules.specs.Words.{everyBelow, someBelow}
+pub use Rattle.rules.proofs.Tests.{iff-eq}
 use Rattle.rules.proofs.Tests.{and-left, and-right, and-both, is-false, false-is, eq-make}
 use Rattle.rules.proofs.Counts.{everyBelow→}
-
--- two tests that say the same are equal
-pub iff-eq : (a b : Bool) → (T a → T b) → (T b → T a) → a ≡ b
-iff-eq true true f g = refl
-iff-eq true false f g = absurd (f tt)
-iff-eq false true f g = absurd (g tt)
-iff-eq false false f g = refl
 
 -- one turn of a loop that tests every number, or looks for one
 pub every-more : (p : ℕ → Bool) (n : ℕ) → everyBelow (n + 1) p ≡ (p n && everyBelow n p)

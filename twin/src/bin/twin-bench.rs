@@ -23,6 +23,8 @@ fn main() {
     measure(&fresh(), spend);
     println!("full rows (64 of 16 versions), 15 queries");
     measure(&full(), spend);
+    println!("rows rewritten, as bench/bench.c does");
+    rows(spend);
 }
 
 /// One query is live, and nothing was ever written.
@@ -83,6 +85,59 @@ fn measure(start: &Keeper, spend: Duration) {
     });
 }
 
+/// Ends and commits that rewrite rows. The queries of `full` have numbers in
+/// steps of 3.
+fn rows(spend: Duration) {
+    let mut keeper = Keeper::fresh();
+    let number = full_job(&mut keeper);
+    commit("commit of 32 items, one version", spend, &keeper, number);
+    let mut keeper = full();
+    let number = granted(&mut keeper, Call::Query).number;
+    commit("query's end, no version goes", spend, &keeper, number);
+    granted(&mut keeper, Call::Commit { number });
+    let middle = 1 + 3 * (SLOTS as u64 / 2);
+    commit("query's end, one of each row goes", spend, &keeper, middle);
+    let number = full_job(&mut keeper);
+    commit("commit of 32 items, full rows", spend, &keeper, number);
+    let mut keeper = full();
+    granted(&mut keeper, Call::Commit { number: 1 });
+    granted(&mut keeper, Call::Query);
+    let number = full_job(&mut keeper);
+    commit("commit of 32 items, rows get full", spend, &keeper, number);
+}
+
+/// An update that has written as many items as one may.
+fn full_job(keeper: &mut Keeper) -> u64 {
+    let number = granted(keeper, Call::Update).number;
+    for item in 0..QUOTA as u64 {
+        write(keeper, number, item, 1 + item);
+    }
+    number
+}
+
+/// The commit of this transaction, each time on the same tables: only the call
+/// itself is timed, with one reading of the clock.
+fn commit(name: &str, spend: Duration, start: &Keeper, number: u64) {
+    const BATCH: u32 = 1000;
+    let mut keeper = start.clone();
+    let begin = Instant::now();
+    let (mut sum, mut calls, mut best) = (Duration::ZERO, 0, f64::INFINITY);
+    while begin.elapsed() < spend {
+        let mut batch = Duration::ZERO;
+        for _ in 0..BATCH {
+            keeper.clone_from(start);
+            let call = Instant::now();
+            let answer = keeper.call(Call::Commit { number });
+            batch += call.elapsed();
+            assert_eq!(answer.code, code::GRANTED);
+        }
+        best = best.min(per_call(batch, BATCH as u64));
+        sum += batch;
+        calls += BATCH as u64;
+    }
+    report(name, per_call(sum, calls), best);
+}
+
 /// The mean over all turns, and the best of the batches of 1,000 turns: on a
 /// busy machine only the best says what a call costs.
 fn line(name: &str, spend: Duration, calls: u64, mut turn: impl FnMut(u64)) {
@@ -98,7 +153,10 @@ fn line(name: &str, spend: Duration, calls: u64, mut turn: impl FnMut(u64)) {
         }
         best = best.min(per_call(batch.elapsed(), BATCH * calls));
     }
-    let mean = per_call(begin.elapsed(), turns * calls);
+    report(name, per_call(begin.elapsed(), turns * calls), best);
+}
+
+fn report(name: &str, mean: f64, best: f64) {
     println!(
         "  {:<36} {:>9.0} {:>9.0} {:>12.0}",
         name,

@@ -119,7 +119,7 @@ ends-requires c κs =
     let G = before (c .before .before .before .before .before .before .before .before) in
     let g = c .before .before .before .before .before .before .before .before .pre .0 in
     let a = subst (Able G) (c .before .before .before .deed11 .given .1) (c .before .before .before .before .before .before .before .before .pre .1) in
-    (record { locks = G .locks; good = g }, a)
+    (record { locks = G .locks; good = g }, a .0, a .1)
 
 enum-known-deed-12 : tie.Need-enum-known-deed-12
 enum-known-deed-12 c = search needs

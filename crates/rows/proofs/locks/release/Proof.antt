@@ -1,14 +1,15 @@
 -- The locks of the items passed are released.
-use Prim.Native.Nat.{ℕ, _+_, _-_}
-use mathlib.Core.List.{List}
-use mathlib.Core.Path.{sym, ap, _∙_, subst}
-use native.Mathlib.Omega.{arith}
-use borrow.Author.Needs.{needs}
-use Rattle.names.specs.Sizes.{base}
-use Rattle.rules.specs.Tables.{released}
-use Rattle.rows.proofs.Releases.{Released, none-released, one-released, all-released}
 use Rattle.rows.proofs.locks.release.Statement.{statement}
 use Rattle.rows.proofs.locks.release.Tie as tie
+use Rattle.rows.proofs.locks.release.Reads as reads
+use Rattle.rows.proofs.locks.release.Lts as lts
+use Rattle.rows.proofs.locks.release_item.Reads as release-item-reads
+use Prim.Native.Nat.{ℕ, _+_, _-_}
+use mathlib.Core.List.{List}
+use mathlib.Core.Path.{refl, sym, _∙_, subst}
+use native.Mathlib.Omega.{arith}
+use Rattle.names.specs.Sizes.{base}
+use Rattle.rows.proofs.Releases.{Released, none-released, one-released, all-released}
 
 abbrev Inv-loop : tie.InvT-loop
 Inv-loop locks₀ slot x₀ locks x = Released (slot .0) locks₀ locks x
@@ -16,36 +17,35 @@ Inv-loop locks₀ slot x₀ locks x = Released (slot .0) locks₀ locks x
 abbrev μ-loop : tie.MeasureT-loop
 μ-loop locks₀ slot x₀ locks x = base .items - x
 
+-- src/locks.rt:115:5
 loop-holds : tie.Need-loop-holds Inv-loop μ-loop
 loop-holds c = none-released _ _ (c .before .pre .0)
 
-lock-at-requires : tie.Need-lock-at-requires Inv-loop μ-loop
-lock-at-requires c κs = (c .before .before .loop .inv .size, omega arith)
+-- src/locks.rt:116:9
+release-item-requires : tie.Need-release-item-requires Inv-loop μ-loop
+release-item-requires c κs = (c .before .before .loop .inv .size, omega arith, c .before .before .before .before .pre .1)
 
-without-requires : tie.Need-without-requires Inv-loop μ-loop
-without-requires c κs = c .before .before .before .before .before .before .pre .1
-
-set-lock-requires : tie.Need-set-lock-requires Inv-loop μ-loop
-set-lock-requires c κs = (c .before .before .before .before .before .loop .inv .size, omega arith)
-
+-- src/locks.rt:117:9
 add-x : tie.Need-add-x Inv-loop μ-loop
-add-x c = search needs
+add-x c = omega arith
 
+-- src/locks.rt:115:5
 loop-less : tie.Need-loop-less Inv-loop μ-loop
 loop-less c = omega arith
 
+-- src/locks.rt:115:5
 loop-again : tie.Need-loop-again Inv-loop μ-loop
 loop-again c =
-    let a = c .before .before .before .before .before .before .before .before .before .before .args in
-    let l = c .before .before .before .before .before .before .before .before .loop in
-    let s = a .slot .0 in
-    subst (λ (m : List ℕ). Released s (a .locks .now) m (l .x + 1)) (sym (c .before .before .set-lock .ensures))
-    (one-released s (a .locks .now) (l .locks) (l .x) _ (omega arith) (l .inv)
-    (c .before .before .before .without .ensures ∙ ap (released s) (c .before .before .before .before .before .lock-at .ensures)))
+    let a = c .before .before .before .before .before .before .before .args in
+    let l = c .before .before .before .before .before .loop in
+    subst (λ (m : List ℕ). Released (a .slot .0) (a .locks .now) m (l .x + 1)) (sym (c .before .before .release-item .ensures))
+    (one-released (a .slot .0) (a .locks .now) (l .locks) (l .x) _ (omega arith) (l .inv) refl)
 
+-- src/locks.rt:110:1
 same-length : tie.Need-same-length Inv-loop μ-loop
 same-length c = c .before .loop .inv .size ∙ sym (c .before .before .before .pre .0)
 
+-- src/locks.rt:110:1
 returns : tie.Need-returns Inv-loop μ-loop
 returns c = all-released _ _ _ _ (c .before .before .before .pre .0) (omega arith) (c .before .loop .inv)
 
@@ -56,9 +56,7 @@ release-spec =
     Inv-loop
     μ-loop
     loop-holds
-    lock-at-requires
-    without-requires
-    set-lock-requires
+    release-item-requires
     add-x
     loop-less
     loop-again

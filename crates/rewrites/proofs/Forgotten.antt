@@ -1,0 +1,62 @@
+-- One who read by s leaves: the rows passed have what the starts that stay ask for, the others are as they were.
+use Prim.Native.Nat.{ℕ, _+_, _<_, _≤_}
+use mathlib.Core.Path.{_≡_, sym, ap, _∙_, subst}
+use mathlib.Core.List.{List}
+use native.Mathlib.Omega.{arith}
+use lib.ListN.{length}
+use Rattle.names.specs.Sizes.{base}
+use Rattle.rules.specs.Words.{row}
+use Rattle.rules.specs.Tables.{versionRow, versionWords}
+use Rattle.rules.specs.Versions.{Version, versionsIn, versionsOf, place, rowOf, kept, rewritten}
+use Rattle.rules.proofs.Choice.{Falls}
+use Rattle.packing.specs.Changed.{TidyRow, leftBy}
+use Rattle.rewrites.specs.Written.{withRow, Staying, Leavable}
+use Rattle.rewrites.proofs.Table.{soFar, none-yet, all-done, length-soFar, row-soFar, one-more}
+use Rattle.rewrites.proofs.Kept.{left-kept}
+
+abbrev same : ℕ → List Version → List Version
+same x vs = vs
+
+-- the rows of cur below i
+abbrev pub Forgotten : List ℕ → ℕ → ℕ → ℕ → List ℕ → ℕ → Type 0
+Forgotten v s below next cur i = (qs : List ℕ) → Staying v qs s below next → cur ≡ soFar qs (λ x vs. vs) v i
+
+pub none-forgotten : (v : List ℕ) (s below next : ℕ) → Forgotten v s below next v 0
+none-forgotten v s below next = λ qs k. sym (none-yet qs same v)
+
+module _ (v : List ℕ) (s below next : ℕ) (p : Leavable v s below next) (cur : List ℕ) (i : ℕ) (f : Forgotten v s below next cur i) where
+  is : cur ≡ soFar (p .starts) same v i
+  is = f (p .starts) (p .staying)
+
+  pub forgotten-size : i ≤ base .items → length cur ≡ versionWords base
+  forgotten-size h = ap length is ∙ length-soFar (p .starts) same v (p .staying .few) (p .tidy .size) i h
+
+  pub all-forgotten :
+      i ≤ base .items → base .items ≤ i → (qs : List ℕ) → Staying v qs s below next → cur ≡ rewritten base qs (λ x vs. vs) v
+  all-forgotten a b qs k = f qs k ∙ ap (soFar qs same v) (let e : i ≡ base .items = omega arith in e) ∙ all-done qs same v
+
+  module _ (inside : i < base .items) where
+    next-row : row (versionRow base) i cur ≡ row (versionRow base) i v
+    next-row = row-soFar (p .starts) same v (p .staying .few) (p .tidy .size) i inside cur is
+
+    pub next-tidy : TidyRow (row (versionRow base) i cur)
+    next-tidy = subst TidyRow (sym next-row) (p .tidy .rows i inside)
+
+    pub next-found : place s (versionsIn (row (versionRow base) i cur)) < length (versionsIn (row (versionRow base) i cur))
+    unfolding versionsOf
+    next-found = subst (λ (r : List ℕ). place s (versionsIn r) < length (versionsIn r)) (sym next-row) (p .found i inside)
+
+    one-kept : (qs : List ℕ) → Staying v qs s below next → leftBy s below next (versionsIn (row (versionRow base) i cur)) ≡ kept qs (versionsIn (row (versionRow base) i cur))
+    unfolding versionsOf Falls
+    one-kept qs k =
+        subst (λ (r : List ℕ). leftBy s below next (versionsIn r) ≡ kept qs (versionsIn r)) (sym next-row)
+        (left-kept qs s below next (k .beside) (versionsOf base v i) (p .tidy .rows i inside .sound .fall) (p .low i inside) (p .found i inside) (λ j a b. k .read i j inside a b))
+
+    pub one-forgotten :
+        {new : List ℕ} → new ≡ withRow i (rowOf base (leftBy s below next (versionsIn (row (versionRow base) i cur)))) cur
+        → Forgotten v s below next new (i + 1)
+    one-forgotten e =
+        λ qs k.
+        e
+        ∙ ap (λ (vs : List Version). withRow i (rowOf base vs) cur) (one-kept qs k)
+        ∙ one-more qs same v (k .few) (p .tidy .size) i inside cur (f qs k)

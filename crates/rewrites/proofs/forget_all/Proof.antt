@@ -1,0 +1,80 @@
+-- What the one who left has read alone is gone from the rows passed.
+use Rattle.rewrites.proofs.forget_all.Statement.{statement}
+use Rattle.rewrites.proofs.forget_all.Tie as tie
+use Rattle.rewrites.proofs.forget_all.Reads as reads
+use Rattle.rewrites.proofs.forget_all.Lts as lts
+use Rattle.rewrites.proofs.forget_item.Reads as forget-item-reads
+use Prim.Native.Nat.{_≤_, _-_}
+use native.Mathlib.Omega.{arith}
+use mathlib.Core.Path.{sym, _∙_}
+use Rattle.names.specs.Sizes.{base}
+use Rattle.rewrites.proofs.Forgotten.{Forgotten, none-forgotten, forgotten-size, next-tidy, next-found, one-forgotten, all-forgotten}
+
+abbrev Inv-loop : tie.InvT-loop
+Inv-loop versions₀ start below next i₀ versions i = (i ≤ base .items) × Forgotten versions₀ start below next versions i
+
+abbrev μ-loop : tie.MeasureT-loop
+μ-loop versions₀ start below next i₀ versions i = base .items - i
+
+-- src/lib.rt:49:5
+loop-holds : tie.Need-loop-holds Inv-loop μ-loop
+loop-holds c = (omega arith, none-forgotten _ _ _ _)
+
+-- src/lib.rt:50:9
+forget-item-requires : tie.Need-forget-item-requires Inv-loop μ-loop
+forget-item-requires c κs =
+    let a = c .before .before .before .before .args in
+    let p = c .before .before .before .before .pre in
+    let l = c .before .before .loop in
+    let h = c .before .loop-test .taken in
+    let v = a .versions .now in (
+      forgotten-size v (a .start .0) (a .beside .below) (a .beside .next) p (l .versions) (l .i) (l .inv .1) (l .inv .0),
+      h,
+      next-tidy v (a .start .0) (a .beside .below) (a .beside .next) p (l .versions) (l .i) (l .inv .1) h,
+      next-found v (a .start .0) (a .beside .below) (a .beside .next) p (l .versions) (l .i) (l .inv .1) h,
+    )
+
+-- src/lib.rt:51:9
+add-i : tie.Need-add-i Inv-loop μ-loop
+add-i c = omega arith
+
+-- src/lib.rt:49:5
+loop-less : tie.Need-loop-less Inv-loop μ-loop
+loop-less c = omega arith
+
+-- src/lib.rt:49:5
+loop-again : tie.Need-loop-again Inv-loop μ-loop
+loop-again c =
+    let a = c .before .before .before .before .before .before .before .args in
+    let p = c .before .before .before .before .before .before .before .pre in
+    let l = c .before .before .before .before .before .loop in
+    (omega arith, one-forgotten (a .versions .now) (a .start .0) (a .beside .below) (a .beside .next) p (l .versions) (l .i) (l .inv .1) (c .before .before .before .before .loop-test .taken) (c .before .before .forget-item .ensures))
+
+-- src/lib.rt:41:1
+same-length : tie.Need-same-length Inv-loop μ-loop
+same-length c =
+    let a = c .before .before .before .args in
+    let p = c .before .before .before .pre in
+    let l = c .before .loop in
+    forgotten-size (a .versions .now) (a .start .0) (a .beside .below) (a .beside .next) p (l .versions) (l .i) (l .inv .1) (l .inv .0) ∙ sym (p .tidy .size)
+
+-- src/lib.rt:41:1
+returns : tie.Need-returns Inv-loop μ-loop
+returns c =
+    let a = c .before .before .before .args in
+    let l = c .before .loop in
+    all-forgotten (a .versions .now) (a .start .0) (a .beside .below) (a .beside .next) (c .before .before .before .pre) (l .versions) (l .i) (l .inv .1) (l .inv .0) (c .loop-test .left)
+
+pub forget-all-spec : {M : Type 1} → statement M
+forget-all-spec =
+    tie.close
+    (tie.spec
+    Inv-loop
+    μ-loop
+    loop-holds
+    forget-item-requires
+    add-i
+    loop-less
+    loop-again
+    same-length
+    returns)

@@ -1,0 +1,31 @@
+-- A slot holds a lock that it shares or has exclusively.
+use borrow.Author.Needs.{needs}
+use Rattle.rows.proofs.locks.held_by.Statement.{statement}
+use Rattle.rows.proofs.locks.held_by.Tie as tie
+use Rattle.rows.proofs.locks.held_by.Reads as reads
+use Rattle.rows.proofs.locks.held_by.Lts as lts
+use Prim.Native.Nat.{ℕ}
+use mathlib.Core.Bool.{_||_}
+use mathlib.Core.Path.{ap}
+use native.Mathlib.Numerals.{add-one}
+use lib.Dec.{eqb}
+use Rattle.rules.specs.Words.{bit}
+use Rattle.rules.specs.Tables.{holds, holdsShared, holdsExclusive}
+
+-- src/locks.rt:95:7
+shr-result : tie.Need-shr-result
+shr-result c = search needs
+
+-- src/locks.rt:95:54
+add-result : tie.Need-add-result
+add-result c = search needs
+
+-- src/locks.rt:90:1
+returns : tie.Need-returns
+unfolding holds holdsShared holdsExclusive bit
+returns c =
+    let a = c .before .before .args in
+    ap (λ (n : ℕ). bit (a .row .shared) (a .slot .0) || eqb (a .row .exclusive) n) (add-one (a .slot .0))
+
+pub held-by-spec : {M : Type 1} → statement M
+held-by-spec = tie.close (tie.spec shr-result add-result returns)
