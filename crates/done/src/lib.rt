@@ -1,5 +1,11 @@
-// Each deed done: its answer, and the tables that are lent as they are afterwards. Proved equal to
-// `done` of the rules, on good tables and for a deed that they allow, as a judged one is.
+// Each deed done by its own function of `deeds`: its answer, and the tables that are lent as they are
+// afterwards. Proved equal to `done` of the rules, on good tables and for a deed that they allow, as a
+// judged one is.
+use deeds::aborts;
+use deeds::begins;
+use deeds::ends;
+use deeds::grants;
+use deeds::reads;
 use names::Answer;
 use names::Deed;
 ghost use mathlib.Core.Path.{_≡_};
@@ -9,12 +15,6 @@ ghost use Rattle.rules.specs.Good.{Good};
 ghost use Rattle.rules.specs.Answers.{outcome};
 ghost use Rattle.rules.specs.Step.{done};
 ghost use Rattle.done.specs.Able.{Able};
-
-mod aborts;
-mod begins;
-mod ends;
-mod grants;
-mod reads;
 
 pub fn done(deed: Deed, txns: &mut [u64], locks: &mut [u64], versions: &mut [u64]) -> Answer
     requires { ⌜ Good base (tables (now txns) (now locks) (now versions)) × Able (tables (now txns) (now locks) (now versions)) deed ⌝ }

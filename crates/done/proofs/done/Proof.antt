@@ -6,7 +6,7 @@ use Rattle.rules.specs.Answers.{outcome}
 use Rattle.rules.specs.Step.{done}
 use Rattle.choices.proofs.Handed.{good-found}
 use Rattle.done.specs.Able.{Able}
-use Rattle.done.proofs.Deeds.{told, lockable, has-newest}
+use Rattle.deeds.proofs.Deeds.{told, lockable, has-newest}
 use borrow.Author.Needs.{needs}
 use Rattle.done.proofs.done.Statement.{statement}
 use Rattle.done.proofs.done.Tie as tie

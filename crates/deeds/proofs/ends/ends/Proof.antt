@@ -1,0 +1,103 @@
+-- The row goes, then what its start alone read goes from every row of versions.
+use borrow.Author.Needs.{needs}
+use Rattle.deeds.proofs.ends.ends.Statement.{statement}
+use Rattle.deeds.proofs.ends.ends.Tie as tie
+use Rattle.deeds.proofs.ends.ends.Reads as reads
+use Rattle.deeds.proofs.ends.ends.Lts as lts
+use Rattle.names.proofs.Answer.granted.Reads as granted-reads
+use Rattle.rewrites.proofs.forget_all.Reads as forget-all-reads
+use Rattle.rows.proofs.leave.Reads as leave-reads
+use Rattle.rows.proofs.start.Reads as start-reads
+use Rattle.starts.proofs.beside.Reads as beside-reads
+use Prim.Native.Nat.{ℕ}
+use mathlib.Core.Path.{_≡_, sym, subst, subst₂}
+use mathlib.Core.List.{List}
+use Rattle.names.specs.Sizes.{base}
+use Rattle.rules.specs.Tables.{Tables, tables, setTxn, noTxn, starts, txn}
+use Rattle.rules.specs.Good.{Good}
+use Rattle.starts.specs.Beside.{Beside}
+use Rattle.rewrites.specs.Written.{Staying, Leavable}
+use Rattle.rewrites.proofs.Handed.{good-leaves, good-staying}
+use Rattle.deeds.proofs.Deeds.{ends-done}
+
+-- where the neighbours are known: the tables as they came, the starts that are left, the start that ended
+abbrev G : tie.After-beside → Tables
+G c = let f = c .before .before .before .before .before .before .before .before .before .before in tables (f .args .txns .now) (f .pre .0 .locks) (f .args .versions .now)
+
+abbrev slot : tie.After-beside → ℕ
+slot c = c .before .before .before .before .before .before .before .before .before .before .args .slot .0
+
+abbrev left : tie.After-beside → List ℕ
+left c = starts base (setTxn (G c .txns) (slot c) noTxn)
+
+abbrev ended : tie.After-beside → ℕ
+ended c = c .before .before .before .before .before .before .start .result .0
+
+ended-is : (c : tie.After-beside) → ended c ≡ (txn (G c .txns) (slot c)) .start
+ended-is c = c .before .before .before .before .before .before .start .ensures
+
+neighbours : (c : tie.After-beside) → Beside (left c) ((txn (G c .txns) (slot c)) .start) (c .beside .result .below) (c .beside .result .next)
+neighbours c =
+    subst₂ (λ (t : List ℕ) (q : ℕ). Beside (starts base t) q (c .beside .result .below) (c .beside .result .next))
+    (c .before .before .before .before .leave .ensures)
+    (ended-is c)
+    (c .beside .ensures)
+
+leavable : (c : tie.After-beside) → Leavable (G c .versions) (ended c) (c .beside .result .below) (c .beside .result .next)
+leavable c =
+    let p = c .before .before .before .before .before .before .before .before .before .before .pre in
+    subst (λ (q : ℕ). Leavable (G c .versions) q (c .beside .result .below) (c .beside .result .next)) (sym (ended-is c))
+    (good-leaves (G c) (p .0 .good) (slot c) (p .1) (p .2) (c .beside .result .below) (c .beside .result .next) (neighbours c))
+
+staying : (c : tie.After-beside) → Staying (G c .versions) (left c) (ended c) (c .beside .result .below) (c .beside .result .next)
+staying c =
+    let p = c .before .before .before .before .before .before .before .before .before .before .pre in
+    subst (λ (q : ℕ). Staying (G c .versions) (left c) q (c .beside .result .below) (c .beside .result .next)) (sym (ended-is c))
+    (good-staying (G c) (p .0 .good) (slot c) (p .1) (p .2) (c .beside .result .below) (c .beside .result .next) (neighbours c))
+
+-- src/ends.rt:21:9
+start-requires : tie.Need-start-requires
+start-requires c κs = search needs
+
+-- src/ends.rt:22:5
+leave-requires : tie.Need-leave-requires
+leave-requires c κs = search needs
+
+-- src/ends.rt:23:9
+beside-requires : tie.Need-beside-requires
+beside-requires c κs = search needs
+
+-- src/ends.rt:24:5
+forget-all-requires : tie.Need-forget-all-requires
+forget-all-requires c κs = leavable (c .before)
+
+-- src/ends.rt:25:5
+granted-requires : tie.Need-granted-requires
+granted-requires c κs = search needs
+
+-- src/ends.rt:17:1
+same-length : tie.Need-same-length
+same-length c = search needs
+
+-- src/ends.rt:17:1
+same-length-2 : tie.Need-same-length-2
+same-length-2 c = search needs
+
+-- src/ends.rt:17:1
+returns : tie.Need-returns
+returns c =
+    let at = c .before .before .before .before .before in
+    λ l. ends-done (G at .txns) l (G at .versions) _ (at .before .before .before .before .leave .ensures) (c .before .before .before .forget-all .ensures (left at) (staying at)) (c .granted .ensures)
+
+pub ends-spec : {M : Type 1} → statement M
+ends-spec =
+    tie.close
+    (tie.spec
+    start-requires
+    leave-requires
+    beside-requires
+    forget-all-requires
+    granted-requires
+    same-length
+    same-length-2
+    returns)

@@ -1,0 +1,44 @@
+// A read that needs no new lock.
+use names::Answer;
+use names::Item;
+use names::NO_LOCK;
+use names::Slot;
+ghost use mathlib.Core.Path.{_≡_};
+ghost use mathlib.Core.List.{List};
+ghost use Prim.Native.Nat.{ℕ, _<_};
+ghost use lib.ListN.{length};
+ghost use Rattle.names.specs.Sizes.{base};
+ghost use Rattle.rules.specs.Tables.{tables, txnWords, lockWords, txn};
+ghost use Rattle.rules.specs.Answers.{outcome, ReadsByStart, ReadsOwn, ReadsNewest};
+ghost use Rattle.rules.specs.Step.{done};
+ghost use Rattle.choices.specs.Choosable.{Choosable};
+ghost use Rattle.deeds.specs.Asked.{HasNewest};
+
+// A query reads the newest version up to its start.
+pub fn by_start(txns: &[u64], versions: &[u64], slot: Slot, item: Item) -> Answer
+    requires { ⌜ (length (now txns) ≡ txnWords base) × (slot .0 < base .slots) × Choosable (now versions) (item .0) ((txn (now txns) (slot .0)) .start) ⌝ }
+    ensures { λ r. ⌜ ((l : List ℕ) → outcome r (now (txns .entry)) l (now (versions .entry)) ≡ done base (ReadsByStart slot item) (tables (now (txns .entry)) l (now (versions .entry)))) ⌝ }
+{
+    let start = rows::start(txns, slot);
+    let choice = choices::chosen(versions, item, start);
+    Answer::found(choice.value, choice.looked)
+}
+
+// An update reads its own working value.
+pub fn own(txns: &mut [u64], locks: &[u64], slot: Slot, item: Item) -> Answer
+    requires { ⌜ (length (now txns) ≡ txnWords base) × (length (now locks) ≡ lockWords base) × (slot .0 < base .slots) × (item .0 < base .items) ⌝ }
+    ensures { λ r. ⌜ ((v : List ℕ) → outcome r (now (txns .exit)) (now (locks .entry)) v ≡ done base (ReadsOwn slot item) (tables (now (txns .entry)) (now (locks .entry)) v)) ⌝ }
+{
+    rows::set_awaited(txns, slot, NO_LOCK, Item(0));
+    let row = rows::lock_at(locks, item);
+    Answer::found(row.working, 0)
+}
+
+// An update reads the newest value, under the lock that it shares.
+pub fn newest(txns: &mut [u64], versions: &[u64], slot: Slot, item: Item) -> Answer
+    requires { ⌜ (length (now txns) ≡ txnWords base) × (slot .0 < base .slots) × HasNewest (now versions) (item .0) ⌝ }
+    ensures { λ r. ⌜ ((l : List ℕ) → outcome r (now (txns .exit)) l (now (versions .entry)) ≡ done base (ReadsNewest slot item) (tables (now (txns .entry)) l (now (versions .entry)))) ⌝ }
+{
+    rows::set_awaited(txns, slot, NO_LOCK, Item(0));
+    Answer::found(choices::newest(versions, item), 1)
+}
