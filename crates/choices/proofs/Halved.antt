@@ -1,15 +1,19 @@
 -- The search by halving for the version that a start reads, and the words of that version in the table.
-use Prim.Native.Nat.{ℕ, _+_, _-_, _*_, _/_, _<_, _≤_}
-use mathlib.Core.Path.{_≡_, sym, ap, _∙_, subst}
+use Prim.Native.Nat.{ℕ, zero, suc, _+_, _-_, _*_, _/_, _<_, _≤_}
+use mathlib.Core.Path.{_≡_, refl, sym, ap, _∙_, subst}
 use mathlib.Core.Logic.{_⊎_, inl, inr}
+use mathlib.Core.Bool.{Bool, true, false, _&&_}
 use mathlib.Core.List.{List}
 use native.Mathlib.Omega.{arith}
 use native.Mathlib.Nat.{eq-or-lt-of-le, not-suc-le-zero}
 use lib.ListN.{getD}
+use lib.Dec.{ltb}
+use borrow.Author.Tests.{ltb-false}
 use Rattle.names.specs.Sizes.{base}
 use Rattle.rules.specs.Words.{row}
 use Rattle.rules.specs.Tables.{versionRow}
 use Rattle.rules.specs.Versions.{Version, noVersion, versionsIn, versionsOf, stampAt, place}
+use Rattle.rules.proofs.Tests.{true-is, false-is, and-both}
 use Rattle.rules.proofs.Choice.{length-versionsIn, place-fits}
 use Rattle.rules.proofs.Reading.{place-is}
 use Rattle.rules.proofs.Rows.{row-word}
@@ -33,9 +37,9 @@ module _ (r : List ℕ) (q : ℕ) (f : ChoosableIn r q) where
   pub within : place q (versionsIn r) < countIn r
   within = let a = f .found in omega (arith, length-versionsIn r)
 
-  -- the loop begins with all places but one to leave out
-  pub few-looks : halvings (base .places) (countIn r - 1) ≤ mostLooks
-  few-looks = at-most (base .places) mostLooks (countIn r - 1) (let a = f .sound .most in omega arith)
+  -- the loop begins with all places but one to leave out, and no look
+  pub few-looks : halvings (base .places) (countIn r - 1 - 0) + 0 ≤ mostLooks
+  few-looks = let h = at-most (base .places) mostLooks (countIn r - 1 - 0) (let a = f .sound .most in omega arith) in omega arith
 
   -- at first these are all places: the last version is the oldest, so it is old enough
   pub begin : Halved r q 0 (countIn r - 1)
@@ -90,6 +94,27 @@ module _ (r : List ℕ) (q : ℕ) (f : ChoosableIn r q) where
         let b = f .sound .most in
         fewer (base .places) n (hi - lo) m (omega arith) (omega arith)
 
+    -- a turn: one look less, and half of the places
+    pub turned-right :
+        lo < hi → (looks : ℕ) → halvings (base .places) (hi - lo) + looks ≤ mostLooks → q < stampIn r ((lo + hi) / 2)
+        → {l u : ℕ} → l ≡ (lo + hi) / 2 + 1 → u ≡ hi → Halved r q l u × (halvings (base .places) (u - l) + (looks + 1) ≤ mostLooks)
+    turned-right o looks m n {l} {u} e f =
+        let z : u - l ≤ (hi - lo) / 2 = omega arith in
+        let y = less o z in (
+          subst (λ (j : ℕ). Halved r q l j) (sym f) (right ((lo + hi) / 2) (omega arith) n (let z : l ≤ (lo + hi) / 2 + 1 = omega arith in z)),
+          omega arith,
+        )
+
+    pub turned-left :
+        lo < hi → (looks : ℕ) → halvings (base .places) (hi - lo) + looks ≤ mostLooks → stampIn r ((lo + hi) / 2) ≤ q
+        → {l u : ℕ} → l ≡ lo → u ≡ (lo + hi) / 2 → Halved r q l u × (halvings (base .places) (u - l) + (looks + 1) ≤ mostLooks)
+    turned-left o looks m n {l} {u} e f =
+        let z : u - l ≤ (hi - lo) / 2 = omega arith in
+        let y = less o z in (
+          subst (λ (j : ℕ). Halved r q j u) (sym e) (subst (λ (j : ℕ). Halved r q lo j) (sym f) (left ((lo + hi) / 2) (omega arith) (omega arith) n)),
+          omega arith,
+        )
+
     -- where one place is left, it is the chosen one
     pub done : hi ≤ lo → lo ≡ place q (versionsIn r)
     done l =
@@ -100,6 +125,20 @@ module _ (r : List ℕ) (q : ℕ) (f : ChoosableIn r q) where
         (place-is q (versionsIn r) lo (omega (arith, length-versionsIn r))
         (subst (λ (k : ℕ). stampAt (versionsIn r) k ≤ q) e (h .old))
         (h .newer))
+
+-- the loop ends where one place is left, or no look: then too one place is left
+pub looked-enough :
+    (lo hi looks : ℕ) → halvings (base .places) (hi - lo) + looks ≤ mostLooks → (ltb lo hi && ltb looks mostLooks) ≡ false → hi ≤ lo
+looked-enough lo hi looks m e = go (ltb lo hi) refl (ltb looks mostLooks) refl
+  where
+    none : (n : ℕ) → halvings (base .places) n ≤ 0 → n ≡ 0
+    none zero h = refl
+    none (suc n) h = absurd (unfold halvings in (omega arith))
+
+    go : (a : Bool) → ltb lo hi ≡ a → (b : Bool) → ltb looks mostLooks ≡ b → hi ≤ lo
+    go false f b g = ltb-false lo hi f
+    go true f false g = let l = ltb-false looks mostLooks g in let z = none (hi - lo) (omega arith) in omega arith
+    go true f true g = absurd (false-is e (and-both (ltb lo hi) (ltb looks mostLooks) (true-is f) (true-is g)))
 
 -- ---- in the table
 pub found-in : (v : List ℕ) (x q : ℕ) → Choosable v x q → ChoosableIn (row (versionRow base) x v) q

@@ -24,21 +24,27 @@ pub struct Choice {
     pub looked: u64,
 }
 
+// At how many stamps the search looks at most, in a full row too.
+const LOOKS: usize = 4;
+
 // The place, from 0, of the newest version in a row that is at most start. Stamps fall along a row, so
-// it is found by halving: every place before lo is too new, the place hi is old enough.
+// it is found by halving: every place before lo is too new, the place hi is old enough. Each turn
+// looks at one stamp, and the turns are counted: after the last one the place is found.
 pub fn place_in(row: &[u64], start: u64) -> usize
     requires { ⌜ ChoosableIn (now row) start ⌝ }
     ensures { λ k. ⌜ k ≡ place start (versionsIn (now (row .entry))) ⌝ }
 {
     let mut lo: usize = 0;
     let mut hi: usize = (row[VERSION_COUNT_AT] as usize) - 1;
-    while lo < hi {
+    let mut looks: usize = 0;
+    while (lo < hi) & (looks < LOOKS) {
         let mid = (lo + hi) / 2;
         if start < row[mid * VERSION_PAIR + VERSION_STAMP_AT] {
             lo = mid + 1;
         } else {
             hi = mid;
         }
+        looks += 1;
     }
     lo
 }

@@ -1,83 +1,95 @@
--- Halving ends at the version that the start reads, after as many looks as the places can be halved.
-use Prim.Native.Nat.{_+_, _-_, _/_}
+-- Halving ends at the version that the start reads, after no more looks than are counted.
+use Prim.Native.Nat.{ℕ, _+_, _-_, _<_, _≤_}
+use mathlib.Core.Logic.{⊎-elim}
+use mathlib.Core.List.{List}
 use native.Mathlib.Omega.{arith}
+use lib.Dec.{ltb}
+use borrow.Author.Tests.{ltb-true}
 use Rattle.names.specs.Sizes.{base}
-use Rattle.choices.specs.Looks.{halvings}
-use Rattle.choices.proofs.Halved.{Halved, within, begin, right, left, less, done}
+use Rattle.rules.proofs.Tests.{true-is, is-true, and-left, and-right}
+use Rattle.choices.specs.Looks.{halvings, mostLooks}
+use Rattle.choices.proofs.Halved.{Halved, within, few-looks, begin, turned-right, turned-left, done, looked-enough}
 use Rattle.choices.proofs.place_in.Statement.{statement}
 use Rattle.choices.proofs.place_in.Tie as tie
 
+-- the looks that are left are as many as the places that are left can be halved
 abbrev Inv-loop : tie.InvT-loop
-Inv-loop row start lo₀ hi₀ lo hi = Halved row start lo hi
+Inv-loop row start lo₀ hi₀ looks₀ lo hi looks = Halved row start lo hi × (halvings (base .places) (hi - lo) + looks ≤ mostLooks)
 
--- each turn looks at one stamp, so there are at most as many looks as this is at first: `Halved: few-looks`
 abbrev μ-loop : tie.MeasureT-loop
-μ-loop row start lo₀ hi₀ lo hi = halvings (base .places) (hi - lo)
+μ-loop row start lo₀ hi₀ looks₀ lo hi looks = mostLooks - looks
+
+-- ---- places
+abbrev row : tie.Start Inv-loop μ-loop → List ℕ
+row c = c .args .row .now
+
+turning : (c : tie.In-loop Inv-loop μ-loop) → (c .before .loop .lo < c .before .loop .hi) × (c .before .loop .looks < mostLooks)
+turning c =
+    let l = c .before .loop in (
+      ltb-true (l .lo) (l .hi) (is-true (ltb (l .lo) (l .hi)) (and-left (ltb (l .lo) (l .hi)) _ (true-is (c .loop-test .taken)))),
+      ltb-true (l .looks) mostLooks (is-true (ltb (l .looks) mostLooks) (and-right (ltb (l .lo) (l .hi)) _ (true-is (c .loop-test .taken)))),
+    )
 
 shared-slice-read-hi : tie.Need-shared-slice-read-hi Inv-loop μ-loop
 shared-slice-read-hi c = let s = c .before .pre .size in omega arith
 
 sub-hi : tie.Need-sub-hi Inv-loop μ-loop
-sub-hi c = let a = c .before .args in omega (arith, within (a .row .now) (a .start) (c .before .pre))
+sub-hi c = omega (arith, within (row (c .before)) (c .before .args .start) (c .before .pre))
 
 loop-holds : tie.Need-loop-holds Inv-loop μ-loop
-loop-holds c = let a = c .before .args in begin (a .row .now) (a .start) (c .before .pre)
+loop-holds c =
+    (begin (row (c .before)) (c .before .args .start) (c .before .pre), few-looks (row (c .before)) (c .before .args .start) (c .before .pre))
 
 add-mid : tie.Need-add-mid Inv-loop μ-loop
-add-mid c = let i = c .before .loop .inv .inside in let m = c .before .before .before .pre .sound .most in omega arith
+add-mid c = let i = c .before .loop .inv .0 .inside in let m = c .before .before .before .pre .sound .most in let t = turning c in omega arith
 
 mul-if1 : tie.Need-mul-if1 Inv-loop μ-loop
-mul-if1 c = let i = c .before .loop .inv .inside in let m = c .before .before .before .pre .sound .most in omega arith
+mul-if1 c = let i = c .before .loop .inv .0 .inside in let m = c .before .before .before .pre .sound .most in let t = turning c in omega arith
 
 add-if1 : tie.Need-add-if1 Inv-loop μ-loop
-add-if1 c = let i = c .before .loop .inv .inside in let m = c .before .before .before .pre .sound .most in omega arith
+add-if1 c = let i = c .before .loop .inv .0 .inside in let m = c .before .before .before .pre .sound .most in let t = turning c in omega arith
 
 mul-if1-2 : tie.Need-mul-if1-2 Inv-loop μ-loop
-mul-if1-2 c = let i = c .before .loop .inv .inside in let m = c .before .before .before .pre .sound .most in omega arith
+mul-if1-2 c = let i = c .before .loop .inv .0 .inside in let m = c .before .before .before .pre .sound .most in let t = turning c in omega arith
 
 shared-slice-read-if1 : tie.Need-shared-slice-read-if1 Inv-loop μ-loop
 shared-slice-read-if1 c =
     let p = c .before .before .before .before .pre in
-    let i = c .before .before .loop .inv .inside in
+    let i = c .before .before .loop .inv .0 .inside in
     let m = p .sound .most in
     let s = p .size in
+    let t = turning (c .before) in
     omega arith
 
 add-lo : tie.Need-add-lo Inv-loop μ-loop
 add-lo c =
-    let i = c .before .before .before .loop .inv .inside in
+    let i = c .before .before .before .loop .inv .0 .inside in
     let m = c .before .before .before .before .before .pre .sound .most in
+    let t = turning (c .before .before) in
     omega arith
 
+add-looks : tie.Need-add-looks Inv-loop μ-loop
+add-looks c = let t = turning (c .before .before) in omega arith
+
 loop-less : tie.Need-loop-less Inv-loop μ-loop
-loop-less c =
-    let a = c .before .before .before .before .before .args in
-    let l = c .before .before .before .loop in
-    less (a .row .now) (a .start) (c .before .before .before .before .before .pre) (l .lo) (l .hi) (l .inv) (omega arith) (omega arith)
+loop-less c = let t = turning (c .before .before) in omega arith
 
 loop-again : tie.Need-loop-again Inv-loop μ-loop
 loop-again c =
-    let a = c .before .before .before .before .before .args in
+    let s = c .before .before .before .before .before in
     let l = c .before .before .before .loop in
-    right (a .row .now) (a .start) (c .before .before .before .before .before .pre) (l .lo) (l .hi) (l .inv) ((l .lo + l .hi) / 2) (omega arith) (omega arith) (omega arith)
-
-loop-less-2 : tie.Need-loop-less-2 Inv-loop μ-loop
-loop-less-2 c =
-    let a = c .before .before .before .before .before .args in
-    let l = c .before .before .before .loop in
-    less (a .row .now) (a .start) (c .before .before .before .before .before .pre) (l .lo) (l .hi) (l .inv) (omega arith) (omega arith)
-
-loop-again-2 : tie.Need-loop-again-2 Inv-loop μ-loop
-loop-again-2 c =
-    let a = c .before .before .before .before .before .args in
-    let l = c .before .before .before .loop in
-    left (a .row .now) (a .start) (c .before .before .before .before .before .pre) (l .lo) (l .hi) (l .inv) _ (omega arith) (omega arith) (omega arith)
+    let t = turning (c .before .before) in
+    ⊎-elim
+    (λ w. turned-right (row s) (s .args .start) (s .pre) (l .lo) (l .hi) (l .inv .0) (t .0) (l .looks) (l .inv .1) (w .0 .taken) (w .1) (w .2))
+    (λ w. turned-left (row s) (s .args .start) (s .pre) (l .lo) (l .hi) (l .inv .0) (t .0) (l .looks) (l .inv .1) (w .0 .left) (w .1) (w .2))
+    (c .if1 .came)
 
 returns : tie.Need-returns Inv-loop μ-loop
 returns c =
-    let a = c .before .before .before .args in
     let l = c .before .loop in
-    done (a .row .now) (a .start) (c .before .before .before .pre) (l .lo) (l .hi) (l .inv) (omega arith)
+    let s = c .before .before .before in
+    done (row s) (s .args .start) (s .pre) (l .lo) (l .hi) (l .inv .0)
+    (looked-enough (l .lo) (l .hi) (l .looks) (l .inv .1) (c .loop-test .left))
 
 pub place-in-spec : {M : Type 1} → statement M
 place-in-spec =
@@ -94,8 +106,7 @@ place-in-spec =
     mul-if1-2
     shared-slice-read-if1
     add-lo
+    add-looks
     loop-less
     loop-again
-    loop-less-2
-    loop-again-2
     returns)
