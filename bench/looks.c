@@ -1,7 +1,7 @@
 /* How many stamps are looked at to find the version that a query reads: walking from the newest, as
  * document 01 tells it, and by halving, as the keeper does.
  *
- * Looks cannot be counted inside the proved code, so both loops stand here once more, with a count.
+ * The proved loop bounds its looks and hands none out, so both loops stand here once more, with a count.
  * They are run on the words of the keeper's own tables, for rows of 1, 2, 8 and 16 versions and for
  * each start that a query can have there; the place that they find must be the looked of the
  * keeper's answer. Exit status 1 if one is not. */
