@@ -50,7 +50,7 @@ loop-again : tie.Need-loop-again Inv-loop μ-loop
 loop-again c =
     let a = c .before .before .before .args in
     let l = c .before .before .loop in
-    back-step (a .row .now) (l .row) (a .n) (l .k) (c .before .before .before .pre) (c .before .loop-test .taken) (l .inv)
+    back-step (a .row .now) (l .row) (a .n) (l .k) (c .before .before .before .pre) (omega arith) (l .inv)
 
 -- src/lib.rt:21:1
 same-length : tie.Need-same-length Inv-loop μ-loop
@@ -61,7 +61,7 @@ returns : tie.Need-returns Inv-loop μ-loop
 returns c =
     let a = c .before .before .args in
     let l = c .before .loop in
-    back-end (a .row .now) (l .row) (a .n) (l .k) (c .loop-test .left) (l .inv)
+    back-end (a .row .now) (l .row) (a .n) (l .k) (omega arith) (l .inv)
 
 pub move-back-spec : {M : Type 1} → statement M
 move-back-spec =
