@@ -45,6 +45,10 @@ pub fn forget_all(versions: &mut [u64], start: Stamp, beside: Neighbours)
     let start = start.0;
     let below = beside.below;
     let next = beside.next;
+    // another reads by the very same start, so that nothing goes
+    if next == start {
+        return;
+    }
     let mut i: usize = 0;
     while i < ROWS {
         forget_item(versions, i, start, below, next);
