@@ -3,7 +3,7 @@
 //
 // Proved against `rewritten` of the rules. Good tables meet each `requires`, as proofs/Handed says.
 ghost use mathlib.Core.Path.{_≡_};
-ghost use mathlib.Core.Bool.{true, cond};
+ghost use mathlib.Core.Bool.{cond};
 ghost use mathlib.Core.List.{List};
 ghost use Prim.Native.Nat.{ℕ, _<_};
 ghost use lib.ListN.{length};

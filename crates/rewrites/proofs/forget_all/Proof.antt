@@ -1,12 +1,8 @@
 -- What the one who left has read alone is gone from the rows passed.
 use Rattle.rewrites.proofs.forget_all.Statement.{statement}
 use Rattle.rewrites.proofs.forget_all.Tie as tie
-use Rattle.rewrites.proofs.forget_all.Reads as reads
-use Rattle.rewrites.proofs.forget_all.Lts as lts
-use Rattle.rewrites.proofs.forget_item.Reads as forget-item-reads
-use Prim.Native.Nat.{ℕ, _≤_, _-_}
+use Prim.Native.Nat.{_≤_, _-_}
 use mathlib.Core.Path.{_≡_, sym, _∙_}
-use mathlib.Core.List.{List}
 use native.Mathlib.Omega.{arith}
 use lib.ListN.{length}
 use Rattle.names.specs.Sizes.{base}
@@ -26,17 +22,14 @@ size c =
     let l = c .loop in
     forgotten-size (a .versions .now) (a .start .0) (a .beside .below) (a .beside .next) (c .before .before .before .pre) (l .versions) (l .i) (l .inv .1) (l .inv .0)
 
--- src/lib.rt:50:9
 returns : tie.Need-returns Inv-loop μ-loop
 returns c =
     let a = c .before .before .args in
     none-goes (a .versions .now) (a .start .0) (a .beside .below) (a .beside .next) (c .before .before .pre) (c .if1 .taken)
 
--- src/lib.rt:53:5
 loop-holds : tie.Need-loop-holds Inv-loop μ-loop
 loop-holds c = (omega arith, none-forgotten _ _ _ _)
 
--- src/lib.rt:54:9
 forget-item-requires : tie.Need-forget-item-requires Inv-loop μ-loop
 forget-item-requires c κs =
     let a = c .before .before .before .before .before .args in
@@ -49,15 +42,12 @@ forget-item-requires c κs =
       next-found (a .versions .now) (a .start .0) (a .beside .below) (a .beside .next) p (l .versions) (l .i) (l .inv .1) h,
     )
 
--- src/lib.rt:55:9
 add-i : tie.Need-add-i Inv-loop μ-loop
 add-i c = omega arith
 
--- src/lib.rt:53:5
 loop-less : tie.Need-loop-less Inv-loop μ-loop
 loop-less c = omega arith
 
--- src/lib.rt:53:5
 loop-again : tie.Need-loop-again Inv-loop μ-loop
 loop-again c =
     let a = c .before .before .before .before .before .before .before .before .args in
@@ -65,11 +55,9 @@ loop-again c =
     let l = c .before .before .before .before .before .loop in
     (omega arith, one-forgotten (a .versions .now) (a .start .0) (a .beside .below) (a .beside .next) p (l .versions) (l .i) (l .inv .1) (c .before .before .before .before .loop-test .taken) (c .before .before .forget-item .ensures))
 
--- src/lib.rt:41:1
 same-length : tie.Need-same-length Inv-loop μ-loop
 same-length c = size (c .before) ∙ sym (c .before .before .before .before .pre .tidy .size)
 
--- src/lib.rt:41:1
 returns-2 : tie.Need-returns-2 Inv-loop μ-loop
 returns-2 c =
     let a = c .before .before .before .before .args in
