@@ -3,8 +3,12 @@ use Rattle.rewrites.proofs.commit_all.Statement.{statement}
 use Rattle.rewrites.proofs.commit_all.Tie as tie
 use Prim.Native.Nat.{_≤_, _+_, _-_}
 use native.Mathlib.Omega.{arith}
-use mathlib.Core.Path.{sym, _∙_}
+use mathlib.Core.Path.{_≡_, sym, _∙_}
+use lib.ListN.{length}
 use Rattle.names.specs.Sizes.{base}
+use Rattle.rules.specs.Words.{row}
+use Rattle.rules.specs.Tables.{versionRow, versionWords}
+use Rattle.packing.specs.Changed.{Frontable}
 use Rattle.rewrites.proofs.Committed.{Committed, none-committed, committed-size, next-frontable, one-committed, all-committed}
 
 abbrev Inv-loop : tie.InvT-loop
@@ -12,6 +16,18 @@ Inv-loop versions₀ locks below owner stamp i₀ versions i = (i ≤ base .item
 
 abbrev μ-loop : tie.MeasureT-loop
 μ-loop versions₀ locks below owner stamp i₀ versions i = base .items - i
+
+-- in the loop: the table is whole, and the next row has room for a version in front
+size : (c : tie.At-loop Inv-loop μ-loop) → length (c .loop .versions) ≡ versionWords base
+size c =
+    let a = c .before .before .before .before .args in
+    committed-size (a .versions .now) (a .locks .now) (a .slot .0) (a .stamp .0) (a .below) (c .before .before .before .before .pre) (c .loop .versions) (c .loop .i) (c .loop .inv .1) (c .loop .inv .0)
+
+frontable : (c : tie.In-loop Inv-loop μ-loop) → Frontable (row (versionRow base) (c .before .loop .i) (c .before .loop .versions)) (c .before .before .before .before .before .args .below)
+frontable c =
+    let a = c .before .before .before .before .before .args in
+    let l = c .before .loop in
+    next-frontable (a .versions .now) (a .locks .now) (a .slot .0) (a .stamp .0) (a .below) (c .before .before .before .before .before .pre) (l .versions) (l .i) (l .inv .1) (c .loop-test .taken)
 
 add-owner : tie.Need-add-owner Inv-loop μ-loop
 add-owner c = omega arith
@@ -47,15 +63,8 @@ shared-slice-read-commit-item c = omega arith
 
 commit-item-requires : tie.Need-commit-item-requires Inv-loop μ-loop
 commit-item-requires c κs =
-    let a = c .before .before .before .before .before .before .before .before .args in
-    let p = c .before .before .before .before .before .before .before .before .pre in
-    let l = c .before .before .before .before .loop in
-    let h = c .before .before .before .loop-test .taken in
-    let v = a .versions .now in (
-      committed-size v (a .locks .now) (a .slot .0) (a .stamp .0) (a .below) p (l .versions) (l .i) (l .inv .1) (l .inv .0),
-      h,
-      next-frontable v (a .locks .now) (a .slot .0) (a .stamp .0) (a .below) p (l .versions) (l .i) (l .inv .1) h,
-    )
+    let in-loop = c .before .before .before in
+    (size (in-loop .before), in-loop .loop-test .taken, frontable in-loop)
 
 add-i : tie.Need-add-i Inv-loop μ-loop
 add-i c = omega arith
@@ -71,11 +80,7 @@ loop-again c =
     (omega arith, one-committed (a .versions .now) (a .locks .now) (a .slot .0) (a .stamp .0) (a .below) p (l .versions) (l .i) (l .inv .1) (c .before .before .before .before .before .before .loop-test .taken) (c .before .before .commit-item .ensures))
 
 same-length : tie.Need-same-length Inv-loop μ-loop
-same-length c =
-    let a = c .before .before .before .before .before .args in
-    let p = c .before .before .before .before .before .pre in
-    let l = c .before .loop in
-    committed-size (a .versions .now) (a .locks .now) (a .slot .0) (a .stamp .0) (a .below) p (l .versions) (l .i) (l .inv .1) (l .inv .0) ∙ sym (p .tidy .size)
+same-length c = size (c .before) ∙ sym (c .before .before .before .before .before .pre .tidy .size)
 
 returns : tie.Need-returns Inv-loop μ-loop
 returns c =

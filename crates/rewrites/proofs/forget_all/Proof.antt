@@ -1,12 +1,16 @@
 -- What the one who left has read alone is gone from the rows passed.
 use Rattle.rewrites.proofs.forget_all.Statement.{statement}
 use Rattle.rewrites.proofs.forget_all.Tie as tie
-use Prim.Native.Nat.{_≤_, _-_}
+use Prim.Native.Nat.{ℕ, _≤_, _<_, _-_}
 use mathlib.Core.Path.{_≡_, sym, _∙_}
+use mathlib.Core.List.{List}
 use native.Mathlib.Omega.{arith}
 use lib.ListN.{length}
 use Rattle.names.specs.Sizes.{base}
-use Rattle.rules.specs.Tables.{versionWords}
+use Rattle.rules.specs.Words.{row}
+use Rattle.rules.specs.Tables.{versionRow, versionWords}
+use Rattle.rules.specs.Versions.{versionsIn, place}
+use Rattle.packing.specs.Changed.{TidyRow}
 use Rattle.rewrites.proofs.Forgotten.{Forgotten, none-forgotten, forgotten-size, next-tidy, next-found, one-forgotten, all-forgotten, none-goes}
 
 abbrev Inv-loop : tie.InvT-loop
@@ -15,12 +19,26 @@ Inv-loop versions₀ start below next i₀ versions i = (i ≤ base .items) × F
 abbrev μ-loop : tie.MeasureT-loop
 μ-loop versions₀ start below next i₀ versions i = base .items - i
 
--- at the head of the loop the table is whole
+-- in the loop: the table is whole, the next row is as it was, and one row more is as it is to be
 size : (c : tie.At-loop Inv-loop μ-loop) → length (c .loop .versions) ≡ versionWords base
 size c =
     let a = c .before .before .before .args in
-    let l = c .loop in
-    forgotten-size (a .versions .now) (a .start .0) (a .beside .below) (a .beside .next) (c .before .before .before .pre) (l .versions) (l .i) (l .inv .1) (l .inv .0)
+    forgotten-size (a .versions .now) (a .start .0) (a .beside .below) (a .beside .next) (c .before .before .before .pre) (c .loop .versions) (c .loop .i) (c .loop .inv .1) (c .loop .inv .0)
+
+abbrev next-row : tie.In-loop Inv-loop μ-loop → List ℕ
+next-row c = row (versionRow base) (c .before .loop .i) (c .before .loop .versions)
+
+tidy : (c : tie.In-loop Inv-loop μ-loop) → TidyRow (next-row c)
+tidy c =
+    let a = c .before .before .before .before .args in
+    let l = c .before .loop in
+    next-tidy (a .versions .now) (a .start .0) (a .beside .below) (a .beside .next) (c .before .before .before .before .pre) (l .versions) (l .i) (l .inv .1) (c .loop-test .taken)
+
+found : (c : tie.In-loop Inv-loop μ-loop) → place (c .before .before .before .before .args .start .0) (versionsIn (next-row c)) < length (versionsIn (next-row c))
+found c =
+    let a = c .before .before .before .before .args in
+    let l = c .before .loop in
+    next-found (a .versions .now) (a .start .0) (a .beside .below) (a .beside .next) (c .before .before .before .before .pre) (l .versions) (l .i) (l .inv .1) (c .loop-test .taken)
 
 returns : tie.Need-returns Inv-loop μ-loop
 returns c =
@@ -31,16 +49,7 @@ loop-holds : tie.Need-loop-holds Inv-loop μ-loop
 loop-holds c = (omega arith, none-forgotten _ _ _ _)
 
 forget-item-requires : tie.Need-forget-item-requires Inv-loop μ-loop
-forget-item-requires c κs =
-    let a = c .before .before .before .before .before .args in
-    let p = c .before .before .before .before .before .pre in
-    let l = c .before .before .loop in
-    let h = c .before .loop-test .taken in (
-      size (c .before .before),
-      h,
-      next-tidy (a .versions .now) (a .start .0) (a .beside .below) (a .beside .next) p (l .versions) (l .i) (l .inv .1) h,
-      next-found (a .versions .now) (a .start .0) (a .beside .below) (a .beside .next) p (l .versions) (l .i) (l .inv .1) h,
-    )
+forget-item-requires c κs = (size (c .before .before), c .before .loop-test .taken, tidy (c .before), found (c .before))
 
 add-i : tie.Need-add-i Inv-loop μ-loop
 add-i c = omega arith
