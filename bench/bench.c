@@ -3,7 +3,8 @@
  * An abort of transaction 0 pays the test of all tables alone; every other call pays it too. Each
  * call is timed on fresh tables, and on full ones: 15 live queries, and an item row with 16
  * versions for each item that was written between their begins (all 64). Then the test and a write
- * are timed where two updates hold 32 items each. */
+ * are timed where two updates hold 32 items each, and then the calls that rewrite rows: the end of
+ * a query, and the commit of an update with 32 items. */
 #define _POSIX_C_SOURCE 199309L
 #include "keeper.h"
 
@@ -14,6 +15,8 @@
 
 #define RUNS 7
 #define CALLS 20000
+#define SHORT_RUNS 200
+#define SHORT_CALLS 200
 
 static uint64_t txns[KEEPER_TXN_WORDS];
 static uint64_t locks[KEEPER_LOCK_WORDS];
@@ -139,7 +142,8 @@ static void measure_full_jobs(void)
     printf("  %-34s %8.0f ns\n", "write of a further item, refused", further);
 }
 
-/* The commit of this transaction on the tables as they are, which are put back after each. */
+/* The commit of this transaction on the tables as they are, which are put back after each: the
+ * best of many short runs, as the twin's program times it. */
 static void measure_commit(const char *what, uint64_t number)
 {
     static uint64_t t[KEEPER_TXN_WORDS], l[KEEPER_LOCK_WORDS], v[KEEPER_VERSION_WORDS];
@@ -147,45 +151,45 @@ static void measure_commit(const char *what, uint64_t number)
     memcpy(l, locks, sizeof l);
     memcpy(v, versions, sizeof v);
     double best = 1e18;
-    for (int run = 0; run < RUNS; run++) {
+    for (int run = 0; run < SHORT_RUNS; run++) {
         double sum = 0;
-        for (int i = 0; i < CALLS; i++) {
-            memcpy(txns, t, sizeof t);
-            memcpy(locks, l, sizeof l);
-            memcpy(versions, v, sizeof v);
+        for (int i = 0; i < SHORT_CALLS; i++) {
             double t0 = now();
             struct keeper_answer a = keeper_commit(TABLES, number);
             double t1 = now();
             granted(a);
             sum += t1 - t0;
+            memcpy(txns, t, sizeof t);
+            memcpy(locks, l, sizeof l);
+            memcpy(versions, v, sizeof v);
         }
-        best = better(best, sum);
+        if (sum / SHORT_CALLS < best)
+            best = sum / SHORT_CALLS;
     }
-    memcpy(txns, t, sizeof t);
-    memcpy(locks, l, sizeof l);
-    memcpy(versions, v, sizeof v);
-    printf("  %-34s %8.0f ns\n", what, best);
+    printf("  %-36s %6.0f ns\n", what, best);
 }
 
-/* Ends and commits that rewrite rows. The queries are those of fill(), numbered in steps of 3. */
+/* Ends of queries and commits of full jobs, which rewrite rows. */
 static void measure_rows(void)
 {
+    /* in each round of fill() a query takes a number, and so does an update for each part of the items */
+    const uint64_t round = 1 + KEEPER_ITEMS / KEEPER_QUOTA;
     printf("rows rewritten\n");
     keeper_fresh(TABLES);
-    measure_commit("commit of 32 items, one version", full_job(0, 1));
+    measure_commit("commit of a full job, one version", full_job(0, 1));
     keeper_fresh(TABLES);
     fill();
     uint64_t n = granted(keeper_begin_query(TABLES)).number;
     measure_commit("query's end, no version goes", n);
     granted(keeper_commit(TABLES, n));
-    measure_commit("query's end, one of each row goes", 1 + 3 * (KEEPER_SLOTS / 2));
-    measure_commit("commit of 32 items, full rows", full_job(0, 1));
-    /* the first to read by 15 starts: 15 versions become 16 */
+    measure_commit("query's end, one of each row goes", 1 + round * (KEEPER_SLOTS / 2));
+    measure_commit("commit of a full job, full rows", full_job(0, 1));
+    /* a version of each row goes, and the newest is read: the rows have room for one more, and get it */
     keeper_fresh(TABLES);
     fill();
     granted(keeper_commit(TABLES, 1));
     granted(keeper_begin_query(TABLES));
-    measure_commit("commit of 32 items, rows get full", full_job(0, 1));
+    measure_commit("commit of a full job, rows get full", full_job(0, 1));
 }
 
 int main(void)

@@ -3,7 +3,7 @@ use Prim.Native.Nat.{ℕ, zero, suc, _+_, _-_, _*_, _≤_, _<_}
 use mathlib.Core.Path.{_≡_, refl, sym, ap, _∙_, subst}
 use mathlib.Core.Logic.{_⊎_, inl, inr, ⊎-elim}
 use mathlib.Core.Bool.{Bool, true, false}
-use mathlib.Core.List.{List, _∷_, _++_}
+use mathlib.Core.List.{List, _∷_}
 use native.Mathlib.Omega.{arith}
 use native.Mathlib.Nat.{eq-or-lt-of-le}
 use lib.ListN.{length, getD, set, take, drop, length-set, length-append, length-drop, List·getD-append}
@@ -139,64 +139,58 @@ module _ (r : List ℕ) (t : TidyRow r) (k : ℕ) (inside : k < countIn r) where
       ∙ ap (λ (i : ℕ). getD vs i noVersion) (let e : suc k + (j - k) ≡ suc j = omega arith in e)
 
   module _ (m : List ℕ) (u : MovedUp r m (k * 2 + 1) (countIn r * 2 - 1)) where
-    abbrev cleared : List ℕ
-    cleared = set (set m last 0) (last + 1) 0
+    abbrev counted : List ℕ
+    counted = set m 0 (countIn r - 1)
 
     abbrev out : List ℕ
-    out = set cleared 0 (countIn r - 1)
+    out = set (set counted last 0) (last + 1) 0
 
-    long : length m ≡ versionRow base
-    long = u .size ∙ t .size
-
-    length-cleared : length cleared ≡ versionRow base
-    length-cleared = length-set (set m last 0) (last + 1) 0 ∙ length-set m last 0 ∙ long
+    long : length counted ≡ versionRow base
+    long = length-set m 0 (countIn r - 1) ∙ u .size ∙ t .size
 
     -- a word before the last pair, and one behind it
-    kept : (i : ℕ) → 0 < i → (i < last) ⊎ (last + 1 < i) → getD out i 0 ≡ getD m i 0
-    kept i z h =
-        getD-set-other cleared 0 i (countIn r - 1) 0 (λ e. omega arith)
-        ∙ getD-set-other (set m last 0) (last + 1) i 0 0 (λ e. ⊎-elim (λ y. omega arith) (λ y. omega arith) h)
-        ∙ getD-set-other m last i 0 0 (λ e. ⊎-elim (λ y. omega arith) (λ y. omega arith) h)
+    kept : (i : ℕ) → (i < last) ⊎ (last + 1 < i) → getD out i 0 ≡ getD counted i 0
+    kept i h =
+        getD-set-other (set counted last 0) (last + 1) i 0 0 (λ e. ⊎-elim (λ y. omega arith) (λ y. omega arith) h)
+        ∙ getD-set-other counted last i 0 0 (λ e. ⊎-elim (λ y. omega arith) (λ y. omega arith) h)
 
-    pub gap-closed : set (set (set m (countIn r * 2 - 1) 0) (countIn r * 2 - 1 + 1) 0) 0 (countIn r - 1) ≡ rowOf base (without k (versionsIn r))
+    word : (i : ℕ) → 0 < i → (i < last) ⊎ (last + 1 < i) → getD out i 0 ≡ getD m i 0
+    word i z h = kept i h ∙ getD-set-other m 0 i (countIn r - 1) 0 (λ e. omega arith)
+
+    pub gap-closed : set (set (set m 0 (countIn r - 1)) (countIn r * 2 - 1) 0) (countIn r * 2 - 1 + 1) 0 ≡ rowOf base (without k (versionsIn r))
     gap-closed =
         let n = length-without in
         let most = t .sound .most in
-        row-is out (without k vs) (length-set cleared 0 (countIn r - 1) ∙ length-cleared)
-        (getD-set-same cleared 0 (countIn r - 1) 0 (let e = length-cleared in omega arith) ∙ sym n)
+        row-is out (without k vs) (length-set (set counted last 0) (last + 1) 0 ∙ length-set counted last 0 ∙ long)
+        (kept 0 (inl (omega arith)) ∙ getD-set-same m 0 (countIn r - 1) 0 (let e = u .size in let f = t .size in omega arith) ∙ sym n)
         (omega arith)
         (λ j h. pair j (omega arith) (ltb j k) refl)
         (λ i h. unused i (eq-or-lt-of-le (let e : last ≤ i = omega arith in e)))
       where
-        word : (i : ℕ) → 0 < i → i < last → getD out i 0 ≡ getD m i 0
-        word i z h = kept i z (inl h)
-
         pair : (j : ℕ) → j < countIn r - 1 → (b : Bool) → ltb j k ≡ b → pairAt out j ≡ getD (without k vs) j noVersion
         pair j h true e =
             let l = ltb-true j k e in
             pair-words out r j j
-            (word (j * 2 + 1) (omega arith) (omega arith) ∙ u .before (j * 2 + 1) (omega arith))
-            (word (j * 2 + 2) (omega arith) (omega arith) ∙ u .before (j * 2 + 2) (omega arith))
+            (word (j * 2 + 1) (omega arith) (inl (omega arith)) ∙ u .before (j * 2 + 1) (omega arith))
+            (word (j * 2 + 2) (omega arith) (inl (omega arith)) ∙ u .before (j * 2 + 2) (omega arith))
             ∙ sym (version-in r j (omega arith))
             ∙ sym (without-before j l)
         pair j h false e =
             let l = ltb-false j k e in
             pair-words out r j (suc j)
-            (word (j * 2 + 1) (omega arith) (omega arith) ∙ u .moved (j * 2 + 1) (omega arith) (omega arith) ∙ ap (λ (i : ℕ). getD r i 0) (let z : j * 2 + 1 + 2 ≡ suc j * 2 + 1 = omega arith in z))
-            (word (j * 2 + 2) (omega arith) (omega arith) ∙ u .moved (j * 2 + 2) (omega arith) (omega arith) ∙ ap (λ (i : ℕ). getD r i 0) (let z : j * 2 + 2 + 2 ≡ suc j * 2 + 2 = omega arith in z))
+            (word (j * 2 + 1) (omega arith) (inl (omega arith)) ∙ u .moved (j * 2 + 1) (omega arith) (omega arith) ∙ ap (λ (i : ℕ). getD r i 0) (let z : j * 2 + 1 + 2 ≡ suc j * 2 + 1 = omega arith in z))
+            (word (j * 2 + 2) (omega arith) (inl (omega arith)) ∙ u .moved (j * 2 + 2) (omega arith) (omega arith) ∙ ap (λ (i : ℕ). getD r i 0) (let z : j * 2 + 2 + 2 ≡ suc j * 2 + 2 = omega arith in z))
             ∙ sym (version-in r (suc j) (omega arith))
             ∙ sym (without-behind j l)
 
         unused : (i : ℕ) → (last ≡ i) ⊎ (last < i) → getD out i 0 ≡ 0
         unused i (inl e) =
             subst (λ (i : ℕ). getD out i 0 ≡ 0) e
-            (getD-set-other cleared 0 last (countIn r - 1) 0 (λ z. omega arith)
-            ∙ getD-set-other (set m last 0) (last + 1) last 0 0 (λ z. omega arith)
-            ∙ getD-set-same m last 0 0 (let a = long in let b = t .sound .most in omega arith))
+            (getD-set-other (set counted last 0) (last + 1) last 0 0 (λ z. omega arith)
+            ∙ getD-set-same counted last 0 0 (let a = long in let b = t .sound .most in omega arith))
         unused i (inr l) =
             ⊎-elim
             (λ (e : last + 1 ≡ i). subst (λ (i : ℕ). getD out i 0 ≡ 0) e
-            (getD-set-other cleared 0 (last + 1) (countIn r - 1) 0 (λ z. omega arith)
-            ∙ getD-set-same (set m last 0) (last + 1) 0 0 (let a = length-set m last 0 in let b = long in let d = t .sound .most in omega arith)))
-            (λ (e : last + 1 < i). kept i (omega arith) (inr e) ∙ u .behind i (omega arith) ∙ t .unused i (omega arith))
+            (getD-set-same (set counted last 0) (last + 1) 0 0 (let a = length-set counted last 0 in let b = long in let d = t .sound .most in omega arith)))
+            (λ (e : last + 1 < i). word i (omega arith) (inr e) ∙ u .behind i (omega arith) ∙ t .unused i (omega arith))
             (eq-or-lt-of-le (let z : last + 1 ≤ i = omega arith in z))

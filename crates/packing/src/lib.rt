@@ -65,9 +65,9 @@ fn close_gap(row: &mut [u64], k: usize)
     let count = row[VERSION_COUNT_AT];
     let last = (count as usize) * VERSION_PAIR - 1;
     move_up(row, k * VERSION_PAIR + VERSION_STAMP_AT, last);
+    row[VERSION_COUNT_AT] = count - 1;
     row[last] = 0;
     row[last + 1] = 0;
-    row[VERSION_COUNT_AT] = count - 1;
 }
 
 // One who read by this start has left: takes out the version that it read, unless that is the

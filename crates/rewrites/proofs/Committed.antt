@@ -1,6 +1,6 @@
 -- An update commits: the rows passed have the new versions and what the starts ask for, the others are as they were.
 use Prim.Native.Nat.{ℕ, _+_, _*_, _<_, _≤_}
-use mathlib.Core.Path.{_≡_, refl, sym, ap, _∙_, subst}
+use mathlib.Core.Path.{_≡_, sym, ap, _∙_, subst}
 use mathlib.Core.Bool.{Bool, true, false, cond}
 use mathlib.Core.List.{List, _∷_}
 use native.Mathlib.Omega.{arith}
@@ -18,7 +18,7 @@ use Rattle.rules.proofs.Trim.{kept-fixed}
 use Rattle.packing.specs.Changed.{TidyRow, Frontable, fronted}
 use Rattle.packing.proofs.Words.{row-same}
 use Rattle.rewrites.specs.Written.{withRow, claimed, Reading, Committable}
-use Rattle.rewrites.proofs.Table.{newRow, soFar, none-yet, all-done, length-soFar, row-soFar, one-more, row-back}
+use Rattle.rewrites.proofs.Table.{soFar, none-yet, all-done, length-soFar, row-soFar, one-more, row-back}
 use Rattle.rewrites.proofs.Kept.{front-kept, front-room, claimed-is}
 
 -- the rows of cur below i

@@ -1,17 +1,26 @@
 -- One who read by s leaves: the rows passed have what the starts that stay ask for, the others are as they were.
 use Prim.Native.Nat.{ℕ, _+_, _<_, _≤_}
 use mathlib.Core.Path.{_≡_, sym, ap, _∙_, subst}
-use mathlib.Core.List.{List}
+use mathlib.Core.Logic.{_⊎_, inl, inr}
+use mathlib.Core.Bool.{_||_}
+use mathlib.Core.List.{List, List·Memᴰ}
 use native.Mathlib.Omega.{arith}
 use lib.ListN.{length}
+use lib.Dec.{T, eqb}
 use Rattle.names.specs.Sizes.{base}
 use Rattle.rules.specs.Words.{row}
 use Rattle.rules.specs.Tables.{versionRow, versionWords}
-use Rattle.rules.specs.Versions.{Version, versionsIn, versionsOf, place, rowOf, kept, rewritten}
+use Rattle.rules.specs.Versions.{Version, versionsIn, versionsOf, place, readBySome, rowOf, kept, rewritten}
+use Rattle.rules.proofs.Tests.{or-left, or-right, is-true, eq-make}
+use Rattle.rules.proofs.Counts.{some-mem}
 use Rattle.rules.proofs.Choice.{Falls}
+use Rattle.rules.proofs.Reading.{place-is}
+use Rattle.rules.proofs.Leaving.{reader-leaves}
+use Rattle.starts.specs.Ordered.{guard}
 use Rattle.packing.specs.Changed.{TidyRow, leftBy}
+use Rattle.packing.proofs.Words.{row-same}
 use Rattle.rewrites.specs.Written.{withRow, Staying, Leavable}
-use Rattle.rewrites.proofs.Table.{soFar, none-yet, all-done, length-soFar, row-soFar, one-more}
+use Rattle.rewrites.proofs.Table.{soFar, none-yet, all-done, length-soFar, row-soFar, one-more, rows-same}
 use Rattle.rewrites.proofs.Kept.{left-kept}
 
 abbrev same : ℕ → List Version → List Version
@@ -60,3 +69,31 @@ module _ (v : List ℕ) (s below next : ℕ) (p : Leavable v s below next) (cur 
         e
         ∙ ap (λ (vs : List Version). withRow i (rowOf base vs) cur) (one-kept qs k)
         ∙ one-more qs same v (k .few) (p .tidy .size) i inside cur (f qs k)
+
+-- ---- another reads by the same start, or every version is as old: nothing goes
+module _ (v : List ℕ) (s below next : ℕ) (p : Leavable v s below next) (equal : next ≡ s) (qs : List ℕ) (k : Staying v qs s below next) where
+  module _ (x : ℕ) (inside : x < base .items) where
+    abbrev vs : List Version
+    vs = versionsOf base v x
+
+    read : (next ≡ guard) ⊎ (List·Memᴰ next qs × (s ≤ next)) → T (eqb (place s (versionsOf base v x)) 0 || readBySome qs (versionsOf base v x) (place s (versionsOf base v x)))
+    unfolding readBySome
+    read (inl e) =
+        let l = p .low x inside in
+        let m = p .found x inside in
+        or-left (eqb (place s vs) 0) (readBySome qs vs (place s vs))
+        (eq-make (place s vs) 0 (place-is s vs 0 (omega arith) (omega arith) (λ i a. absurd (omega arith))))
+    read (inr e) =
+        or-right (eqb (place s vs) 0) (readBySome qs vs (place s vs))
+        (some-mem (λ q. eqb (place q vs) (place s vs)) (e .0) (eq-make (place next vs) (place s vs) (ap (λ (q : ℕ). place q vs) equal)))
+
+    row-stays : rowOf base (kept qs (versionsIn (row (versionRow base) x v))) ≡ row (versionRow base) x v
+    unfolding versionsOf
+    row-stays =
+        ap (rowOf base) (reader-leaves s qs vs (λ j a b. k .read x j inside a b) ∙ rw (is-true (eqb (place s vs) 0 || readBySome qs vs (place s vs)) (read (k .beside .next-is))))
+        ∙ sym (row-same (row (versionRow base) x v) (p .tidy .rows x inside))
+
+  pub none-goes : v ≡ rewritten base qs (λ x vs. vs) v
+  none-goes =
+      sym (rows-same qs same v (k .few) (p .tidy .size) row-stays (base .items) (omega arith))
+      ∙ all-done qs same v

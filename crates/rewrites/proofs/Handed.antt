@@ -1,5 +1,5 @@
 -- What the functions ask for, good tables have.
-use Prim.Native.Nat.{ℕ, _<_, _≤_}
+use Prim.Native.Nat.{ℕ, _<_}
 use mathlib.Core.Path.{_≡_, refl, sym, ap, _∙_, subst}
 use mathlib.Core.Logic.{_≢_, _⊎_, inl, inr}
 use mathlib.Core.List.{List}
@@ -9,18 +9,16 @@ use lib.Dec.{T, eqb}
 use Rattle.names.specs.Sizes.{base}
 use Rattle.rules.specs.Words.{row}
 use Rattle.rules.specs.Tables.{Tables, Txn, versionRow, clock, txn, setTxn, noTxn, liveQuery, starts}
-use Rattle.rules.specs.Versions.{versionsOf, stampAt, place, readBySome}
+use Rattle.rules.specs.Versions.{versionsOf, place, readBySome}
 use Rattle.rules.specs.Good.{Good, GoodVersions}
 use Rattle.rules.proofs.Tests.{same?, eq-make}
 use Rattle.rules.proofs.Counts.{some-mem}
 use Rattle.rules.proofs.Starts.{start-in}
 use Rattle.rules.proofs.Ends.{gone-there, gone-room}
 use Rattle.rules.proofs.EqualVersions.{Good→read}
-use Rattle.starts.specs.Ordered.{guard}
 use Rattle.starts.specs.Beside.{Beside}
 use Rattle.choices.proofs.Lent.{length-row}
 use Rattle.choices.proofs.Handed.{good-sound, good-found}
-use Rattle.packing.specs.Changed.{TidyRow}
 use Rattle.rewrites.specs.Written.{TidyTable, Staying, Leavable, Reading, Committable}
 
 module _ (G : Tables) (g : Good base G) where

@@ -1,33 +1,29 @@
 -- What the row writer leaves of a row is what the rules keep of it.
 use Prim.Native.Nat.{ℕ, zero, suc, _+_, _-_, _*_, _≤_, _<_}
-use mathlib.Core.Path.{_≡_, refl, sym, ap, ap₂, _∙_, subst, fun-ext}
+use mathlib.Core.Path.{_≡_, refl, sym, ap, _∙_, subst, fun-ext}
 use mathlib.Core.Logic.{_⊎_}
-use mathlib.Core.Bool.{Bool, true, false, _||_, cond}
+use mathlib.Core.Bool.{Bool, _||_, cond}
 use mathlib.Core.List.{List, _∷_}
 use native.Mathlib.Omega.{arith}
 use native.Mathlib.Numerals.{add-one}
 use lib.ListN.{getD, length, drop}
-use lib.Dec.{T, eqb, ltb}
+use lib.Dec.{T, eqb}
 use borrow.Author.Tests.{lt-ltb, ne-eqb}
 use Rattle.names.specs.Sizes.{base}
 use Rattle.names.specs.Layout.{lockExclusiveAt, lockWorkingAt}
-use Rattle.rules.specs.Words.{row}
-use Rattle.rules.specs.Tables.{versionRow, lockRow, lock, holdsExclusive}
-use Rattle.rules.specs.Versions.{Version, versionsIn, versionsOf, stampAt, place, readBySome, rowOf, kept}
+use Rattle.rules.specs.Tables.{lockRow, lock, holdsExclusive}
+use Rattle.rules.specs.Versions.{Version, stampAt, place, readBySome, kept}
 use Rattle.rules.specs.Step.{withNew}
 use Rattle.rules.specs.Tested.{allRead}
-use Rattle.rules.proofs.Choice.{Falls, length-versionsIn, place-fits, place-above}
-use Rattle.rules.proofs.Trim.{kept-fixed, length-kept}
-use Rattle.rules.proofs.Reading.{within, read-between}
+use Rattle.rules.proofs.Choice.{Falls, place-fits, place-above}
+use Rattle.rules.proofs.Trim.{length-kept}
+use Rattle.rules.proofs.Reading.{read-between}
 use Rattle.rules.proofs.Leaving.{reader-leaves, new-comes}
-use Rattle.choices.specs.Pairs.{countIn}
 use Rattle.starts.specs.Ordered.{guard}
 use Rattle.starts.specs.Beside.{Beside}
 use Rattle.starts.proofs.Tells.{within-below, within-both}
-use Rattle.packing.specs.Changed.{TidyRow, Frontable, fronted, needed, without, leftBy}
-use Rattle.packing.proofs.Words.{row-same}
-use Rattle.rewrites.specs.Written.{withRow, claimed, Staying, Reading}
-use Rattle.rewrites.proofs.Table.{row-back, newRow}
+use Rattle.packing.specs.Changed.{fronted, needed, without, leftBy}
+use Rattle.rewrites.specs.Written.{claimed}
 
 -- ---- one leaves: by its neighbours one knows whether another reads the version that it read
 module _ (qs : List ℕ) (s below next : ℕ) (b : Beside qs s below next) (vs : List Version) (fall : Falls vs) (low : stampAt vs 0 ≤ guard) (found : place s vs < length vs) where

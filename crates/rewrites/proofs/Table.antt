@@ -100,3 +100,15 @@ module _ (qs : List ℕ) (f : ℕ → List Version → List Version) (v : List �
           ∙ ap (λ (x : ℕ). withRow n (newRow qs f x (row (versionRow base) n v)) (mapRows n (versionRow base) (newRow qs f) 0 v)) (sym (zero-add n))
           ∙ row-more (versionRow base) (newRow qs f) keeps n 0 v (omega arith)
           ∙ ap (λ (m : ℕ). mapRows m (versionRow base) (newRow qs f) 0 v) (sym (add-one n))
+
+    -- where each row has its new words already, nothing changes
+    pub rows-same :
+        ((x : ℕ) → x < base .items → newRow qs f x (row (versionRow base) x v) ≡ row (versionRow base) x v)
+        → (n : ℕ) → n ≤ base .items → soFar qs f v n ≡ v
+    rows-same each zero h = none-yet
+    rows-same each (suc n) h =
+        let is : v ≡ soFar qs f v n = sym (rows-same each n (omega arith)) in
+        ap (soFar qs f v) (sym (add-one n))
+        ∙ sym (one-more n (omega arith) v is)
+        ∙ ap (λ (ws : List ℕ). withRow n ws v) (each n (omega arith))
+        ∙ row-back n v

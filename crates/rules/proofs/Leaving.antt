@@ -1,6 +1,6 @@
 -- What is kept of a row where at most one of its versions lost its readers: when one who read it leaves, and when a new version
 -- comes in front. Assumes nothing.
-use Prim.Native.Nat.{ℕ, zero, suc, _+_, _<_, _≤_}
+use Prim.Native.Nat.{ℕ, zero, suc, _+_, _<_}
 use mathlib.Core.Path.{_≡_, refl, sym, ap, _∙_, subst}
 use mathlib.Core.Logic.{_≢_, _⊎_, inl, inr}
 use mathlib.Core.Bool.{Bool, true, false, _||_, cond}
@@ -10,12 +10,12 @@ use native.Mathlib.Nat.{zero-add}
 use lib.ListN.{length, take, drop}
 use lib.Seq.{take-nil}
 use lib.Dec.{T, eqb}
-use borrow.Author.Tests.{ne-eqb, lt-leb}
+use borrow.Author.Tests.{lt-leb}
 use Rattle.rules.specs.Versions.{Version, stampAt, place, readBySome, keptFrom, kept}
 use Rattle.rules.specs.Tested.{allRead}
 use Rattle.rules.proofs.Tests.{or-right, is-true, true-is, eq-make}
 use Rattle.rules.proofs.Counts.{some-mem}
-use Rattle.rules.proofs.Choice.{Falls, place-miss, place-above}
+use Rattle.rules.proofs.Choice.{place-miss, place-above}
 use Rattle.rules.proofs.Trim.{→allRead, reader, kept-fixed, kept-fixed-from}
 use Rattle.rules.proofs.Reading.{within, read-between}
 

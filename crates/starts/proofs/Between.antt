@@ -7,10 +7,10 @@ use mathlib.Core.Bool.{Bool, _&&_}
 use mathlib.Core.List.{List, List·Memᴰ}
 use native.Mathlib.Omega.{arith}
 use lib.ListN.{getD, length}
-use lib.Dec.{T, leb, ltb, leb→le, le→leb, ltb→lt, lt→ltb}
+use lib.Dec.{T, leb, ltb, ltb→lt}
 use Rattle.rules.specs.Words.{some, someBelow}
 use Rattle.rules.specs.Versions.{Version, stampAt, readBySome}
-use Rattle.rules.proofs.Tests.{iff-eq, and-left, and-right, and-both}
+use Rattle.rules.proofs.Tests.{iff-eq, and-right}
 use Rattle.rules.proofs.Counts.{some-mem, mem-some, someBelow→, →someBelow}
 use Rattle.rules.proofs.Choice.{Falls}
 use Rattle.rules.proofs.Reading.{within, read-between}

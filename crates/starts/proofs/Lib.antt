@@ -1,4 +1,4 @@
--- Laws of the starts in order.
+-- Laws of the starts in order, and of the neighbours of a stamp.
 pub mod Fill
 pub mod Between
 pub mod Tells

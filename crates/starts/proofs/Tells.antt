@@ -1,6 +1,6 @@
 -- The neighbours of a stamp: with one start more, and what they say of the starts between two stamps.
 use Prim.Native.Nat.{ℕ, suc, _≤_, _<_}
-use mathlib.Core.Path.{_≡_, refl, sym, ap, _∙_, subst}
+use mathlib.Core.Path.{_≡_, refl, _∙_}
 use mathlib.Core.Logic.{_⊎_, inl, inr, ⊎-elim}
 use mathlib.Core.Bool.{Bool, true, false, _&&_, _||_}
 use mathlib.Core.List.{List, [], _∷_, _++_}
@@ -8,7 +8,6 @@ use mathlib.Core.List.{List·Memᴰ, List·Memᴰ·head, List·Memᴰ·append-ca
 use native.Mathlib.Omega.{arith}
 use lib.Dec.{T, leb, ltb, leb→le, le→leb, ltb→lt, lt→ltb}
 use borrow.Author.Tests.{ltb-true, ltb-false}
-use Rattle.rules.specs.Words.{some}
 use Rattle.rules.proofs.Tests.{iff-eq, and-left, and-right, and-both, or-cases, or-left, or-right}
 use Rattle.rules.proofs.Counts.{some-mem, mem-some}
 use Rattle.rules.proofs.Reading.{within}

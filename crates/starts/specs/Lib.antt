@@ -1,3 +1,3 @@
--- What the starts in order are proved against.
+-- What the starts in order, and the neighbours of a stamp, are proved against.
 pub mod Ordered
 pub mod Beside

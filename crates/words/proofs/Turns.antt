@@ -1,12 +1,12 @@
 -- Loops that test words: two tests that say the same are equal; one turn more of a loop that tests every number, or looks for
 -- one; a test that fails; an or that is zero.
 use Prim.Native.Nat.{ℕ, _+_, _<_}
-use mathlib.Core.Path.{_≡_, refl, ap, _∙_}
-use mathlib.Core.Bool.{Bool, true, false, _&&_, _||_}
+use mathlib.Core.Path.{_≡_, ap, _∙_}
+use mathlib.Core.Bool.{Bool, false, _&&_, _||_}
 use native.Mathlib.Numerals.{add-one}
 use native.Mathlib.Omega.{arith}
 use lib.Bits.{bitOr, or-zero-l, or-add-and, and-le-r, and-le-l}
-use lib.Dec.{T, eqb, eqb→eq}
+use lib.Dec.{eqb, eqb→eq}
 use Rattle.rules.specs.Words.{everyBelow, someBelow}
 pub use Rattle.rules.proofs.Tests.{iff-eq}
 use Rattle.rules.proofs.Tests.{and-left, and-right, and-both, is-false, false-is, eq-make}

@@ -23,7 +23,7 @@ fn main() {
     measure(&fresh(), spend);
     println!("full rows (64 of 16 versions), 15 queries");
     measure(&full(), spend);
-    println!("rows rewritten, as bench/bench.c does");
+    println!("rows rewritten");
     rows(spend);
 }
 
@@ -85,25 +85,33 @@ fn measure(start: &Keeper, spend: Duration) {
     });
 }
 
-/// Ends and commits that rewrite rows. The queries of `full` have numbers in
-/// steps of 3.
+/// Ends of queries and commits of full jobs, which rewrite rows.
 fn rows(spend: Duration) {
+    // in each round of `full` a query takes a number, and so do the updates
+    let round = 1 + (ITEMS / QUOTA) as u64;
     let mut keeper = Keeper::fresh();
     let number = full_job(&mut keeper);
-    commit("commit of 32 items, one version", spend, &keeper, number);
+    commit("commit of a full job, one version", spend, &keeper, number);
     let mut keeper = full();
     let number = granted(&mut keeper, Call::Query).number;
     commit("query's end, no version goes", spend, &keeper, number);
     granted(&mut keeper, Call::Commit { number });
-    let middle = 1 + 3 * (SLOTS as u64 / 2);
+    let middle = 1 + round * (SLOTS as u64 / 2);
     commit("query's end, one of each row goes", spend, &keeper, middle);
     let number = full_job(&mut keeper);
-    commit("commit of 32 items, full rows", spend, &keeper, number);
+    commit("commit of a full job, full rows", spend, &keeper, number);
+    // a version of each row goes, and the newest is read: the rows have room
+    // for one more, and get it
     let mut keeper = full();
     granted(&mut keeper, Call::Commit { number: 1 });
     granted(&mut keeper, Call::Query);
     let number = full_job(&mut keeper);
-    commit("commit of 32 items, rows get full", spend, &keeper, number);
+    commit(
+        "commit of a full job, rows get full",
+        spend,
+        &keeper,
+        number,
+    );
 }
 
 /// An update that has written as many items as one may.
@@ -116,24 +124,24 @@ fn full_job(keeper: &mut Keeper) -> u64 {
 }
 
 /// The commit of this transaction, each time on the same tables: only the call
-/// itself is timed, with one reading of the clock.
+/// is timed, the mean and the best of short runs.
 fn commit(name: &str, spend: Duration, start: &Keeper, number: u64) {
-    const BATCH: u32 = 1000;
+    const CALLS: u64 = 200;
     let mut keeper = start.clone();
     let begin = Instant::now();
     let (mut sum, mut calls, mut best) = (Duration::ZERO, 0, f64::INFINITY);
     while begin.elapsed() < spend {
-        let mut batch = Duration::ZERO;
-        for _ in 0..BATCH {
-            keeper.clone_from(start);
+        let mut run = Duration::ZERO;
+        for _ in 0..CALLS {
             let call = Instant::now();
             let answer = keeper.call(Call::Commit { number });
-            batch += call.elapsed();
+            run += call.elapsed();
             assert_eq!(answer.code, code::GRANTED);
+            keeper.clone_from(start);
         }
-        best = best.min(per_call(batch, BATCH as u64));
-        sum += batch;
-        calls += BATCH as u64;
+        best = best.min(per_call(run, CALLS));
+        sum += run;
+        calls += CALLS;
     }
     report(name, per_call(sum, calls), best);
 }

@@ -1,79 +1,57 @@
--- The words behind the version move up, the last pair is cleared, and one version less is counted.
+-- The words behind the version move up, one version less is counted, and the last pair is cleared.
 use borrow.Author.Needs.{needs}
 use Rattle.packing.proofs.close_gap.Statement.{statement}
 use Rattle.packing.proofs.close_gap.Tie as tie
-use Rattle.packing.proofs.close_gap.Reads as reads
-use Rattle.packing.proofs.close_gap.Lts as lts
-use Rattle.packing.proofs.move_up.Reads as move-up-reads
 use native.Mathlib.Omega.{arith}
-use lib.ListN.{set, length-set}
+use lib.ListN.{length-set}
 use Rattle.packing.proofs.Words.{gap-closed}
-use Prim.Native.Nat.{_+_, _-_, _*_}
-use Rattle.choices.specs.Pairs.{countIn}
 
--- src/lib.rt:64:17
 slice-read-count : tie.Need-slice-read-count
 slice-read-count c = search needs
 
--- src/lib.rt:65:16
 mul-last : tie.Need-mul-last
 mul-last c = search needs
 
--- src/lib.rt:65:16
 sub-last : tie.Need-sub-last
 sub-last c = search needs
 
--- src/lib.rt:66:18
 mul-move-up : tie.Need-mul-move-up
 mul-move-up c = search needs
 
--- src/lib.rt:66:18
 add-move-up : tie.Need-add-move-up
 add-move-up c = search needs
 
--- src/lib.rt:66:5
 move-up-requires : tie.Need-move-up-requires
 move-up-requires c κs = search needs
 
--- src/lib.rt:67:5
-mul-row : tie.Need-mul-row
-mul-row c = search needs
+sub-row : tie.Need-sub-row
+sub-row c = search needs
 
--- src/lib.rt:67:5
 slice-write-row : tie.Need-slice-write-row
 slice-write-row c = search needs
 
--- src/lib.rt:68:9
-add-row : tie.Need-add-row
-add-row c = search needs
+mul-row : tie.Need-mul-row
+mul-row c = search needs
 
--- src/lib.rt:68:5
-mul-row-2 : tie.Need-mul-row-2
-mul-row-2 c = search needs
-
--- src/lib.rt:68:5
 slice-write-row-2 : tie.Need-slice-write-row-2
 slice-write-row-2 c =
     let p = c .before .before .before .before .before .before .pre .0 in
     simp length-set (omega (arith, c .before .before .move-up .ensures .size, p .size, p .sound .most))
 
--- src/lib.rt:69:29
-sub-row : tie.Need-sub-row
-sub-row c = search needs
+add-row : tie.Need-add-row
+add-row c = search needs
 
--- src/lib.rt:69:5
+mul-row-2 : tie.Need-mul-row-2
+mul-row-2 c = search needs
+
 slice-write-row-3 : tie.Need-slice-write-row-3
 slice-write-row-3 c =
     let p = c .before .before .before .before .before .before .pre .0 in
-    let m = c .before .before .move-up .last .0 in
-    let last = countIn (c .before .before .before .before .before .before .args .row .now) * 2 - 1 in
-    omega (arith, length-set (set m last 0) (last + 1) 0, length-set m last 0, c .before .before .move-up .ensures .size, p .size)
+    simp length-set (omega (arith, c .before .before .move-up .ensures .size, p .size, p .sound .most))
 
--- src/lib.rt:60:1
 same-length : tie.Need-same-length
 same-length c = search needs
 
--- src/lib.rt:60:1
 returns : tie.Need-returns
 returns c =
     let a = c .before .before .before .before .before .before .args in
@@ -90,12 +68,12 @@ close-gap-spec =
     mul-move-up
     add-move-up
     move-up-requires
-    mul-row
+    sub-row
     slice-write-row
+    mul-row
+    slice-write-row-2
     add-row
     mul-row-2
-    slice-write-row-2
-    sub-row
     slice-write-row-3
     same-length
     returns)

@@ -1,9 +1,6 @@
 -- The words behind the k-th are moved, those before it are as they were.
 use Rattle.packing.proofs.move_back.Statement.{statement}
 use Rattle.packing.proofs.move_back.Tie as tie
-use Rattle.packing.proofs.move_back.Reads as reads
-use Rattle.packing.proofs.move_back.Lts as lts
-use mathlib.Core.Path.{_∙_}
 use native.Mathlib.Omega.{arith}
 use Rattle.packing.proofs.Shifts.{Back, back-begin, back-step, back-end}
 
@@ -13,55 +10,44 @@ Inv-loop row₀ n k₀ row k = Back row₀ row n k
 abbrev μ-loop : tie.MeasureT-loop
 μ-loop row₀ n k₀ row k = k
 
--- src/lib.rt:26:5
 loop-holds : tie.Need-loop-holds Inv-loop μ-loop
 loop-holds c = back-begin _ _
 
--- src/lib.rt:27:33
 mul-row : tie.Need-mul-row Inv-loop μ-loop
 mul-row c = omega arith
 
--- src/lib.rt:27:33
 slice-read-row : tie.Need-slice-read-row Inv-loop μ-loop
 slice-read-row c = omega arith
 
--- src/lib.rt:27:13
 add-row : tie.Need-add-row Inv-loop μ-loop
 add-row c = omega arith
 
--- src/lib.rt:27:9
 mul-row-2 : tie.Need-mul-row-2 Inv-loop μ-loop
 mul-row-2 c = omega arith
 
--- src/lib.rt:27:9
 slice-write-row : tie.Need-slice-write-row Inv-loop μ-loop
 slice-write-row c = omega arith
 
--- src/lib.rt:28:9
 sub-k : tie.Need-sub-k Inv-loop μ-loop
 sub-k c = omega arith
 
--- src/lib.rt:26:5
 loop-less : tie.Need-loop-less Inv-loop μ-loop
 loop-less c = omega arith
 
--- src/lib.rt:26:5
 loop-again : tie.Need-loop-again Inv-loop μ-loop
 loop-again c =
     let a = c .before .before .before .args in
     let l = c .before .before .loop in
-    back-step (a .row .now) (l .row) (a .n) (l .k) (c .before .before .before .pre) (c .before .loop-test .taken) (l .inv)
+    back-step (a .row .now) (l .row) (a .n) (l .k) (c .before .before .before .pre) (omega arith) (l .inv)
 
--- src/lib.rt:21:1
 same-length : tie.Need-same-length Inv-loop μ-loop
 same-length c = omega arith
 
--- src/lib.rt:21:1
 returns : tie.Need-returns Inv-loop μ-loop
 returns c =
     let a = c .before .before .args in
     let l = c .before .loop in
-    back-end (a .row .now) (l .row) (a .n) (l .k) (c .loop-test .left) (l .inv)
+    back-end (a .row .now) (l .row) (a .n) (l .k) (omega arith) (l .inv)
 
 pub move-back-spec : {M : Type 1} → statement M
 move-back-spec =

@@ -1,8 +1,6 @@
 -- The words before the j-th are moved, those from it on are as they were.
 use Rattle.packing.proofs.move_up.Statement.{statement}
 use Rattle.packing.proofs.move_up.Tie as tie
-use Rattle.packing.proofs.move_up.Reads as reads
-use Rattle.packing.proofs.move_up.Lts as lts
 use Prim.Native.Nat.{_-_}
 use native.Mathlib.Omega.{arith}
 use Rattle.packing.proofs.Shifts.{Up, up-begin, up-step, up-end}
@@ -13,50 +11,39 @@ Inv-loop row₀ from to j₀ row j = Up row₀ row from to j
 abbrev μ-loop : tie.MeasureT-loop
 μ-loop row₀ from to j₀ row j = to - j
 
--- src/lib.rt:53:5
 loop-holds : tie.Need-loop-holds Inv-loop μ-loop
 loop-holds c = up-begin _ _ _ (c .pre .0)
 
--- src/lib.rt:54:22
 add-row : tie.Need-add-row Inv-loop μ-loop
 add-row c = omega arith
 
--- src/lib.rt:54:18
 mul-row : tie.Need-mul-row Inv-loop μ-loop
 mul-row c = omega arith
 
--- src/lib.rt:54:18
 slice-read-row : tie.Need-slice-read-row Inv-loop μ-loop
 slice-read-row c = omega arith
 
--- src/lib.rt:54:9
 mul-row-2 : tie.Need-mul-row-2 Inv-loop μ-loop
 mul-row-2 c = omega arith
 
--- src/lib.rt:54:9
 slice-write-row : tie.Need-slice-write-row Inv-loop μ-loop
 slice-write-row c = omega arith
 
--- src/lib.rt:55:9
 add-j : tie.Need-add-j Inv-loop μ-loop
 add-j c = omega arith
 
--- src/lib.rt:53:5
 loop-less : tie.Need-loop-less Inv-loop μ-loop
 loop-less c = omega arith
 
--- src/lib.rt:53:5
 loop-again : tie.Need-loop-again Inv-loop μ-loop
 loop-again c =
     let a = c .before .before .before .args in
     let l = c .before .before .loop in
     up-step (a .row .now) (l .row) (a .from) (a .to) (l .j) (c .before .before .before .pre .1) (c .before .loop-test .taken) (l .inv)
 
--- src/lib.rt:48:1
 same-length : tie.Need-same-length Inv-loop μ-loop
 same-length c = omega arith
 
--- src/lib.rt:48:1
 returns : tie.Need-returns Inv-loop μ-loop
 returns c =
     let a = c .before .before .args in

@@ -2,9 +2,6 @@
 use borrow.Author.Needs.{needs}
 use Rattle.packing.proofs.put_front.Statement.{statement}
 use Rattle.packing.proofs.put_front.Tie as tie
-use Rattle.packing.proofs.put_front.Reads as reads
-use Rattle.packing.proofs.put_front.Lts as lts
-use Rattle.packing.proofs.move_back.Reads as move-back-reads
 use mathlib.Core.Path.{_≡_, sym, ap, _∙_}
 use mathlib.Core.Logic.{⊎-elim}
 use mathlib.Core.Bool.{Bool, cond}
@@ -23,48 +20,38 @@ long c =
     let size = c .before .before .before .pre .tidy .size in
     ⊎-elim (λ w. ap length (w .6) ∙ simp length-set (w .3 .ensures .size ∙ size)) (λ w. ap length (w .1) ∙ size) (c .if1 .came)
 
--- src/lib.rt:39:8
 slice-read-if1 : tie.Need-slice-read-if1
 slice-read-if1 c = search needs
 
--- src/lib.rt:40:21
 slice-read-count : tie.Need-slice-read-count
 slice-read-count c = search needs
 
--- src/lib.rt:41:24
 mul-move-back : tie.Need-mul-move-back
 mul-move-back c = search needs
 
--- src/lib.rt:41:9
 move-back-requires : tie.Need-move-back-requires
 move-back-requires c κs =
     let p = c .before .before .before .before .before .pre in
     let a = c .before .before .before .before .before .args in
     omega (arith, p .room (first-stays (a .row .now) (p .tidy) (a .below) (c .before .before .if1 .taken)), p .tidy .size)
 
--- src/lib.rt:42:33
 add-row : tie.Need-add-row
 add-row c = search needs
 
--- src/lib.rt:42:9
 slice-write-row : tie.Need-slice-write-row
 slice-write-row c = search needs
 
--- src/lib.rt:44:5
 slice-write-row-2 : tie.Need-slice-write-row-2
 slice-write-row-2 c = omega (arith, long c)
 
--- src/lib.rt:45:5
 slice-write-row-3 : tie.Need-slice-write-row-3
 slice-write-row-3 c = omega (arith, long c, length-set (c .if1 .row) 1 (c .before .before .before .args .stamp))
 
--- src/lib.rt:35:1
 same-length : tie.Need-same-length
 same-length c =
     let a = c .before .before .before .args in
     length-set (set (c .if1 .row) 1 (a .stamp)) 2 (a .value) ∙ length-set (c .if1 .row) 1 (a .stamp) ∙ long c ∙ sym (c .before .before .before .pre .tidy .size)
 
--- src/lib.rt:35:1
 returns : tie.Need-returns
 returns c =
     let a = c .before .before .before .args in

@@ -1,13 +1,14 @@
 -- The rows passed are rewritten, with the working value in front where the slot holds the item exclusively.
 use Rattle.rewrites.proofs.commit_all.Statement.{statement}
 use Rattle.rewrites.proofs.commit_all.Tie as tie
-use Rattle.rewrites.proofs.commit_all.Reads as reads
-use Rattle.rewrites.proofs.commit_all.Lts as lts
-use Rattle.rewrites.proofs.commit_item.Reads as commit-item-reads
 use Prim.Native.Nat.{_≤_, _+_, _-_}
 use native.Mathlib.Omega.{arith}
-use mathlib.Core.Path.{sym, _∙_}
+use mathlib.Core.Path.{_≡_, sym, _∙_}
+use lib.ListN.{length}
 use Rattle.names.specs.Sizes.{base}
+use Rattle.rules.specs.Words.{row}
+use Rattle.rules.specs.Tables.{versionRow, versionWords}
+use Rattle.packing.specs.Changed.{Frontable}
 use Rattle.rewrites.proofs.Committed.{Committed, none-committed, committed-size, next-frontable, one-committed, all-committed}
 
 abbrev Inv-loop : tie.InvT-loop
@@ -16,70 +17,61 @@ Inv-loop versions₀ locks below owner stamp i₀ versions i = (i ≤ base .item
 abbrev μ-loop : tie.MeasureT-loop
 μ-loop versions₀ locks below owner stamp i₀ versions i = base .items - i
 
--- src/lib.rt:75:17
+-- in the loop: the table is whole, and the next row has room for a version in front
+size : (c : tie.At-loop Inv-loop μ-loop) → length (c .loop .versions) ≡ versionWords base
+size c =
+    let a = c .before .before .before .before .args in
+    committed-size (a .versions .now) (a .locks .now) (a .slot .0) (a .stamp .0) (a .below) (c .before .before .before .before .pre) (c .loop .versions) (c .loop .i) (c .loop .inv .1) (c .loop .inv .0)
+
+frontable : (c : tie.In-loop Inv-loop μ-loop) → Frontable (row (versionRow base) (c .before .loop .i) (c .before .loop .versions)) (c .before .before .before .before .before .args .below)
+frontable c =
+    let a = c .before .before .before .before .before .args in
+    let l = c .before .loop in
+    next-frontable (a .versions .now) (a .locks .now) (a .slot .0) (a .stamp .0) (a .below) (c .before .before .before .before .before .pre) (l .versions) (l .i) (l .inv .1) (c .loop-test .taken)
+
 add-owner : tie.Need-add-owner Inv-loop μ-loop
 add-owner c = omega arith
 
--- src/lib.rt:78:5
 loop-holds : tie.Need-loop-holds Inv-loop μ-loop
 loop-holds c =
     let a = c .before .before .before .args in
     (omega arith, none-committed (a .versions .now) (a .locks .now) (a .slot .0 + 1) (a .stamp .0) (a .below))
 
--- src/lib.rt:79:25
 mul-new : tie.Need-mul-new Inv-loop μ-loop
 mul-new c = omega arith
 
--- src/lib.rt:79:25
 add-new : tie.Need-add-new Inv-loop μ-loop
 add-new c = omega arith
 
--- src/lib.rt:79:19
 mul-new-2 : tie.Need-mul-new-2 Inv-loop μ-loop
 mul-new-2 c = omega arith
 
--- src/lib.rt:79:19
 shared-slice-read-new : tie.Need-shared-slice-read-new Inv-loop μ-loop
 shared-slice-read-new c = omega arith
 
--- src/lib.rt:86:19
 mul-commit-item : tie.Need-mul-commit-item Inv-loop μ-loop
 mul-commit-item c = omega arith
 
--- src/lib.rt:86:19
 add-commit-item : tie.Need-add-commit-item Inv-loop μ-loop
 add-commit-item c = omega arith
 
--- src/lib.rt:86:13
 mul-commit-item-2 : tie.Need-mul-commit-item-2 Inv-loop μ-loop
 mul-commit-item-2 c = omega arith
 
--- src/lib.rt:86:13
 shared-slice-read-commit-item : tie.Need-shared-slice-read-commit-item Inv-loop μ-loop
 shared-slice-read-commit-item c = omega arith
 
--- src/lib.rt:80:9
 commit-item-requires : tie.Need-commit-item-requires Inv-loop μ-loop
 commit-item-requires c κs =
-    let a = c .before .before .before .before .before .before .before .before .args in
-    let p = c .before .before .before .before .before .before .before .before .pre in
-    let l = c .before .before .before .before .loop in
-    let h = c .before .before .before .loop-test .taken in
-    let v = a .versions .now in (
-      committed-size v (a .locks .now) (a .slot .0) (a .stamp .0) (a .below) p (l .versions) (l .i) (l .inv .1) (l .inv .0),
-      h,
-      next-frontable v (a .locks .now) (a .slot .0) (a .stamp .0) (a .below) p (l .versions) (l .i) (l .inv .1) h,
-    )
+    let in-loop = c .before .before .before in
+    (size (in-loop .before), in-loop .loop-test .taken, frontable in-loop)
 
--- src/lib.rt:88:9
 add-i : tie.Need-add-i Inv-loop μ-loop
 add-i c = omega arith
 
--- src/lib.rt:78:5
 loop-less : tie.Need-loop-less Inv-loop μ-loop
 loop-less c = omega arith
 
--- src/lib.rt:78:5
 loop-again : tie.Need-loop-again Inv-loop μ-loop
 loop-again c =
     let a = c .before .before .before .before .before .before .before .before .before .before .before .args in
@@ -87,15 +79,9 @@ loop-again c =
     let l = c .before .before .before .before .before .before .before .loop in
     (omega arith, one-committed (a .versions .now) (a .locks .now) (a .slot .0) (a .stamp .0) (a .below) p (l .versions) (l .i) (l .inv .1) (c .before .before .before .before .before .before .loop-test .taken) (c .before .before .commit-item .ensures))
 
--- src/lib.rt:71:1
 same-length : tie.Need-same-length Inv-loop μ-loop
-same-length c =
-    let a = c .before .before .before .before .before .args in
-    let p = c .before .before .before .before .before .pre in
-    let l = c .before .loop in
-    committed-size (a .versions .now) (a .locks .now) (a .slot .0) (a .stamp .0) (a .below) p (l .versions) (l .i) (l .inv .1) (l .inv .0) ∙ sym (p .tidy .size)
+same-length c = size (c .before) ∙ sym (c .before .before .before .before .before .pre .tidy .size)
 
--- src/lib.rt:71:1
 returns : tie.Need-returns Inv-loop μ-loop
 returns c =
     let a = c .before .before .before .before .before .args in

@@ -2,10 +2,7 @@
 use borrow.Author.Needs.{needs}
 use Rattle.rewrites.proofs.commit_item.Statement.{statement}
 use Rattle.rewrites.proofs.commit_item.Tie as tie
-use Rattle.rewrites.proofs.commit_item.Reads as reads
-use Rattle.rewrites.proofs.commit_item.Lts as lts
-use Rattle.packing.proofs.put_front.Reads as put-front-reads
-use mathlib.Core.Path.{_≡_, refl, sym, ap, ap₂, _∙_, subst}
+use mathlib.Core.Path.{sym, ap, ap₂, _∙_, subst}
 use Prim.Native.Nat.{ℕ, _*_}
 use mathlib.Core.Bool.{Bool, cond}
 use mathlib.Core.List.{List, _++_}
@@ -18,41 +15,32 @@ use Rattle.packing.specs.Changed.{Frontable, fronted}
 use Rattle.choices.proofs.Lent.{wide, lent}
 use Rattle.rewrites.specs.Written.{withRow}
 
--- src/lib.rt:62:17
 mul-a : tie.Need-mul-a
 mul-a c = search needs
 
--- src/lib.rt:63:17
 add-e : tie.Need-add-e
 add-e c = search needs
 
--- src/lib.rt:64:19
 mul-put-front : tie.Need-mul-put-front
 mul-put-front c = search needs
 
--- src/lib.rt:64:19
 sub-put-front : tie.Need-sub-put-front
 sub-put-front c = search needs
 
--- src/lib.rt:64:19
 part-put-front-start : tie.Need-part-put-front-start
 part-put-front-start c = search needs
 
--- src/lib.rt:64:19
 part-put-front-end : tie.Need-part-put-front-end
 part-put-front-end c = search needs
 
--- src/lib.rt:64:9
 put-front-requires : tie.Need-put-front-requires
 put-front-requires c κs =
     let a = c .before .before .before .args in
     subst (λ (r : List ℕ). Frontable r (a .below)) (sym (lent (a .x) (a .versions .now))) (c .before .before .before .pre .2)
 
--- src/lib.rt:57:1
 same-length : tie.Need-same-length
 same-length c = search needs
 
--- src/lib.rt:57:1
 returns : tie.Need-returns
 returns c =
     let a = c .before .before .before .before .before .before .args in
@@ -62,7 +50,6 @@ returns c =
     ap₂ (λ (ys : List ℕ) (n : ℕ). take w v ++ (ys ++ drop n (drop w v))) (c .before .before .put-front .ensures ∙ ap words (lent (a .x) v)) (wide (a .x))
     ∙ ap (λ (b : Bool). cond b (withRow (a .x) (words (row (versionRow base) (a .x) v)) v) v) (sym (c .before .before .before .before .if1 .taken))
 
--- src/lib.rt:57:1
 returns-2 : tie.Need-returns-2
 returns-2 c = search needs
 

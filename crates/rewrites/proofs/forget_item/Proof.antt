@@ -2,9 +2,6 @@
 use borrow.Author.Needs.{needs}
 use Rattle.rewrites.proofs.forget_item.Statement.{statement}
 use Rattle.rewrites.proofs.forget_item.Tie as tie
-use Rattle.rewrites.proofs.forget_item.Reads as reads
-use Rattle.rewrites.proofs.forget_item.Lts as lts
-use Rattle.packing.proofs.forget.Reads as forget-reads
 use mathlib.Core.Path.{sym, ap, ap₂, _∙_, subst}
 use Prim.Native.Nat.{ℕ, _*_, _<_}
 use mathlib.Core.List.{List, _++_}
@@ -15,42 +12,33 @@ use Rattle.rules.specs.Versions.{versionsIn, rowOf, place}
 use Rattle.packing.specs.Changed.{TidyRow, leftBy}
 use Rattle.choices.proofs.Lent.{wide, lent}
 
--- src/lib.rt:34:13
 mul-a : tie.Need-mul-a
 mul-a c = search needs
 
--- src/lib.rt:35:13
 add-e : tie.Need-add-e
 add-e c = search needs
 
--- src/lib.rt:36:12
 mul-forget : tie.Need-mul-forget
 mul-forget c = search needs
 
--- src/lib.rt:36:12
 sub-forget : tie.Need-sub-forget
 sub-forget c = search needs
 
--- src/lib.rt:36:12
 part-forget-start : tie.Need-part-forget-start
 part-forget-start c = search needs
 
--- src/lib.rt:36:12
 part-forget-end : tie.Need-part-forget-end
 part-forget-end c = search needs
 
--- src/lib.rt:36:5
 forget-requires : tie.Need-forget-requires
 forget-requires c κs =
     let a = c .before .before .args in
     let p = c .before .before .pre in
     subst (λ (r : List ℕ). TidyRow r × (place (a .start) (versionsIn r) < length (versionsIn r))) (sym (lent (a .x) (a .versions .now))) (p .2, p .3)
 
--- src/lib.rt:30:1
 same-length : tie.Need-same-length
 same-length c = search needs
 
--- src/lib.rt:30:1
 returns : tie.Need-returns
 returns c =
     let a = c .before .before .before .before .before .args in

@@ -2,15 +2,6 @@
 use borrow.Author.Needs.{needs}
 use Rattle.deeds.proofs.ends.commits.Statement.{statement}
 use Rattle.deeds.proofs.ends.commits.Tie as tie
-use Rattle.deeds.proofs.ends.commits.Reads as reads
-use Rattle.deeds.proofs.ends.commits.Lts as lts
-use Rattle.names.proofs.Answer.numbered.Reads as numbered-reads
-use Rattle.rewrites.proofs.commit_all.Reads as commit-all-reads
-use Rattle.rows.proofs.release.Reads as release-reads
-use Rattle.rows.proofs.clock.Reads as clock-reads
-use Rattle.rows.proofs.leave.Reads as leave-reads
-use Rattle.rows.proofs.set_clock.Reads as set-clock-reads
-use Rattle.starts.proofs.beside.Reads as beside-reads
 use Prim.Native.Nat.{ℕ, _+_, _<_}
 use mathlib.Core.Path.{_≡_, ap, _∙_, subst}
 use mathlib.Core.List.{List}
@@ -21,7 +12,7 @@ use Rattle.rules.specs.Tables.{Tables, tables, setTxn, noTxn, starts, clock}
 use Rattle.rules.specs.Step.{committed}
 use Rattle.rules.proofs.ChangedVersions.{committed-starts, left-starts}
 use Rattle.starts.specs.Beside.{Beside}
-use Rattle.rewrites.specs.Written.{Reading, Committable}
+use Rattle.rewrites.specs.Written.{Reading}
 use Rattle.rewrites.proofs.Handed.{good-commits, good-reading}
 use Rattle.deeds.proofs.Deeds.{commits-done}
 
@@ -69,54 +60,42 @@ reading c =
     let p = c .before .before .before .before .before .before .before .before .before .before .before .before .before .before .before .before .pre in
     good-reading (G c) (p .0) (left c) (same c) (few c) (stamp c) (below c) (c .beside .result .next) (neighbours c)
 
--- src/ends.rt:34:17
 clock-requires : tie.Need-clock-requires
 clock-requires c κs = search needs
 
--- src/ends.rt:34:17
 add-stamp : tie.Need-add-stamp
 add-stamp c = search needs
 
--- src/ends.rt:35:5
 set-clock-requires : tie.Need-set-clock-requires
 set-clock-requires c κs = search needs
 
--- src/ends.rt:36:5
 leave-requires : tie.Need-leave-requires
 leave-requires c κs = search needs
 
--- src/ends.rt:37:9
 beside-requires : tie.Need-beside-requires
 beside-requires c κs = search needs
 
--- src/ends.rt:38:5
 commit-all-requires : tie.Need-commit-all-requires
 commit-all-requires c κs =
     let at = c .before .before in
     let p = at .before .before .before .before .before .before .before .before .before .before .before .before .before .before .before .before .pre in
     good-commits (G at) (p .0) (left at) (same at) (few at) (stamp at) (below at) (at .beside .result .next) (neighbours at) (slot at) (p .1) (let z = stamp-is at in omega arith)
 
--- src/ends.rt:39:5
 release-requires : tie.Need-release-requires
 release-requires c κs = search needs
 
--- src/ends.rt:40:5
 numbered-requires : tie.Need-numbered-requires
 numbered-requires c κs = search needs
 
--- src/ends.rt:30:1
 same-length : tie.Need-same-length
 same-length c = search needs
 
--- src/ends.rt:30:1
 same-length-2 : tie.Need-same-length-2
 same-length-2 c = search needs
 
--- src/ends.rt:30:1
 same-length-3 : tie.Need-same-length-3
 same-length-3 c = search needs
 
--- src/ends.rt:30:1
 returns : tie.Need-returns
 returns c =
     let at = c .before .before .before .before .before .before .before .before .before .before in

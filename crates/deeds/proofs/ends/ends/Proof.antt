@@ -2,19 +2,11 @@
 use borrow.Author.Needs.{needs}
 use Rattle.deeds.proofs.ends.ends.Statement.{statement}
 use Rattle.deeds.proofs.ends.ends.Tie as tie
-use Rattle.deeds.proofs.ends.ends.Reads as reads
-use Rattle.deeds.proofs.ends.ends.Lts as lts
-use Rattle.names.proofs.Answer.granted.Reads as granted-reads
-use Rattle.rewrites.proofs.forget_all.Reads as forget-all-reads
-use Rattle.rows.proofs.leave.Reads as leave-reads
-use Rattle.rows.proofs.start.Reads as start-reads
-use Rattle.starts.proofs.beside.Reads as beside-reads
 use Prim.Native.Nat.{ℕ}
 use mathlib.Core.Path.{_≡_, sym, subst, subst₂}
 use mathlib.Core.List.{List}
 use Rattle.names.specs.Sizes.{base}
 use Rattle.rules.specs.Tables.{Tables, tables, setTxn, noTxn, starts, txn}
-use Rattle.rules.specs.Good.{Good}
 use Rattle.starts.specs.Beside.{Beside}
 use Rattle.rewrites.specs.Written.{Staying, Leavable}
 use Rattle.rewrites.proofs.Handed.{good-leaves, good-staying}
@@ -55,35 +47,27 @@ staying c =
     subst (λ (q : ℕ). Staying (G c .versions) (left c) q (c .beside .result .below) (c .beside .result .next)) (sym (ended-is c))
     (good-staying (G c) (p .0 .good) (slot c) (p .1) (p .2) (c .beside .result .below) (c .beside .result .next) (neighbours c))
 
--- src/ends.rt:21:9
 start-requires : tie.Need-start-requires
 start-requires c κs = search needs
 
--- src/ends.rt:22:5
 leave-requires : tie.Need-leave-requires
 leave-requires c κs = search needs
 
--- src/ends.rt:23:9
 beside-requires : tie.Need-beside-requires
 beside-requires c κs = search needs
 
--- src/ends.rt:24:5
 forget-all-requires : tie.Need-forget-all-requires
 forget-all-requires c κs = leavable (c .before)
 
--- src/ends.rt:25:5
 granted-requires : tie.Need-granted-requires
 granted-requires c κs = search needs
 
--- src/ends.rt:17:1
 same-length : tie.Need-same-length
 same-length c = search needs
 
--- src/ends.rt:17:1
 same-length-2 : tie.Need-same-length-2
 same-length-2 c = search needs
 
--- src/ends.rt:17:1
 returns : tie.Need-returns
 returns c =
     let at = c .before .before .before .before .before in

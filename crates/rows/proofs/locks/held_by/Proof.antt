@@ -2,8 +2,6 @@
 use borrow.Author.Needs.{needs}
 use Rattle.rows.proofs.locks.held_by.Statement.{statement}
 use Rattle.rows.proofs.locks.held_by.Tie as tie
-use Rattle.rows.proofs.locks.held_by.Reads as reads
-use Rattle.rows.proofs.locks.held_by.Lts as lts
 use Prim.Native.Nat.{ℕ}
 use mathlib.Core.Bool.{_||_}
 use mathlib.Core.Path.{ap}
@@ -12,15 +10,12 @@ use lib.Dec.{eqb}
 use Rattle.rules.specs.Words.{bit}
 use Rattle.rules.specs.Tables.{holds, holdsShared, holdsExclusive}
 
--- src/locks.rt:95:7
 shr-result : tie.Need-shr-result
 shr-result c = search needs
 
--- src/locks.rt:95:54
 add-result : tie.Need-add-result
 add-result c = search needs
 
--- src/locks.rt:90:1
 returns : tie.Need-returns
 unfolding holds holdsShared holdsExclusive bit
 returns c =

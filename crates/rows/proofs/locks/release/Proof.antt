@@ -1,9 +1,6 @@
 -- The locks of the items passed are released.
 use Rattle.rows.proofs.locks.release.Statement.{statement}
 use Rattle.rows.proofs.locks.release.Tie as tie
-use Rattle.rows.proofs.locks.release.Reads as reads
-use Rattle.rows.proofs.locks.release.Lts as lts
-use Rattle.rows.proofs.locks.release_item.Reads as release-item-reads
 use Prim.Native.Nat.{ℕ, _+_, _-_}
 use mathlib.Core.List.{List}
 use mathlib.Core.Path.{refl, sym, _∙_, subst}
@@ -17,23 +14,18 @@ Inv-loop locks₀ slot x₀ locks x = Released (slot .0) locks₀ locks x
 abbrev μ-loop : tie.MeasureT-loop
 μ-loop locks₀ slot x₀ locks x = base .items - x
 
--- src/locks.rt:115:5
 loop-holds : tie.Need-loop-holds Inv-loop μ-loop
 loop-holds c = none-released _ _ (c .before .pre .0)
 
--- src/locks.rt:116:9
 release-item-requires : tie.Need-release-item-requires Inv-loop μ-loop
 release-item-requires c κs = (c .before .before .loop .inv .size, omega arith, c .before .before .before .before .pre .1)
 
--- src/locks.rt:117:9
 add-x : tie.Need-add-x Inv-loop μ-loop
 add-x c = omega arith
 
--- src/locks.rt:115:5
 loop-less : tie.Need-loop-less Inv-loop μ-loop
 loop-less c = omega arith
 
--- src/locks.rt:115:5
 loop-again : tie.Need-loop-again Inv-loop μ-loop
 loop-again c =
     let a = c .before .before .before .before .before .before .before .args in
@@ -41,11 +33,9 @@ loop-again c =
     subst (λ (m : List ℕ). Released (a .slot .0) (a .locks .now) m (l .x + 1)) (sym (c .before .before .release-item .ensures))
     (one-released (a .slot .0) (a .locks .now) (l .locks) (l .x) _ (omega arith) (l .inv) refl)
 
--- src/locks.rt:110:1
 same-length : tie.Need-same-length Inv-loop μ-loop
 same-length c = c .before .loop .inv .size ∙ sym (c .before .before .before .pre .0)
 
--- src/locks.rt:110:1
 returns : tie.Need-returns Inv-loop μ-loop
 returns c = all-released _ _ _ _ (c .before .before .before .pre .0) (omega arith) (c .before .loop .inv)
 

@@ -2,50 +2,35 @@
 use borrow.Author.Needs.{needs}
 use Rattle.rows.proofs.locks.release_item.Statement.{statement}
 use Rattle.rows.proofs.locks.release_item.Tie as tie
-use Rattle.rows.proofs.locks.release_item.Reads as reads
-use Rattle.rows.proofs.locks.release_item.Lts as lts
-use Rattle.rows.proofs.locks.held_by.Reads as held-by-reads
-use Rattle.rows.proofs.locks.lock_at.Reads as lock-at-reads
-use Rattle.rows.proofs.locks.set_lock.Reads as set-lock-reads
-use Rattle.rows.proofs.locks.without.Reads as without-reads
 use mathlib.Core.Path.{_≡_, sym, ap, _∙_}
 use mathlib.Core.Bool.{false}
-use mathlib.Core.List.{List}
 use Rattle.rules.specs.Tables.{Lock, lock, setLock, holds, released}
 use Rattle.rows.proofs.Releases.{not-held, lock-back}
 
--- src/locks.rt:103:9
 lock-at-requires : tie.Need-lock-at-requires
 lock-at-requires c κs = search needs
 
--- src/locks.rt:104:8
 held-by-requires : tie.Need-held-by-requires
 held-by-requires c κs = search needs
 
--- src/locks.rt:105:31
 without-requires : tie.Need-without-requires
 without-requires c κs = search needs
 
--- src/locks.rt:105:9
 set-lock-requires : tie.Need-set-lock-requires
 set-lock-requires c κs = search needs
 
--- src/locks.rt:99:1
 same-length : tie.Need-same-length
 same-length c = search needs
 
--- src/locks.rt:99:1
 returns : tie.Need-returns
 returns c =
     let a = c .before .before .before .before .before .before .before .before .before .before .args in
     c .before .before .set-lock .ensures
     ∙ ap (setLock (a .locks .now) (a .item .0)) (c .before .before .before .without .ensures ∙ ap (released (a .slot .0)) (c .before .before .before .before .before .before .before .lock-at .ensures))
 
--- src/locks.rt:99:1
 same-length-2 : tie.Need-same-length-2
 same-length-2 c = search needs
 
--- src/locks.rt:99:1
 returns-2 : tie.Need-returns-2
 returns-2 c =
     let a = c .before .before .before .before .before .args in

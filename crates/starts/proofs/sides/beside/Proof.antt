@@ -1,16 +1,11 @@
 use Rattle.starts.proofs.sides.beside.Statement.{statement}
 use Rattle.starts.proofs.sides.beside.Tie as tie
-use Rattle.starts.proofs.sides.beside.Reads as reads
-use Rattle.starts.proofs.sides.beside.Lts as lts
-use Rattle.starts.proofs.sides.met.Reads as met-reads
-use mathlib.Core.Path.{_≡_, refl, sym, ap, _∙_, subst}
+use mathlib.Core.Path.{_≡_, subst}
 use mathlib.Core.Logic.{⊎-elim}
-use mathlib.Core.List.{List, [], _∷_, _++_, append-nil}
-use Prim.Native.Nat.{ℕ, _≤_, _-_, _+_}
+use Prim.Native.Nat.{ℕ, _≤_, _-_}
 use native.Mathlib.Omega.{arith}
-use lib.ListN.{getD}
 use Rattle.names.specs.Sizes.{base}
-use Rattle.rules.specs.Tables.{txnAt, starts, startsFrom, txn, liveQuery, live}
+use Rattle.rules.specs.Tables.{starts, startsFrom, txn, liveQuery, live}
 use Rattle.starts.specs.Beside.{Beside}
 use Rattle.starts.proofs.Tells.{none-beside}
 use Rattle.starts.proofs.Fill.{starts-yes, starts-no}
@@ -21,64 +16,49 @@ Inv-loop txns stamp known₀ i₀ known i = (i ≤ base .slots) × Beside (start
 abbrev μ-loop : tie.MeasureT-loop
 μ-loop txns stamp known₀ i₀ known i = base .slots - i
 
--- src/sides.rt:56:5
 loop-holds : tie.Need-loop-holds Inv-loop μ-loop
 unfolding startsFrom
 loop-holds c = (omega arith, none-beside _)
 
--- src/sides.rt:57:29
 mul-at : tie.Need-mul-at Inv-loop μ-loop
 mul-at c = omega arith
 
--- src/sides.rt:57:18
 add-at : tie.Need-add-at Inv-loop μ-loop
 add-at c = omega arith
 
--- src/sides.rt:58:13
 mul-if1 : tie.Need-mul-if1 Inv-loop μ-loop
 mul-if1 c = omega arith
 
--- src/sides.rt:58:13
 shared-slice-read-if1 : tie.Need-shared-slice-read-if1 Inv-loop μ-loop
 shared-slice-read-if1 c = omega arith
 
--- src/sides.rt:58:36
 add-if1 : tie.Need-add-if1 Inv-loop μ-loop
 add-if1 c = omega arith
 
--- src/sides.rt:58:31
 mul-if1-2 : tie.Need-mul-if1-2 Inv-loop μ-loop
 mul-if1-2 c = omega arith
 
--- src/sides.rt:58:31
 shared-slice-read-if1-2 : tie.Need-shared-slice-read-if1-2 Inv-loop μ-loop
 shared-slice-read-if1-2 c = omega arith
 
--- src/sides.rt:59:44
 add-met : tie.Need-add-met Inv-loop μ-loop
 add-met c = omega arith
 
--- src/sides.rt:59:39
 mul-met : tie.Need-mul-met Inv-loop μ-loop
 mul-met c = omega arith
 
--- src/sides.rt:59:39
 shared-slice-read-met : tie.Need-shared-slice-read-met Inv-loop μ-loop
 shared-slice-read-met c = omega arith
 
--- src/sides.rt:59:13
 met-requires : tie.Need-met-requires Inv-loop μ-loop
 met-requires c κs = omega arith
 
--- src/sides.rt:61:9
 add-i : tie.Need-add-i Inv-loop μ-loop
 add-i c = omega arith
 
--- src/sides.rt:56:5
 loop-less : tie.Need-loop-less Inv-loop μ-loop
 loop-less c = omega arith
 
--- src/sides.rt:56:5
 loop-again : tie.Need-loop-again Inv-loop μ-loop
 unfolding liveQuery live txn
 loop-again c =
@@ -92,7 +72,6 @@ loop-again c =
           (c .if1 .came),
     )
 
--- src/sides.rt:47:1
 returns : tie.Need-returns Inv-loop μ-loop
 unfolding starts
 returns c =
