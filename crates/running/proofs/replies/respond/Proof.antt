@@ -1,11 +1,10 @@
--- A call is made and its answer printed, else `bad`; an answer is at most 84 bytes.
-use native.Mathlib.Omega.{arith}
+-- A call is made and its answer printed, else `bad`.
+use mathlib.Core.List.{List}
 use Rattle.rules.specs.Tables.{Tables, tables}
-use Rattle.numerals.proofs.Decimals.{length-answerLine}
-use Rattle.runner.proofs.Replied.{wrote-as, call-reply, call-after, bad-reply, bad-after}
+use Rattle.running.proofs.Replied.{wrote-as, call-reply, call-after, bad-reply, bad-after}
 use borrow.Author.Needs.{needs}
-use Rattle.runner.proofs.respond.Statement.{statement}
-use Rattle.runner.proofs.respond.Tie as tie
+use Rattle.running.proofs.replies.respond.Statement.{statement}
+use Rattle.running.proofs.replies.respond.Tie as tie
 
 enum-known-parsed : tie.Need-enum-known-parsed
 enum-known-parsed c = search needs
@@ -24,8 +23,7 @@ returns c =
     let a = c .before .before .before .before .before .before .before .before .before .before .args in
     let G : Tables = tables (a .txns .now) (a .locks .now) (a .versions .now) in
     let q = c .before .before .before .before .enum-told .given .1 in
-    let w = c .before .before .print-bad .ensures in
-    (omega (arith, w .index), (wrote-as (bad-reply G q) w, bad-after G q))
+    (wrote-as (bad-reply G q) (c .before .before .print-bad .ensures), bad-after G q)
 
 call-requires : tie.Need-call-requires
 call-requires c κs = search needs
@@ -51,8 +49,7 @@ returns-2 c =
     let G : Tables = tables (a .txns .now) (a .locks .now) (a .versions .now) in
     let q = c .before .before .before .before .before .before .before .before .before .before .before .before .before .before .before .parsed .given .1 in
     let e = c .before .before .before .before .before .before .before .before .before .before .call .ensures in
-    let w = c .before .before .print .ensures in
-    (omega (arith, w .index, length-answerLine (c .before .before .before .before .before .before .before .before .before .before .call .result)), (wrote-as (call-reply _ _ _ _ _ G q e) w, call-after _ _ _ _ _ G q e))
+    (wrote-as (call-reply _ _ _ _ _ G q e) (c .before .before .print .ensures), call-after _ _ _ _ _ G q e)
 
 pub respond-spec : {M : Type 1} → statement M
 respond-spec =
