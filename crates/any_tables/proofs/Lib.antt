@@ -1,2 +1,0 @@
--- Laws of cases.
-pub mod Cased

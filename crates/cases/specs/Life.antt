@@ -1,0 +1,57 @@
+-- The machine's life: it is born, it takes the input piece by piece, and the input ends.
+use Prim.Native.Nat.{ℕ, _+_, _*_}
+use mathlib.Core.Path.{_≡_}
+use mathlib.Core.Bool.{cond}
+use mathlib.Core.List.{List, [], _∷_, _++_}
+use lib.Dec.{eqb}
+use Rattle.lines.specs.Lines.{joined}
+use Rattle.number_lines.specs.Lines.{Held, after, begun, heldBy}
+use Rattle.cases.specs.Cases.{mostNumbers, numberBytes, longestAnswer, unread, answerAtEnd, answersOf}
+use Rattle.cases.specs.declared.Cases.{Cases}
+
+-- ---- what it is: what is read of the line that is not ended yet
+
+-- what the struct keeps
+unfoldable pub stateOf : Cases → Held
+stateOf m = heldBy (m .words) (m .scan)
+
+-- ---- what it does
+
+-- a piece of input is taken: the lines that end in it are answered
+unfoldable pub answersIn : Held → List ℕ → List ℕ
+answersIn h [] = []
+answersIn h (b ∷ bs) =
+    let next = answersIn unread bs in
+    let on = answersIn (after mostNumbers h b) bs in
+    cond (eqb b 10) (answerAtEnd h ++ next) on
+
+-- and what is read behind them is kept
+unfoldable pub left : Held → List ℕ → Held
+left h [] = h
+left h (b ∷ bs) =
+    let next = left unread bs in
+    let on = left (after mostNumbers h b) bs in
+    cond (eqb b 10) next on
+
+-- the input ends: a line that is begun is answered
+unfoldable pub answersAtEnd : Held → List ℕ
+answersAtEnd h = cond (begun h) (answerAtEnd h) []
+
+-- Room for the answers in a piece of so many bytes: for that to the line that began before it, and for each byte a number, as a
+-- number takes a byte of its line at least. The longest answer once more, since it is asked for before an answer is written.
+abbrev pub roomFor : ℕ → ℕ
+roomFor n = longestAnswer + longestAnswer + numberBytes * n
+
+-- ---- from birth to the end
+
+-- all that is put out, piece by piece and at the end
+unfoldable pub putOutFrom : Held → List (List ℕ) → List ℕ
+putOutFrom h [] = answersAtEnd h
+putOutFrom h (piece ∷ pieces) = answersIn h piece ++ putOutFrom (left h piece) pieces
+
+unfoldable pub putOut : List (List ℕ) → List ℕ
+putOut pieces = putOutFrom unread pieces
+
+-- whatever pieces the input comes in, all that is put out are the answers to its lines
+unfoldable pub Lived : Type 0
+Lived = (pieces : List (List ℕ)) → putOut pieces ≡ answersOf (joined pieces)
