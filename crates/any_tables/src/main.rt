@@ -2,31 +2,31 @@
 // any content, and its line of standard output is the answer with the words as the call left them.
 //
 // So tables that no run of calls leads to, damaged ones among them, can be held against a second
-// keeper. All that it does is proved in `cases`. Here the bytes that are read are handed over, piece
+// keeper. All that it does is proved in `answering`. Here the bytes that are read are handed over, piece
 // by piece and in their order, and what is put out is written.
-use cases::Cases;
-use cases::LONGEST_ANSWER;
-use cases::NUMBER_BYTES;
+use answering::Answerer;
+use answering::LONGEST_ANSWER;
+use answering::NUMBER_BYTES;
 use libc::STDIN_FILENO;
 use libc::STDOUT_FILENO;
 ghost use mathlib.Core.Path.{_≡_};
 ghost use lib.ListN.{length};
-ghost use Rattle.cases.specs.Life.{roomFor};
+ghost use Rattle.answering.specs.Life.{roomFor};
 
 // The longest piece.
-const PIECE: usize = 2048;
+const PIECE: usize = 32768;
 
 // Room for the answers in any piece.
 const ROOM: usize = LONGEST_ANSWER + LONGEST_ANSWER + NUMBER_BYTES * PIECE;
 
 fn input_buffer() -> [u8; PIECE]
-    ensures { λ r. ⌜ 2048 ≡ length r ⌝ }
+    ensures { λ r. ⌜ 32768 ≡ length r ⌝ }
 {
     [0; PIECE]
 }
 
 fn output_buffer() -> [u8; ROOM]
-    ensures { λ r. ⌜ roomFor 2048 ≡ length r ⌝ }
+    ensures { λ r. ⌜ roomFor 32768 ≡ length r ⌝ }
 {
     [0; ROOM]
 }
@@ -35,7 +35,7 @@ fn output_buffer() -> [u8; ROOM]
 fn main() {
     let mut input = input_buffer();
     let mut output = output_buffer();
-    let mut cases = Cases::new();
+    let mut answerer = Answerer::new();
     let mut turns = u64::MAX;
     while turns > 0 {
         let got = libc::read(STDIN_FILENO, &mut input);
@@ -43,12 +43,12 @@ fn main() {
         if n == 0 {
             break;
         }
-        let taken = cases.take(&input[..n], &mut output);
+        let taken = answerer.take(&input[..n], &mut output);
         let used = taken.used;
         io::write_all(STDOUT_FILENO, &output[..used]);
-        cases = taken.cases;
+        answerer = taken.answerer;
         turns -= 1;
     }
-    let used = cases.end(&mut output);
+    let used = answerer.end(&mut output);
     io::write_all(STDOUT_FILENO, &output[..used]);
 }

@@ -1,6 +1,2 @@
--- Laws of cases, and of the machine that answers them.
+-- Laws of cases.
 pub mod Cased
-pub mod Lengths
-pub mod Answering
-pub mod Keeping
-pub mod Lived

@@ -1,3 +1,2 @@
--- What a case is, the line of its answer, and the life of the machine that answers them.
+-- What a case is, and the line of its answer.
 pub mod Cases
-pub mod Life

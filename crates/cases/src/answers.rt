@@ -16,16 +16,16 @@ ghost use Rattle.number_lines.specs.Lines.{heldBy};
 ghost use Rattle.cases.specs.Cases.{txnsRoom, locksRoom, versionsRoom, longestAnswer, callOf, tablesOf, isCase, caseLine, answerTo, answerAt, Fits};
 
 // The numbers before the words: kind, number, item and value of the call, and three lengths.
-pub(crate) const HEAD: usize = 7;
+pub const HEAD: usize = 7;
 
 // The longest tables that a case may give: eight words over the right sizes.
 const OVER: usize = 8;
 
-pub(crate) const TXNS: usize = names::TXN_WORDS + OVER;
+pub const TXNS: usize = names::TXN_WORDS + OVER;
 
-pub(crate) const LOCKS: usize = names::LOCK_WORDS + OVER;
+pub const LOCKS: usize = names::LOCK_WORDS + OVER;
 
-pub(crate) const VERSIONS: usize = names::VERSION_WORDS + OVER;
+pub const VERSIONS: usize = names::VERSION_WORDS + OVER;
 
 // Room for the words of each table. The contracts give only the lengths, which lending a part needs;
 // no word is read before it is set.
@@ -154,7 +154,7 @@ fn answer(numbers: &[u64], out: &mut [u8], at: usize) -> usize
 }
 
 // The answer line of what was read of a line.
-pub(crate) fn respond(line: Scan, words: &[u64], out: &mut [u8], at: usize) -> usize
+pub fn respond(line: Scan, words: &[u64], out: &mut [u8], at: usize) -> usize
     requires { ⌜ at + longestAnswer ≤ length (now out) ⌝ }
     ensures { λ r. ⌜ Wrote (now (out .entry)) at (answerAt (heldBy (now (words .entry)) line)) (now (out .exit)) r ⌝ }
 {

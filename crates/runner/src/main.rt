@@ -13,17 +13,17 @@ ghost use lib.ListN.{length};
 ghost use Rattle.running.specs.Replies.{longestReply};
 
 // The longest piece.
-const PIECE: usize = 2048;
+const PIECE: usize = 8192;
 
 fn input_buffer() -> [u8; PIECE]
-    ensures { λ r. ⌜ 2048 ≡ length r ⌝ }
+    ensures { λ r. ⌜ 8192 ≡ length r ⌝ }
 {
     [0; PIECE]
 }
 
 // Room for the replies to any piece.
 fn output_buffer() -> [u8; LONGEST_REPLY * PIECE]
-    ensures { λ r. ⌜ longestReply * 2048 ≡ length r ⌝ }
+    ensures { λ r. ⌜ longestReply * 8192 ≡ length r ⌝ }
 {
     [0; LONGEST_REPLY * PIECE]
 }

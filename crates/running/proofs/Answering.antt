@@ -2,12 +2,12 @@
 use Prim.Native.Nat.{ℕ, _+_, _*_, _<_, _≤_}
 use mathlib.Core.Path.{_≡_, refl, sym, ap, ap₂, _∙_}
 use mathlib.Core.Bool.{true, false}
-use mathlib.Core.List.{List, [], _++_, append-nil, append-assoc}
+use mathlib.Core.List.{List, [], _++_}
 use native.Mathlib.Omega.{arith}
-use lib.ListN.{length, take, drop, take-append-drop}
+use lib.ListN.{length, drop}
 use Rattle.rules.specs.Tables.{Tables}
-use Rattle.texts.specs.Written.{written, Wrote}
-use Rattle.texts.proofs.Written.{wrote-more}
+use Rattle.texts.specs.Written.{Wrote}
+use Rattle.texts.proofs.Parts.{Putting, putting-first, putting-on, putting-end}
 use Rattle.lines.specs.Lines.{Held, short, heldBy, Goes}
 use Rattle.lines.specs.declared.Next.{Next}
 use Rattle.script.specs.Inputs.{readAs}
@@ -15,7 +15,7 @@ use Rattle.script.specs.declared.calls.Parsed.{Parsed}
 use Rattle.script.proofs.Turns.{readsFrom, leftFrom, line-reads, line-left, end-reads, end-left, none-reads, none-left}
 use Rattle.running.specs.Replies.{replyTo, afterLine, afterAll, repliesTo, longestReply}
 use Rattle.running.specs.Life.{State, state, repliesIn, afterPiece}
-use Rattle.running.proofs.Replied.{reply-most, wrote-as}
+use Rattle.running.proofs.Replied.{reply-most}
 
 -- the lines before `at` are answered: with what is left of the piece, state and output come to those of the whole piece
 pub record Going (piece : List ℕ) (s₀ : State) (out₀ : List ℕ) (s : State) (out : List ℕ) (used at : ℕ) : Type 0 where
@@ -23,20 +23,17 @@ pub record Going (piece : List ℕ) (s₀ : State) (out₀ : List ℕ) (s : Stat
   pub small : used ≤ longestReply * at
   pub size : length out ≡ length out₀
   pub after : afterPiece (drop at piece) s ≡ afterPiece piece s₀
-  pub done : List ℕ
-  pub wrote : Wrote out₀ 0 done out used
-  pub total : done ++ repliesIn (drop at piece) s ≡ repliesIn piece s₀
-
-nothing-wrote : (l : List ℕ) → Wrote l 0 [] l 0
-unfolding written
-nothing-wrote l = record { bytes = sym (take-append-drop 0 l); index = refl }
+  pub put : Putting (repliesIn piece s₀) (repliesIn (drop at piece) s) out₀ out used
 
 pub going-first : (piece : List ℕ) (s : State) (out : List ℕ) → Going piece s out s out 0 0
 going-first piece s out =
-    record { within = omega arith; small = omega arith; size = refl; after = refl; done = []; wrote = nothing-wrote out; total = refl }
+    record { within = omega arith; small = omega arith; size = refl; after = refl; put = putting-first (repliesIn piece s) out }
 
 module _ {piece : List ℕ} {s₀ : State} {out₀ : List ℕ} {h : Held} {G : Tables} {out : List ℕ} {used at : ℕ}
     (room : longestReply * length piece ≤ length out₀) (i : Going piece s₀ out₀ (state h G) out used at) where
+  pub end-used : used ≤ length out₀
+  end-used = omega (arith, room, i .small, i .within)
+
   pub room-left : at < length piece → used + longestReply ≤ length out
   room-left l = omega (arith, room, i .small, i .size, l)
 
@@ -54,19 +51,13 @@ module _ {piece : List ℕ} {s₀ : State} {out₀ : List ℕ} {h : Held} {G : T
     pub going-on : Going piece s₀ out₀ (state k H) m next (r .at)
     going-on =
         let o = g .onward e in
-        let used-is : used ≡ 0 + length (i .done) = i .wrote .index in
         let next-is : next ≡ used + length (replyTo p G) = w .index in
         record {
           within = o .1;
           small = omega (arith, i .small, reply-most p G, next-is, o .0);
           size = z ∙ i .size;
           after = line-after ∙ i .after;
-          done = i .done ++ replyTo p G;
-          wrote = wrote-more (omega (arith, room, i .small, i .within, used-is)) (i .wrote) w;
-          total =
-              append-assoc (i .done) (replyTo p G) (repliesIn (drop (r .at) piece) (state k H))
-              ∙ ap (λ (l : List ℕ). i .done ++ l) (sym line-replies)
-              ∙ i .total;
+          put = putting-on end-used line-replies (i .put) w;
         }
 
   -- no line ends in the rest of the piece
@@ -86,16 +77,11 @@ module _ {piece : List ℕ} {s₀ : State} {out₀ : List ℕ} {h : Held} {G : T
           small = omega (arith, i .small, i .within);
           size = i .size;
           after = none-after ∙ i .after;
-          done = i .done;
-          wrote = i .wrote;
-          total = ap (λ (l : List ℕ). i .done ++ l) none-replies ∙ i .total;
+          put = rw (sym none-replies) at (i .put);
         }
 
   -- the piece ends
   module _ (past : length piece ≤ at) where
-    pub end-used : used ≤ length out₀
-    end-used = omega (arith, room, i .small, i .within)
-
     pub end-after : state h G ≡ afterPiece piece s₀
     unfolding afterPiece afterAll
     end-after = sym (ap₂ state (end-left h piece at past) (rw (end-reads h piece at past) refl)) ∙ i .after
@@ -105,4 +91,4 @@ module _ {piece : List ℕ} {s₀ : State} {out₀ : List ℕ} {h : Held} {G : T
     no-replies = rw (end-reads h piece at past)
 
     pub end-wrote : Wrote out₀ 0 (repliesIn piece s₀) out used
-    end-wrote = wrote-as (sym (append-nil (i .done)) ∙ ap (λ (l : List ℕ). i .done ++ l) (sym no-replies) ∙ i .total) (i .wrote)
+    end-wrote = putting-end no-replies (i .put)

@@ -1,32 +1,27 @@
--- What the struct keeps: fresh tables at birth; and what stands at the front of the output.
-use Prim.Native.Nat.{ℕ, _+_, _≤_}
-use mathlib.Core.Path.{_≡_, refl, sym, ap, ap₂, _∙_}
+-- Fresh tables at birth, and what is put out at the end of the input.
+use Prim.Native.Nat.{ℕ, _≤_}
+use mathlib.Core.Path.{_≡_, refl, sym, _∙_}
 use mathlib.Core.Bool.{true, false}
-use mathlib.Core.List.{List, [], _∷_, _++_, append-nil}
+use mathlib.Core.List.{List, append-nil}
 use native.Mathlib.Omega.{arith}
-use lib.ListN.{length, take, drop}
-use lib.Seq.{take-at}
+use lib.ListN.{length, take}
 use Rattle.names.specs.Sizes.{base}
 use Rattle.rules.specs.Tables.{Tables, tables, fresh, txnWords, lockWords, versionWords}
 use Rattle.rules.specs.Tested.{sizesExact}
 use Rattle.fresh.specs.Made.{freshened}
-use Rattle.texts.specs.Written.{written, Wrote}
-use Rattle.lines.specs.Lines.{Held, short, begun}
+use Rattle.texts.specs.Written.{Wrote}
+use Rattle.texts.proofs.Parts.{front}
+use Rattle.lines.specs.Lines.{Held, begun}
 use Rattle.script.specs.Inputs.{readAs, last}
 use Rattle.script.specs.declared.calls.Parsed.{Parsed}
 use Rattle.running.specs.Replies.{replyTo, repliesTo, longestReply}
-use Rattle.running.specs.Life.{State, state, born, repliesAtEnd}
+use Rattle.running.specs.Life.{state, repliesAtEnd}
 use Rattle.running.proofs.Replied.{reply-most}
 
 -- tables of the exact sizes are made fresh
 pub made-fresh : (t l v : List ℕ) {G : Tables} → length t ≡ txnWords base → length l ≡ lockWords base → length v ≡ versionWords base → G ≡ freshened base (tables t l v) → G ≡ fresh base
 unfolding freshened sizesExact
 made-fresh t l v a b c e = e ∙ rw (a, b, c) refl
-
--- what is written from the start on stands at the front
-pub front : {l m text : List ℕ} {used : ℕ} → Wrote l 0 text m used → take used m ≡ text
-unfolding written
-front {l} {m} {text} {used} w = rw (w .bytes) (take-at text (drop (0 + length text) l) used (omega (arith, w .index)))
 
 -- ---- the end of the input
 

@@ -3,16 +3,16 @@ use mathlib.Core.Path.{_≡_, sym}
 use native.Mathlib.Omega.{arith}
 use lib.ListN.{length, length-take}
 use lib.Seq.{length-take-le}
-use Rattle.cases.specs.Life.{roomFor}
+use Rattle.answering.specs.Life.{roomFor}
 use borrow.Author.Needs.{needs}
 use Rattle.any_tables.proofs.main.Statement.{statement}
 use Rattle.any_tables.proofs.main.Tie as tie
 
 abbrev Inv-loop : tie.InvT-loop
-Inv-loop input₀ output₀ cases₀ turns₀ input output cases turns = (2048 ≡ length input) × (roomFor 2048 ≡ length output)
+Inv-loop input₀ output₀ answerer₀ turns₀ input output answerer turns = (32768 ≡ length input) × (roomFor 32768 ≡ length output)
 
 abbrev μ-loop : tie.MeasureT-loop
-μ-loop input₀ output₀ cases₀ turns₀ input output cases turns = turns
+μ-loop input₀ output₀ answerer₀ turns₀ input output answerer turns = turns
 
 input-buffer-requires : tie.Need-input-buffer-requires Inv-loop μ-loop
 input-buffer-requires c κs = search needs

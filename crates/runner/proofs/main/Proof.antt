@@ -10,7 +10,7 @@ use Rattle.runner.proofs.main.Statement.{statement}
 use Rattle.runner.proofs.main.Tie as tie
 
 abbrev Inv-loop : tie.InvT-loop
-Inv-loop input₀ output₀ runner₀ turns₀ input output runner turns = (2048 ≡ length input) × (longestReply * 2048 ≡ length output)
+Inv-loop input₀ output₀ runner₀ turns₀ input output runner turns = (8192 ≡ length input) × (longestReply * 8192 ≡ length output)
 
 abbrev μ-loop : tie.MeasureT-loop
 μ-loop input₀ output₀ runner₀ turns₀ input output runner turns = turns

@@ -1,7 +1,7 @@
 -- The tables go out of the struct and back into it; the replies stand at the front of the output.
 use borrow.Author.Needs.{needs}
 use Rattle.running.specs.Life.{stateOf}
-use Rattle.running.proofs.Keeping.{front}
+use Rattle.texts.proofs.Parts.{front}
 use Rattle.running.proofs.Runner.take.Statement.{statement}
 use Rattle.running.proofs.Runner.take.Tie as tie
 

@@ -34,15 +34,20 @@ respond-requires c κs = omega (arith, room-left (c .before .before .before .bef
 new-requires : tie.Need-new-requires Inv-loop μ-loop
 new-requires c κs = search needs
 
+-- where a line has ended
+abbrev line : tie.After-new Inv-loop μ-loop → tie.Then1 Inv-loop μ-loop
+line c = c .before .before .before .before .before .before .before .before .before .before .before .before .before .before .before
+
 loop-less : tie.Need-loop-less Inv-loop μ-loop
-loop-less c = let o = c .before .before .before .before .before .before .before .before .before .before .before .before .before .before .before .before .before .next .ensures .onward (c .before .before .before .before .before .before .before .before .before .before .before .before .before .before .before .if1 .taken) in omega arith
+loop-less c = let o = line c .before .before .next .ensures .onward (line c .if1 .taken) in omega arith
 
 loop-again : tie.Need-loop-again Inv-loop μ-loop
 loop-again c =
-    let i = c .before .before .before .before .before .before .before .before .before .before .before .before .before .before .before .before .before .before .before .loop .inv in
-    let next = c .before .before .before .before .before .before .before .before .before .before .before .before .before .before .before .before .before .next in
+    let p = line c in
+    let i = p .before .before .before .before .loop .inv in
+    let next = p .before .before .next in
     let said = c .before .before .before .before .before .before .before .before .before .respond .ensures in
-    (going-on (c .before .before .before .before .before .before .before .before .before .before .before .before .before .before .before .before .before .before .before .before .before .before .before .before .before .pre) (i .0) (next .result) (next .ensures) (c .before .before .before .before .before .before .before .before .before .before .before .before .before .before .before .if1 .taken) (c .new .ensures) (c .before .before .before .before .before .before .before .before .before .before .before .before .before .before .read-as .ensures) (said .0) (said .1) (c .before .before .out .given), c .before .before .before .before .before .before .before .before .txns .given ∙ i .1, c .before .before .before .before .before .before .locks .given ∙ i .2, c .before .before .before .before .versions .given ∙ i .3)
+    (going-on (p .before .before .before .before .before .before .before .before .before .before .pre) (i .0) (next .result) (next .ensures) (p .if1 .taken) (c .new .ensures) (c .before .before .before .before .before .before .before .before .before .before .before .before .before .before .read-as .ensures) (said .0) (said .1) (c .before .before .out .given), c .before .before .before .before .before .before .before .before .txns .given ∙ i .1, c .before .before .before .before .before .before .locks .given ∙ i .2, c .before .before .before .before .versions .given ∙ i .3)
 
 loop-less-2 : tie.Need-loop-less-2 Inv-loop μ-loop
 loop-less-2 c = omega arith
@@ -69,7 +74,7 @@ returns : tie.Need-returns Inv-loop μ-loop
 returns c =
     let i = c .before .loop .inv .0 in
     let room = c .before .before .before .before .before .before .before .pre in
-    (end-after room i (c .loop-test .left), (end-used room i (c .loop-test .left), end-wrote room i (c .loop-test .left)))
+    (end-after room i (c .loop-test .left), (end-used room i, end-wrote room i (c .loop-test .left)))
 
 pub answer-piece-spec : {M : Type 1} → statement M
 answer-piece-spec =

@@ -5,13 +5,13 @@ use native.Mathlib.Omega.{arith}
 use lib.ListN.{length}
 use borrow.Author.Tests.{not-true, not-false}
 use Rattle.number_lines.specs.Lines.{heldBy}
 use Rattle.cases.specs.Cases.{mostNumbers}
-use Rattle.cases.specs.Life.{stateOf}
+use Rattle.answering.specs.Life.{stateOf}
 use Rattle.number_lines.proofs.Printed.{wrote-within}
-use Rattle.cases.proofs.Keeping.{last-answered, none-answered}
+use Rattle.answering.proofs.Keeping.{last-answered, none-answered}
 use borrow.Author.Needs.{needs}
-use Rattle.cases.proofs.Cases.end.Statement.{statement}
-use Rattle.cases.proofs.Cases.end.Tie as tie
+use Rattle.answering.proofs.Answerer.end.Statement.{statement}
+use Rattle.answering.proofs.Answerer.end.Tie as tie
 
 any-requires : tie.Need-any-requires
 any-requires c κs = search needs

@@ -1,9 +1,9 @@
 -- The words go out of the struct and back into it; the answers stand at the front of the output.
-use Rattle.cases.specs.Life.{stateOf}
-use Rattle.cases.proofs.Keeping.{front}
+use Rattle.answering.specs.Life.{stateOf}
+use Rattle.texts.proofs.Parts.{front}
 use borrow.Author.Needs.{needs}
-use Rattle.cases.proofs.Cases.take.Statement.{statement}
-use Rattle.cases.proofs.Cases.take.Tie as tie
+use Rattle.answering.proofs.Answerer.take.Statement.{statement}
+use Rattle.answering.proofs.Answerer.take.Tie as tie
 
 slice-aggregate-answer-piece : tie.Need-slice-aggregate-answer-piece
 slice-aggregate-answer-piece c = search needs

@@ -4,13 +4,13 @@ use mathlib.Core.Path.{_≡_, sym, _∙_}
 use native.Mathlib.Omega.{arith}
 use lib.ListN.{length}
 use Rattle.number_lines.specs.Lines.{heldBy}
 use Rattle.cases.specs.Cases.{mostNumbers}
-use Rattle.cases.specs.Life.{roomFor}
-use Rattle.cases.proofs.Lengths.{held-most}
-use Rattle.cases.proofs.Answering.{Going, going-first, room-left, going-on, going-past, end-used, end-left, end-wrote}
+use Rattle.answering.specs.Life.{roomFor}
+use Rattle.answering.proofs.Lengths.{held-most}
+use Rattle.answering.proofs.Answering.{Going, going-first, room-left, going-on, going-past, end-used, end-left, end-wrote}
 use borrow.Author.Needs.{needs}
-use Rattle.cases.proofs.pieces.answer_piece.Statement.{statement}
-use Rattle.cases.proofs.pieces.answer_piece.Tie as tie
+use Rattle.answering.proofs.pieces.answer_piece.Statement.{statement}
+use Rattle.answering.proofs.pieces.answer_piece.Tie as tie
 
 abbrev Inv-loop : tie.InvT-loop
 Inv-loop piece words₀ out₀ held₀ used₀ at₀ words out held used at = Going piece (heldBy words₀ held₀) out₀ (heldBy words held) out used at × (length words ≡ mostNumbers)
@@ -69,7 +69,7 @@ returns c =
     let i = c .before .loop .inv .0 in
     let room = c .before .before .before .before .before .pre .1 in
     let past = c .loop-test .left in
-    (end-left room i past, (end-used room i past, end-wrote room i past))
+    (end-left room i past, (end-used room i, end-wrote room i past))
 
 pub answer-piece-spec : {M : Type 1} → statement M
 answer-piece-spec =

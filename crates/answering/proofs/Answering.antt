@@ -2,17 +2,17 @@
 use Prim.Native.Nat.{ℕ, _+_, _*_, _<_, _≤_}
 use mathlib.Core.Path.{_≡_, refl, sym, ap, _∙_}
 use mathlib.Core.Bool.{Bool, true, false, cond}
-use mathlib.Core.List.{List, [], _∷_, _++_, append-nil, append-assoc}
+use mathlib.Core.List.{List, [], _∷_, _++_}
 use native.Mathlib.Omega.{arith}
 use lib.Dec.{eqb}
-use lib.ListN.{length, drop, length-drop, take-append-drop, drop-of-length-le}
-use Rattle.texts.specs.Written.{written, Wrote}
-use Rattle.texts.proofs.Written.{wrote-more}
+use lib.ListN.{length, drop, length-drop, drop-of-length-le}
+use Rattle.texts.specs.Written.{Wrote}
+use Rattle.texts.proofs.Parts.{Putting, putting-first, putting-on, putting-end}
 use Rattle.number_lines.specs.Lines.{Held, ends, after, heldBy, ended, unended, gather, foundBy, Goes}
 use Rattle.number_lines.specs.declared.scan.Next.{Next}
 use Rattle.cases.specs.Cases.{mostNumbers, numberBytes, longestAnswer, unread, answerAt, answerAtEnd}
-use Rattle.cases.specs.Life.{answersIn, left, roomFor}
-use Rattle.cases.proofs.Lengths.{numbers, after-most, end-most}
+use Rattle.answering.specs.Life.{answersIn, left, roomFor}
+use Rattle.answering.proofs.Lengths.{numbers, after-most, end-most}
 
 -- ---- one line
 
@@ -74,20 +74,17 @@ pub record Going (piece : List ℕ) (h₀ : Held) (out₀ : List ℕ) (h : Held)
   pub small : used + numberBytes * numbers h ≤ longestAnswer + numberBytes * at
   pub size : length out ≡ length out₀
   pub after : left h (drop at piece) ≡ left h₀ piece
-  pub done : List ℕ
-  pub wrote : Wrote out₀ 0 done out used
-  pub total : done ++ answersIn h (drop at piece) ≡ answersIn h₀ piece
-
-nothing-wrote : (l : List ℕ) → Wrote l 0 [] l 0
-unfolding written
-nothing-wrote l = record { bytes = sym (take-append-drop 0 l); index = refl }
+  pub put : Putting (answersIn h₀ piece) (answersIn h (drop at piece)) out₀ out used
 
 pub going-first : (piece : List ℕ) (h : Held) (out : List ℕ) → numbers h ≤ mostNumbers → Going piece h out h out 0 0
 going-first piece h out n =
-    record { within = omega arith; small = omega (arith, n); size = refl; after = refl; done = []; wrote = nothing-wrote out; total = refl }
+    record { within = omega arith; small = omega (arith, n); size = refl; after = refl; put = putting-first (answersIn h piece) out }
 
 module _ {piece : List ℕ} {h₀ : Held} {out₀ : List ℕ} {h : Held} {out : List ℕ} {used at : ℕ}
     (room : roomFor (length piece) ≤ length out₀) (i : Going piece h₀ out₀ h out used at) where
+  pub end-used : used ≤ length out₀
+  end-used = omega (arith, room, i .small, i .within)
+
   pub room-left : used + longestAnswer ≤ length out
   room-left = omega (arith, room, i .small, i .size, i .within)
 
@@ -104,7 +101,6 @@ module _ {piece : List ℕ} {h₀ : Held} {out₀ : List ℕ} {h : Held} {out : 
           let o = g .onward e in
           let l = line-ended in
           let text = answerAtEnd (heldBy words (r .scan)) in
-          let used-is : used ≡ 0 + length (i .done) = i .wrote .index in
           let next-is : next ≡ used + length text = w .index in
           let none : numbers k ≡ 0 = ap numbers n in
           record {
@@ -112,13 +108,7 @@ module _ {piece : List ℕ} {h₀ : Held} {out₀ : List ℕ} {h : Held} {out : 
             small = omega (arith, i .small, end-most (heldBy words (r .scan)), next-is, l .few, none, o .0, o .1, length-drop at piece, length-drop (r .at) piece);
             size = z ∙ i .size;
             after = ap (λ (x : Held). left x (drop (r .at) piece)) n ∙ sym (l .after) ∙ i .after;
-            done = i .done ++ text;
-            wrote = wrote-more (omega (arith, room, i .small, i .within, used-is)) (i .wrote) w;
-            total =
-                append-assoc (i .done) text (answersIn k (drop (r .at) piece))
-                ∙ ap (λ (x : Held). i .done ++ (text ++ answersIn x (drop (r .at) piece))) n
-                ∙ ap (λ (x : List ℕ). i .done ++ x) (sym (l .answers))
-                ∙ i .total;
+            put = putting-on end-used (l .answers ∙ ap (λ (x : Held). text ++ answersIn x (drop (r .at) piece)) (sym n)) (i .put) w;
           }
 
     -- no line ends in the rest of the piece
@@ -137,9 +127,7 @@ module _ {piece : List ℕ} {h₀ : Held} {out₀ : List ℕ} {h : Held} {out : 
             small = omega (arith, i .small, l .few, i .within, length-drop at piece);
             size = i .size;
             after = rw past (sym (l .after) ∙ i .after);
-            done = i .done;
-            wrote = i .wrote;
-            total = rw past (ap (λ (x : List ℕ). i .done ++ x) (sym (l .answers)) ∙ i .total);
+            put = rw past (rw (l .answers) at (i .put));
           }
 
   -- the piece ends
@@ -147,16 +135,13 @@ module _ {piece : List ℕ} {h₀ : Held} {out₀ : List ℕ} {h : Held} {out : 
     gone : drop at piece ≡ []
     gone = drop-of-length-le piece past
 
-    pub end-used : used ≤ length out₀
-    end-used = omega (arith, room, i .small, i .within)
-
     pub end-left : h ≡ left h₀ piece
     unfolding left
     end-left = rw gone at (i .after)
 
-    pub end-wrote : Wrote out₀ 0 (answersIn h₀ piece) out used
+    no-answers : answersIn h (drop at piece) ≡ []
     unfolding answersIn
-    end-wrote =
-        let t : i .done ++ [] ≡ answersIn h₀ piece = rw gone at (i .total) in
-        let text : i .done ≡ answersIn h₀ piece = sym (append-nil (i .done)) ∙ t in
-        rw text at (i .wrote)
+    no-answers = rw gone
+
+    pub end-wrote : Wrote out₀ 0 (answersIn h₀ piece) out used
+    end-wrote = putting-end no-answers (i .put)

@@ -6,13 +6,13 @@ use mathlib.Core.List.{List, [], _∷_, _++_}
 use lib.Dec.{eqb}
 use Rattle.lines.specs.Lines.{joined}
 use Rattle.number_lines.specs.Lines.{Held, after, begun, heldBy}
 use Rattle.cases.specs.Cases.{mostNumbers, numberBytes, longestAnswer, unread, answerAtEnd, answersOf}
-use Rattle.cases.specs.declared.Cases.{Cases}
+use Rattle.answering.specs.declared.Answerer.{Answerer}
 
 -- ---- what it is: what is read of the line that is not ended yet
 
 -- what the struct keeps
-unfoldable pub stateOf : Cases → Held
+unfoldable pub stateOf : Answerer → Held
 stateOf m = heldBy (m .words) (m .scan)
 
 -- ---- what it does

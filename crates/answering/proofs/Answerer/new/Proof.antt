@@ -1,8 +1,8 @@
 -- A new machine has read nothing.
-use Rattle.cases.specs.Life.{stateOf}
+use Rattle.answering.specs.Life.{stateOf}
 use borrow.Author.Needs.{needs}
-use Rattle.cases.proofs.Cases.new.Statement.{statement}
-use Rattle.cases.proofs.Cases.new.Tie as tie
+use Rattle.answering.proofs.Answerer.new.Statement.{statement}
+use Rattle.answering.proofs.Answerer.new.Tie as tie
 
 new-requires : tie.Need-new-requires
 new-requires c κs = search needs

@@ -3,11 +3,11 @@ use mathlib.Core.Path.{ap, _∙_}
 use mathlib.Core.List.{List}
 use Prim.Native.Nat.{ℕ}
 use Rattle.number_lines.specs.Lines.{ends, heldBy}
 use Rattle.cases.specs.Cases.{answerAt, answerAtEnd}
-use Rattle.cases.proofs.Answering.{answered}
+use Rattle.answering.proofs.Answering.{answered}
 use borrow.Author.Needs.{needs}
-use Rattle.cases.proofs.pieces.answer_line.Statement.{statement}
-use Rattle.cases.proofs.pieces.answer_line.Tie as tie
+use Rattle.answering.proofs.pieces.answer_line.Statement.{statement}
+use Rattle.answering.proofs.pieces.answer_line.Tie as tie
 
 ended-requires : tie.Need-ended-requires
 ended-requires c κs = search needs
