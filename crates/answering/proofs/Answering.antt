@@ -10,7 +10,8 @@ use Rattle.texts.specs.Written.{Wrote}
 use Rattle.texts.proofs.Parts.{Putting, putting-first, putting-on, putting-end}
 use Rattle.number_lines.specs.Lines.{Held, ends, after, heldBy, ended, unended, gather, foundBy, Goes}
 use Rattle.number_lines.specs.declared.scan.Next.{Next}
-use Rattle.cases.specs.Cases.{mostNumbers, numberBytes, longestAnswer, unread, answerAt, answerAtEnd}
+use Rattle.cases.specs.Cases.{mostNumbers, numberBytes, longestAnswer}
+use Rattle.case_lines.specs.Answers.{unread, answerAt, answerAtEnd}
 use Rattle.answering.specs.Life.{answersIn, left, roomFor}
 use Rattle.answering.proofs.Lengths.{numbers, after-most, end-most}
 

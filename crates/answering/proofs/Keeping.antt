@@ -7,7 +7,7 @@ use lib.ListN.{take}
 use Rattle.texts.specs.Written.{Wrote}
 use Rattle.texts.proofs.Parts.{front}
 use Rattle.number_lines.specs.Lines.{Held, begun}
-use Rattle.cases.specs.Cases.{answerAtEnd}
+use Rattle.case_lines.specs.Answers.{answerAtEnd}
 use Rattle.answering.specs.Life.{answersAtEnd}
 
 -- a line that is begun is answered

@@ -20,7 +20,8 @@ use Rattle.numerals.specs.Print.{decimal, spaced, badLine}
 use Rattle.numerals.proofs.Decimals.{length-decimal, length-spaced}
 use Rattle.number_lines.specs.Lines.{Held, reads, spoilt, digitAfter, ends, after, heldBy}
 use Rattle.number_lines.specs.declared.scan.Scan.{Scan}
-use Rattle.cases.specs.Cases.{headNumbers, mostNumbers, numberBytes, callOf, tablesOf, txnsLength, locksLength, versionsLength, isCase, tablesLine, outcomeLine, caseLine, answerTo, answerAt, answerAtEnd}
+use Rattle.cases.specs.Cases.{headNumbers, mostNumbers, numberBytes, callOf, tablesOf, txnsLength, locksLength, versionsLength, isCase}
+use Rattle.case_lines.specs.Answers.{tablesLine, outcomeLine, caseLine, answerTo, answerAt, answerAtEnd}
 use Rattle.cases.proofs.Cased.{Case, case-is}
 
 -- ---- the tables that a call leaves

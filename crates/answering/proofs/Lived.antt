@@ -10,7 +10,8 @@ use borrow.Author.Tests.{lt-ltb}
 use Rattle.numerals.specs.Numbers.{digit, greatest}
 use Rattle.lines.specs.Lines.{joined, linesFrom, linesOf}
 use Rattle.number_lines.specs.Lines.{Held, reads, spoilt, digitAfter, ends, after, readOn, begun}
-use Rattle.cases.specs.Cases.{mostNumbers, unread, answerAtEnd, answerOf, answersOf}
+use Rattle.cases.specs.Cases.{mostNumbers}
+use Rattle.case_lines.specs.Answers.{unread, answerAtEnd, answerOf, answersOf}
 use Rattle.answering.specs.Life.{answersIn, left, answersAtEnd, putOutFrom, putOut, Lived}
 
 -- ---- a line is begun where it has a byte

@@ -6,7 +6,8 @@ use mathlib.Core.List.{List, [], _∷_, _++_}
 use lib.Dec.{eqb}
 use Rattle.lines.specs.Lines.{joined}
 use Rattle.number_lines.specs.Lines.{Held, after, begun, heldBy}
-use Rattle.cases.specs.Cases.{mostNumbers, numberBytes, longestAnswer, unread, answerAtEnd, answersOf}
+use Rattle.cases.specs.Cases.{mostNumbers, numberBytes, longestAnswer}
+use Rattle.case_lines.specs.Answers.{unread, answerAtEnd, answersOf}
 use Rattle.answering.specs.declared.Answerer.{Answerer}
 
 -- ---- what it is: what is read of the line that is not ended yet

@@ -11,7 +11,8 @@ use number_lines::Scan;
 ghost use mathlib.Core.Path.{_≡_};
 ghost use Prim.Native.Nat.{_≤_};
 ghost use lib.ListN.{length, take};
-ghost use Rattle.cases.specs.Cases.{longestAnswer, unread};
+ghost use Rattle.cases.specs.Cases.{longestAnswer};
+ghost use Rattle.case_lines.specs.Answers.{unread};
 ghost use Rattle.answering.specs.Life.{stateOf, answersIn, left, answersAtEnd, roomFor};
 
 // The numbers of the longest case, and the bytes of its answer: each number has 20 digits at most

@@ -1,12 +1,13 @@
 // The lines that end in a piece of the input, answered one after another.
-use cases::respond;
+use case_lines::respond;
 use number_lines::Scan;
 ghost use mathlib.Core.Path.{_≡_};
 ghost use Prim.Native.Nat.{_+_, _≤_};
 ghost use lib.ListN.{length};
 ghost use Rattle.texts.specs.Written.{Wrote};
 ghost use Rattle.number_lines.specs.Lines.{heldBy};
-ghost use Rattle.cases.specs.Cases.{mostNumbers, longestAnswer, answerAtEnd};
+ghost use Rattle.cases.specs.Cases.{mostNumbers, longestAnswer};
+ghost use Rattle.case_lines.specs.Answers.{answerAtEnd};
 ghost use Rattle.answering.specs.Life.{answersIn, left, roomFor};
 
 // What is read of the line that is not ended yet, and how many bytes of answers.

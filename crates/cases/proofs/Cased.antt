@@ -10,7 +10,7 @@ use borrow.Author.Tests.{leb-true, eqb-true, le-leb, lt-leb}
 use Rattle.rules.specs.Tables.{tables}
 use Rattle.call_words.specs.Calls.{knownKind}
 use Rattle.numerals.proofs.Scans.{and-left, and-right}
-use Rattle.cases.specs.Cases.{headNumbers, txnsRoom, locksRoom, versionsRoom, longestAnswer, tablesOf, txnsLength, locksLength, versionsLength, isCase, Fits}
+use Rattle.cases.specs.Cases.{headNumbers, txnsRoom, locksRoom, versionsRoom, numberBytes, longestAnswer, tablesOf, txnsLength, locksLength, versionsLength, isCase, Fits}
 
 pub take-all : (l : List ℕ) → take (length l) l ≡ l
 take-all [] = refl
@@ -74,7 +74,7 @@ case-is ns e =
     }
 
 -- three tables of these lengths, and the room for the answer line
-pub fits-case : (ns : List ℕ) (at room : ℕ) → Case ns → {t l v : List ℕ} → length t ≡ txnsLength ns → length l ≡ locksLength ns → length v ≡ versionsLength ns → at + longestAnswer ≤ room → Fits ns t l v × (at + 21 * length ns ≤ room)
+pub fits-case : (ns : List ℕ) (at room : ℕ) → Case ns → {t l v : List ℕ} → length t ≡ txnsLength ns → length l ≡ locksLength ns → length v ≡ versionsLength ns → at + longestAnswer ≤ room → Fits ns t l v × (at + numberBytes * length ns ≤ room)
 fits-case ns at room k {t} {l} {v} a b c h =
     (record { txns = a; locks = b; versions = c; all = omega (arith, a, b, c, k .all) }, omega (arith, h, k .txns, k .locks, k .versions, k .all))
 

@@ -3,7 +3,7 @@ use mathlib.Core.Path.{ap, _∙_}
 use mathlib.Core.List.{List}
 use Prim.Native.Nat.{ℕ}
 use Rattle.number_lines.specs.Lines.{ends, heldBy}
-use Rattle.cases.specs.Cases.{answerAt, answerAtEnd}
+use Rattle.case_lines.specs.Answers.{answerAt, answerAtEnd}
 use Rattle.answering.proofs.Answering.{answered}
 use borrow.Author.Needs.{needs}
 use Rattle.answering.proofs.pieces.answer_line.Statement.{statement}

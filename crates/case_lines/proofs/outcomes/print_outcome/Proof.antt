@@ -5,9 +5,9 @@ use lib.ListN.{length}
 use borrow.Author.Needs.{needs}
 use Rattle.numerals.proofs.Decimals.{length-decimal, length-spaced}
 use Rattle.texts.proofs.Written.{wrote-more}
-use Rattle.cases.specs.Cases.{outcomeLine}
-use Rattle.cases.proofs.outcomes.print_outcome.Statement.{statement}
-use Rattle.cases.proofs.outcomes.print_outcome.Tie as tie
+use Rattle.case_lines.specs.Answers.{outcomeLine}
+use Rattle.case_lines.proofs.outcomes.print_outcome.Statement.{statement}
+use Rattle.case_lines.proofs.outcomes.print_outcome.Tie as tie
 
 -- where the code and the other numbers are written, by place
 abbrev start : tie.After-decimal → tie.Start

@@ -3,9 +3,9 @@ use borrow.Author.Needs.{needs}
 use native.Mathlib.Omega.{arith}
 use mathlib.Core.Path.{sym}
 use lib.Seq.{length-take-le}
 use Rattle.cases.proofs.Cased.{Case, case-is, fits-case}
-use Rattle.cases.proofs.answers.case_line.Statement.{statement}
-use Rattle.cases.proofs.answers.case_line.Tie as tie
+use Rattle.case_lines.proofs.answers.case_line.Statement.{statement}
+use Rattle.case_lines.proofs.answers.case_line.Tie as tie
 
 -- where the rooms are made, by place, and what the test of the case says there
 abbrev locks-room : tie.After-versions-room → tie.After-locks-room

@@ -3,10 +3,10 @@ use borrow.Author.Needs.{needs}
 use native.Mathlib.Omega.{arith}
 use mathlib.Core.Path.{sym}
 use lib.Seq.{length-take-le}
-use Rattle.cases.specs.Cases.{answerAt}
+use Rattle.case_lines.specs.Answers.{answerAt}
 use Rattle.number_lines.proofs.Scanned.{held-spoilt, held-reads, take-over}
-use Rattle.cases.proofs.answers.respond.Statement.{statement}
-use Rattle.cases.proofs.answers.respond.Tie as tie
+use Rattle.case_lines.proofs.answers.respond.Statement.{statement}
+use Rattle.case_lines.proofs.answers.respond.Tie as tie
 
 print-bad-requires : tie.Need-print-bad-requires
 print-bad-requires c κs = search needs

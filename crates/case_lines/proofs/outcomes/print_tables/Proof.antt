@@ -3,9 +3,9 @@ use native.Mathlib.Omega.{arith}
 use borrow.Author.Needs.{needs}
 use Rattle.numerals.proofs.Decimals.{length-spaced}
 use Rattle.texts.proofs.Written.{wrote-more}
-use Rattle.cases.specs.Cases.{tablesLine}
-use Rattle.cases.proofs.outcomes.print_tables.Statement.{statement}
-use Rattle.cases.proofs.outcomes.print_tables.Tie as tie
+use Rattle.case_lines.specs.Answers.{tablesLine}
+use Rattle.case_lines.proofs.outcomes.print_tables.Statement.{statement}
+use Rattle.case_lines.proofs.outcomes.print_tables.Tie as tie
 
 -- where a table is written, by place
 abbrev start : tie.After-print-words → tie.Start

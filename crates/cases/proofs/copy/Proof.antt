@@ -7,8 +7,8 @@ use native.Mathlib.Numerals.{add-one}
 use lib.ListN.{length, getD, take, length-set}
 use lib.Seq.{take-suc, take-suc-set}
 use Rattle.cases.proofs.Cased.{take-all}
-use Rattle.cases.proofs.answers.copy.Statement.{statement}
-use Rattle.cases.proofs.answers.copy.Tie as tie
+use Rattle.cases.proofs.copy.Statement.{statement}
+use Rattle.cases.proofs.copy.Tie as tie
 
 abbrev Inv-loop : tie.InvT-loop
 Inv-loop from to₀ i₀ to i = (i ≤ length to₀) × (length to ≡ length to₀) × (take i to ≡ take i from)

@@ -7,8 +7,8 @@ use lib.ListN.{length}
 use Rattle.cases.specs.Cases.{headNumbers, txnsLength, locksLength, txnsRoom, locksRoom}
 use Rattle.cases.proofs.Cased.{rest-of, short-case, long-txns, long-locks, long-versions, fitting}
 use borrow.Author.Needs.{needs}
-use Rattle.cases.proofs.answers.is_case.Statement.{statement}
-use Rattle.cases.proofs.answers.is_case.Tie as tie
+use Rattle.cases.proofs.is_case.Statement.{statement}
+use Rattle.cases.proofs.is_case.Tie as tie
 
 -- the numbers and the tests that they passed, by place
 abbrev numbers : tie.Else1 → List ℕ

@@ -7,8 +7,8 @@ use Rattle.rules.specs.Step.{step}
 use Rattle.cases.specs.Cases.{callOf}
 use Rattle.cases.proofs.Cased.{filled}
 use borrow.Author.Needs.{needs}
-use Rattle.cases.proofs.answers.made.Statement.{statement}
-use Rattle.cases.proofs.answers.made.Tie as tie
+use Rattle.cases.proofs.made.Statement.{statement}
+use Rattle.cases.proofs.made.Tie as tie
 
 -- where a table is copied, and where the call is made, by place
 abbrev start : tie.After-copy → tie.Start

@@ -6,11 +6,12 @@ ghost use Prim.Native.Nat.{_+_, _*_, _<_, _≤_};
 ghost use lib.ListN.{length};
 ghost use Rattle.rules.specs.Answers.{outcome};
 ghost use Rattle.texts.specs.Written.{Wrote};
-ghost use Rattle.cases.specs.Cases.{headNumbers, tablesLine, outcomeLine};
+ghost use Rattle.cases.specs.Cases.{headNumbers, numberBytes};
+ghost use Rattle.case_lines.specs.Answers.{tablesLine, outcomeLine};
 
 // Writes the words of the three tables and the end of the line.
 fn print_tables(txns: &[u64], locks: &[u64], versions: &[u64], out: &mut [u8], at: usize) -> usize
-    requires { ⌜ at + 21 * (length (now txns) + length (now locks) + length (now versions)) < length (now out) ⌝ }
+    requires { ⌜ at + numberBytes * (length (now txns) + length (now locks) + length (now versions)) < length (now out) ⌝ }
     ensures { λ r. ⌜ Wrote (now (out .entry)) at (tablesLine (now (txns .entry)) (now (locks .entry)) (now (versions .entry))) (now (out .exit)) r ⌝ }
 {
     let c = print_words(txns, out, at);
@@ -28,7 +29,7 @@ pub(crate) fn print_outcome(
     out: &mut [u8],
     at: usize,
 ) -> usize
-    requires { ⌜ at + 21 * (headNumbers + length (now txns) + length (now locks) + length (now versions)) ≤ length (now out) ⌝ }
+    requires { ⌜ at + numberBytes * (headNumbers + length (now txns) + length (now locks) + length (now versions)) ≤ length (now out) ⌝ }
     ensures { λ r. ⌜ Wrote (now (out .entry)) at (outcomeLine (outcome answer (now (txns .entry)) (now (locks .entry)) (now (versions .entry)))) (now (out .exit)) r ⌝ }
 {
     let head = [

@@ -1,9 +1,9 @@
 -- A case has its line, and all else is bad.
 use borrow.Author.Needs.{needs}
 use mathlib.Core.Path.{sym, _∙_}
-use Rattle.cases.specs.Cases.{answerTo}
-use Rattle.cases.proofs.answers.answer.Statement.{statement}
-use Rattle.cases.proofs.answers.answer.Tie as tie
+use Rattle.case_lines.specs.Answers.{answerTo}
+use Rattle.case_lines.proofs.answers.answer.Statement.{statement}
+use Rattle.case_lines.proofs.answers.answer.Tie as tie
 
 is-case-requires : tie.Need-is-case-requires
 is-case-requires c κs = search needs

@@ -1,8 +1,8 @@
 -- What is printed is what the call left.
 use borrow.Author.Needs.{needs}
-use Rattle.cases.specs.Cases.{caseLine}
-use Rattle.cases.proofs.answers.made_line.Statement.{statement}
-use Rattle.cases.proofs.answers.made_line.Tie as tie
+use Rattle.case_lines.specs.Answers.{caseLine}
+use Rattle.case_lines.proofs.answers.made_line.Statement.{statement}
+use Rattle.case_lines.proofs.answers.made_line.Tie as tie
 
 made-requires : tie.Need-made-requires
 made-requires c κs = search needs
