@@ -34,13 +34,16 @@ answer-line-requires c κs = search needs
 same-length : tie.Need-same-length
 same-length c = search needs
 
+-- where a line is seen to be begun
+abbrev seen : tie.After-slice-known2 → tie.Else1
+seen c = c .before .before .before .before .before .before .before
+
 returns-2 : tie.Need-returns-2
 unfolding stateOf
 returns-2 c =
-    let a = c .before .before .before .before .before .before .before .before .before .before .before .args in
-    let s = a .self in
+    let s = seen c .before .before .before .before .args .self in
     let size : length (s .words) ≡ mostNumbers = search needs in
-    let t = sym (c .before .before .before .before .before .before .before .before .any .ensures (s .words) (omega arith)) ∙ not-false _ (c .before .before .before .before .before .before .before .if1 .left) in
+    let t = sym (seen c .before .any .ensures (s .words) (omega arith)) ∙ not-false _ (seen c .if1 .left) in
     let w = c .before .before .before .answer-line .ensures in
     (wrote-within w (c .before .out .given) (omega arith), last-answered (heldBy (s .words) (s .scan)) t w)
 

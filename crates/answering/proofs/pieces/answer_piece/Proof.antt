@@ -1,5 +1,5 @@
 -- Line after line, each turn past the end of one: state and output come to those of the whole piece.
-use Prim.Native.Nat.{_-_}
+use Prim.Native.Nat.{_-_, _≤_}
 use mathlib.Core.Path.{_≡_, sym, _∙_}
 use native.Mathlib.Omega.{arith}
 use lib.ListN.{length}
@@ -27,10 +27,15 @@ loop-holds c =
 next-requires : tie.Need-next-requires Inv-loop μ-loop
 next-requires c κs = search needs
 
+-- the room that is asked for
+abbrev asked : (c : tie.In-loop Inv-loop μ-loop) → roomFor (length (c .before .before .before .before .before .args .piece .now)) ≤ length (c .before .before .before .before .before .args .out .now)
+asked c = c .before .before .before .before .before .pre .1
+
 answer-line-requires : tie.Need-answer-line-requires Inv-loop μ-loop
 answer-line-requires c κs =
-    let i = c .before .before .before .before .before .before .before .before .before .loop .inv in
-    (c .before .before .before .before .before .words .given ∙ i .1, omega (arith, room-left (c .before .before .before .before .before .before .before .before .before .before .before .before .before .pre .1) (i .0)))
+    let turn = c .before .before .before .before .before .before .before .before in
+    let i = turn .before .loop .inv in
+    (c .before .before .before .before .before .words .given ∙ i .1, omega (arith, room-left (asked turn) (i .0)))
 
 new-requires : tie.Need-new-requires Inv-loop μ-loop
 new-requires c κs = search needs
@@ -44,19 +49,20 @@ loop-less c = let o = line c .before .before .before .before .next .ensures .onw
 
 loop-again : tie.Need-loop-again Inv-loop μ-loop
 loop-again c =
-    let p = line c in
-    let i = p .before .before .before .before .before .before .before .loop .inv in
-    let next = p .before .before .before .before .next in
-    (going-on (p .before .before .before .before .before .before .before .before .before .before .before .pre .1) (i .0) (next .result) (i .1) (next .ensures) (p .if1 .taken) (c .new .ensures _) (c .before .before .before .before .before .answer-line .ensures) (c .before .before .out .given), c .before .before .before .before .words2 .given ∙ p .before .before .before .words .given ∙ i .1)
+    let turn = line c .before .before .before .before .before .before in
+    let i = turn .before .loop .inv in
+    let next = line c .before .before .before .before .next in
+    (going-on (asked turn) (i .0) (next .result) (i .1) (next .ensures) (line c .if1 .taken) (c .new .ensures _) (c .before .before .before .before .before .answer-line .ensures) (c .before .before .out .given), c .before .before .before .before .words2 .given ∙ line c .before .before .before .words .given ∙ i .1)
 
 loop-less-2 : tie.Need-loop-less-2 Inv-loop μ-loop
 loop-less-2 c = omega arith
 
 loop-again-2 : tie.Need-loop-again-2 Inv-loop μ-loop
 loop-again-2 c =
-    let i = c .before .before .before .before .before .before .before .loop .inv in
+    let turn = c .before .before .before .before .before .before in
+    let i = turn .before .loop .inv in
     let next = c .before .before .before .before .next in
-    (going-past (c .before .before .before .before .before .before .before .before .before .before .before .pre .1) (i .0) (next .result) (i .1) (next .ensures) (c .if1 .left), c .before .before .before .words .given ∙ i .1)
+    (going-past (asked turn) (i .0) (next .result) (i .1) (next .ensures) (c .if1 .left), c .before .before .before .words .given ∙ i .1)
 
 same-length : tie.Need-same-length Inv-loop μ-loop
 same-length c = c .before .loop .inv .1 ∙ sym (c .before .before .before .before .before .pre .0)

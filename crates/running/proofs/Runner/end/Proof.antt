@@ -38,17 +38,21 @@ respond-requires c κs = search needs
 same-length : tie.Need-same-length
 same-length c = search needs
 
+-- where a line is seen to be begun
+abbrev seen : tie.After-slice-known2 → tie.Else1
+seen c = c .before .before .before .before .before .before .before .before .before .before .before .before .before .before
+
 returns-2 : tie.Need-returns-2
 unfolding stateOf
 returns-2 c =
-    let a = c .before .before .before .before .before .before .before .before .before .before .before .before .before .before .before .before .before .before .args in
-    let s = a .self in
+    let start = seen c .before .before .before .before in
+    let s = start .args .self in
     let h : Held = heldBy (s .lines) in
     let G : Tables = tables (s .txns) (s .locks) (s .versions) in
-    let t = sym (c .before .before .before .before .before .before .before .before .before .before .before .before .before .before .before .begun .ensures) ∙ not-false _ (c .before .before .before .before .before .before .before .before .before .before .before .before .before .before .if1 .left) in
+    let t = sym (seen c .before .begun .ensures) ∙ not-false _ (seen c .if1 .left) in
     let q = c .before .before .before .before .before .before .before .before .before .before .read-as .ensures in
     let w = c .before .before .before .before .before .respond .ensures .0 in
-    (last-used h G t q w (c .before .before .before .before .before .before .before .before .before .before .before .before .before .before .before .before .before .before .pre), last-replied h G t q w)
+    (last-used h G t q w (start .pre), last-replied h G t q w)
 
 pub end-spec : {M : Type 1} → statement M
 end-spec =

@@ -1,10 +1,11 @@
 -- Line after line, each turn past the end of one: state and output come to those of the whole piece.
-use Prim.Native.Nat.{_-_}
+use Prim.Native.Nat.{_-_, _*_, _≤_}
 use mathlib.Core.Path.{_≡_, refl, _∙_}
 use native.Mathlib.Omega.{arith}
 use lib.ListN.{length}
 use Rattle.rules.specs.Tables.{tables}
 use Rattle.lines.specs.Lines.{heldBy}
+use Rattle.running.specs.Replies.{longestReply}
 use Rattle.running.specs.Life.{state}
 use Rattle.running.proofs.Answering.{Going, going-first, room-left, going-on, going-past, end-used, end-after, end-wrote}
 use borrow.Author.Needs.{needs}
@@ -28,8 +29,14 @@ next-requires c κs = search needs
 read-as-requires : tie.Need-read-as-requires Inv-loop μ-loop
 read-as-requires c κs = search needs
 
+-- the room that is asked for
+abbrev asked : (c : tie.In-loop Inv-loop μ-loop) → longestReply * length (c .before .before .before .before .before .before .before .args .piece .now) ≤ length (c .before .before .before .before .before .before .before .args .out .now)
+asked c = c .before .before .before .before .before .before .before .pre
+
 respond-requires : tie.Need-respond-requires Inv-loop μ-loop
-respond-requires c κs = omega (arith, room-left (c .before .before .before .before .before .before .before .before .before .before .before .before .before .before .before .pre) (c .before .before .before .before .before .before .before .before .before .loop .inv .0) (c .before .before .before .before .before .before .before .before .loop-test .taken))
+respond-requires c κs =
+    let turn = c .before .before .before .before .before .before .before .before in
+    omega (arith, room-left (asked turn) (turn .before .loop .inv .0) (turn .loop-test .taken))
 
 new-requires : tie.Need-new-requires Inv-loop μ-loop
 new-requires c κs = search needs
@@ -43,20 +50,22 @@ loop-less c = let o = line c .before .before .next .ensures .onward (line c .if1
 
 loop-again : tie.Need-loop-again Inv-loop μ-loop
 loop-again c =
-    let p = line c in
-    let i = p .before .before .before .before .loop .inv in
-    let next = p .before .before .next in
+    let turn = line c .before .before .before in
+    let i = turn .before .loop .inv in
+    let next = line c .before .before .next in
+    let q = c .before .before .before .before .before .before .before .before .before .before .before .before .before .before .read-as .ensures in
     let said = c .before .before .before .before .before .before .before .before .before .respond .ensures in
-    (going-on (p .before .before .before .before .before .before .before .before .before .before .pre) (i .0) (next .result) (next .ensures) (p .if1 .taken) (c .new .ensures) (c .before .before .before .before .before .before .before .before .before .before .before .before .before .before .read-as .ensures) (said .0) (said .1) (c .before .before .out .given), c .before .before .before .before .before .before .before .before .txns .given ∙ i .1, c .before .before .before .before .before .before .locks .given ∙ i .2, c .before .before .before .before .versions .given ∙ i .3)
+    (going-on (asked turn) (i .0) (next .result) (next .ensures) (line c .if1 .taken) (c .new .ensures) q (said .0) (said .1) (c .before .before .out .given), c .before .before .before .before .before .before .before .before .txns .given ∙ i .1, c .before .before .before .before .before .before .locks .given ∙ i .2, c .before .before .before .before .versions .given ∙ i .3)
 
 loop-less-2 : tie.Need-loop-less-2 Inv-loop μ-loop
 loop-less-2 c = omega arith
 
 loop-again-2 : tie.Need-loop-again-2 Inv-loop μ-loop
 loop-again-2 c =
-    let i = c .before .before .before .before .loop .inv in
+    let turn = c .before .before .before in
+    let i = turn .before .loop .inv in
     let next = c .before .before .next in
-    (going-past (c .before .before .before .before .before .before .before .before .before .before .pre) (i .0) (next .result) (next .ensures) (c .if1 .left), i .1, i .2, i .3)
+    (going-past (asked turn) (i .0) (next .result) (next .ensures) (c .if1 .left), i .1, i .2, i .3)
 
 same-length : tie.Need-same-length Inv-loop μ-loop
 same-length c = c .before .loop .inv .1

@@ -1,5 +1,4 @@
 -- A call is made and its answer printed, else `bad`.
-use mathlib.Core.List.{List}
 use Rattle.rules.specs.Tables.{Tables, tables}
 use Rattle.running.proofs.Replied.{wrote-as, call-reply, call-after, bad-reply, bad-after}
 use borrow.Author.Needs.{needs}
@@ -43,12 +42,17 @@ same-length-4 c = search needs
 same-length-5 : tie.Need-same-length-5
 same-length-5 c = search needs
 
+-- where the call is made
+abbrev made : tie.After-slice-known9 → tie.After-call
+made c = c .before .before .before .before .before .before .before .before .before .before
+
 returns-2 : tie.Need-returns-2
 returns-2 c =
-    let a = c .before .before .before .before .before .before .before .before .before .before .before .before .before .before .before .before .before .before .before .before .before .args in
+    let line = made c .before .before .before .before .before in
+    let a = line .before .before .before .before .before .before .args in
     let G : Tables = tables (a .txns .now) (a .locks .now) (a .versions .now) in
-    let q = c .before .before .before .before .before .before .before .before .before .before .before .before .before .before .before .parsed .given .1 in
-    let e = c .before .before .before .before .before .before .before .before .before .before .call .ensures in
+    let q = line .parsed .given .1 in
+    let e = made c .call .ensures in
     (wrote-as (call-reply _ _ _ _ _ G q e) (c .before .before .print .ensures), call-after _ _ _ _ _ G q e)
 
 pub respond-spec : {M : Type 1} → statement M
