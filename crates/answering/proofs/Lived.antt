@@ -1,4 +1,4 @@
--- Whatever pieces the input comes in, all that is put out are the answers to its lines.
+-- Whatever pieces the input comes in: at any time what comes of the bytes so far, and in the end the answers to its lines.
 use Prim.Native.Nat.{ℕ, _+_, _*_, _-_, _<_}
 use mathlib.Core.Path.{_≡_, refl, sym, ap, ap₂, _∙_}
 use mathlib.Core.Bool.{Bool, true, false, cond, _&&_}
@@ -12,7 +12,7 @@ use Rattle.lines.specs.Lines.{joined, linesFrom, linesOf}
 use Rattle.number_lines.specs.Lines.{Held, reads, spoilt, digitAfter, ends, after, readOn, begun}
 use Rattle.cases.specs.Cases.{mostNumbers}
 use Rattle.case_lines.specs.Answers.{unread, answerAtEnd, answerOf, answersOf}
-use Rattle.answering.specs.Life.{answersIn, left, answersAtEnd, putOutFrom, putOut, Lived}
+use Rattle.answering.specs.Life.{answersIn, left, answersAtEnd, leftBy, answersInAll, putOut, SoFar, Lived}
 
 -- ---- a line is begun where it has a byte
 
@@ -101,14 +101,21 @@ left-append (b ∷ bs) cs h = go (eqb b 10) refl (left-append bs cs unread) (lef
     go true e next on = rw e next
     go false e next on = rw e on
 
-any-cut : (cs : List (List ℕ)) (h : Held) → putOutFrom h cs ≡ answersIn h (joined cs) ++ answersAtEnd (left h (joined cs))
-unfolding putOutFrom joined answersIn left
-any-cut [] h = refl
-any-cut (c ∷ cs) h =
-    ap (λ (x : List ℕ). answersIn h c ++ x) (any-cut cs (left h c))
-    ∙ sym (append-assoc (answersIn h c) (answersIn (left h c) (joined cs)) (answersAtEnd (left (left h c) (joined cs))))
-    ∙ ap₂ (λ (x : List ℕ) (k : Held). x ++ answersAtEnd k) (sym (answers-append c (joined cs) h)) (sym (left-append c (joined cs) h))
+left-all : (cs : List (List ℕ)) (h : Held) → leftBy h cs ≡ left h (joined cs)
+unfolding leftBy joined left
+left-all [] h = refl
+left-all (c ∷ cs) h = left-all cs (left h c) ∙ sym (left-append c (joined cs) h)
+
+answers-all : (cs : List (List ℕ)) (h : Held) → answersInAll h cs ≡ answersIn h (joined cs)
+unfolding answersInAll joined answersIn
+answers-all [] h = refl
+answers-all (c ∷ cs) h = ap (λ (x : List ℕ). answersIn h c ++ x) (answers-all cs (left h c)) ∙ sym (answers-append c (joined cs) h)
+
+pub so-far : SoFar
+unfolding SoFar
+so-far pieces = (left-all pieces unread, answers-all pieces unread)
 
 pub lived : Lived
 unfolding Lived putOut answersOf linesOf readOn
-lived pieces = any-cut pieces unread ∙ whole (joined pieces) []
+lived pieces =
+    ap₂ (λ (x : List ℕ) (h : Held). x ++ answersAtEnd h) (answers-all pieces unread) (left-all pieces unread) ∙ whole (joined pieces) []

@@ -43,16 +43,28 @@ answersAtEnd h = cond (begun h) (answerAtEnd h) []
 abbrev pub roomFor : ℕ → ℕ
 roomFor n = longestAnswer + longestAnswer + numberBytes * n
 
--- ---- from birth to the end
+-- ---- from birth on
 
--- all that is put out, piece by piece and at the end
-unfoldable pub putOutFrom : Held → List (List ℕ) → List ℕ
-putOutFrom h [] = answersAtEnd h
-putOutFrom h (piece ∷ pieces) = answersIn h piece ++ putOutFrom (left h piece) pieces
+-- what it is after some pieces, and what it has put out so far
+unfoldable pub leftBy : Held → List (List ℕ) → Held
+leftBy h [] = h
+leftBy h (piece ∷ pieces) = leftBy (left h piece) pieces
 
+unfoldable pub answersInAll : Held → List (List ℕ) → List ℕ
+answersInAll h [] = []
+answersInAll h (piece ∷ pieces) = answersIn h piece ++ answersInAll (left h piece) pieces
+
+-- what it puts out in a whole life: piece by piece, and at the end
 unfoldable pub putOut : List (List ℕ) → List ℕ
-putOut pieces = putOutFrom unread pieces
+putOut pieces = answersInAll unread pieces ++ answersAtEnd (leftBy unread pieces)
 
--- whatever pieces the input comes in, all that is put out are the answers to its lines
+-- ---- what is promised, whatever pieces the input comes in
+
+-- at any time it is, and has put out, what comes of all bytes so far as one piece
+unfoldable pub SoFar : Type 0
+SoFar =
+    (pieces : List (List ℕ)) → (leftBy unread pieces ≡ left unread (joined pieces)) × (answersInAll unread pieces ≡ answersIn unread (joined pieces))
+
+-- in the end it has put out the answers to the lines of the whole input, and nothing else
 unfoldable pub Lived : Type 0
 Lived = (pieces : List (List ℕ)) → putOut pieces ≡ answersOf (joined pieces)

@@ -40,16 +40,28 @@ afterPiece piece s = state (left (s .line) piece) (afterAll (reads (s .line) pie
 unfoldable pub repliesAtEnd : State → List ℕ
 repliesAtEnd s = repliesTo (last (s .line)) (s .tables)
 
--- ---- from birth to the end
+-- ---- from birth on
 
--- all that is put out, piece by piece and at the end
-unfoldable pub putOutFrom : State → List (List ℕ) → List ℕ
-putOutFrom s [] = repliesAtEnd s
-putOutFrom s (piece ∷ pieces) = repliesIn piece s ++ putOutFrom (afterPiece piece s) pieces
+-- what it is after some pieces, and what it has put out so far
+unfoldable pub afterPieces : List (List ℕ) → State → State
+afterPieces [] s = s
+afterPieces (piece ∷ pieces) s = afterPieces pieces (afterPiece piece s)
 
+unfoldable pub repliesInAll : List (List ℕ) → State → List ℕ
+repliesInAll [] s = []
+repliesInAll (piece ∷ pieces) s = repliesIn piece s ++ repliesInAll pieces (afterPiece piece s)
+
+-- what it puts out in a whole life: piece by piece, and at the end
 unfoldable pub putOut : List (List ℕ) → List ℕ
-putOut pieces = putOutFrom born pieces
+putOut pieces = repliesInAll pieces born ++ repliesAtEnd (afterPieces pieces born)
 
--- whatever pieces the input comes in, all that is put out are the replies to its lines
+-- ---- what is promised, whatever pieces the input comes in
+
+-- at any time it is, and has put out, what comes of all bytes so far as one piece
+unfoldable pub SoFar : Type 0
+SoFar =
+    (pieces : List (List ℕ)) → (afterPieces pieces born ≡ afterPiece (joined pieces) born) × (repliesInAll pieces born ≡ repliesIn (joined pieces) born)
+
+-- in the end it has put out the replies to the lines of the whole input, and nothing else
 unfoldable pub Lived : Type 0
 Lived = (pieces : List (List ℕ)) → putOut pieces ≡ repliesOf (joined pieces)
