@@ -79,7 +79,7 @@ whole (b ∷ bs) l = go (eqb b 10) refl (whole bs []) (whole bs (l ++ (b ∷ [])
 
 -- ---- chunk after chunk
 
-reads-append : (bs cs : List ℕ) (h : Held) → reads h (bs ++ cs) ≡ reads h bs ++ reads (left h bs) cs
+pub reads-append : (bs cs : List ℕ) (h : Held) → reads h (bs ++ cs) ≡ reads h bs ++ reads (left h bs) cs
 unfolding reads left
 reads-append [] cs h = refl
 reads-append (b ∷ bs) cs h = go (eqb b 10) refl (reads-append bs cs (short [])) (reads-append bs cs (more h b))
@@ -92,7 +92,7 @@ reads-append (b ∷ bs) cs h = go (eqb b 10) refl (reads-append bs cs (short [])
     go true e next on = rw e (ap (λ (ps : List Parsed). readAs h ∷ ps) next)
     go false e next on = rw e on
 
-left-append : (bs cs : List ℕ) (h : Held) → left h (bs ++ cs) ≡ left (left h bs) cs
+pub left-append : (bs cs : List ℕ) (h : Held) → left h (bs ++ cs) ≡ left (left h bs) cs
 unfolding left
 left-append [] cs h = refl
 left-append (b ∷ bs) cs h = go (eqb b 10) refl (left-append bs cs (short [])) (left-append bs cs (more h b))

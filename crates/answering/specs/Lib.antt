@@ -1,0 +1,2 @@
+-- The life of the machine that answers cases.
+pub mod Life

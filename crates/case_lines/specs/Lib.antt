@@ -1,0 +1,2 @@
+-- The line of a case's answer.
+pub mod Answers

@@ -1,2 +1,0 @@
--- What the runner replies, and where.
-pub mod Replies
