@@ -1,0 +1,3 @@
+-- What was handed over of a file gives the verdict on it.
+pub mod Counting
+pub mod Seeing
