@@ -1,5 +1,4 @@
 // A file's size and its two counts.
-use journal::WORD;
 use judge::Verdict;
 ghost use mathlib.Core.Path.{_≡_};
 ghost use mathlib.Core.List.{List};
@@ -10,7 +9,9 @@ ghost use Rattle.journal.specs.Format.{callCount, answerCount};
 ghost use Rattle.judge.specs.Pieces.{spoken};
 ghost use Rattle.judging.specs.Counted.{wanted, place, part, Counted, recordsBy};
 
-// The bytes of both counts, and of a record.
+// The bytes of a count, of both, and of a record.
+const ONE: u64 = journal::WORD as u64;
+
 const BOTH: u64 = 2 * journal::WORD as u64;
 
 const RECORD: u64 = journal::RECORD as u64;
@@ -76,10 +77,11 @@ impl Counts {
                 second: 0,
             };
         }
+        let place = ONE + RECORD * n;
         Counts {
             size,
             wanted: 1,
-            place: WORD as u64 + RECORD * n,
+            place,
             first: n,
             second: 0,
         }

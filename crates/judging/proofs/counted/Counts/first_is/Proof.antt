@@ -25,13 +25,13 @@ returns c =
     let a = c .before .before .args in
     (omega arith, λ file h e. calls-short file (a .self) h (a .n) e (sym (c .before .calls-stand .ensures) ∙ not-true _ (c .if1 .taken)))
 
-mul-t7 : tie.Need-mul-t7
-mul-t7 c =
+mul-place : tie.Need-mul-place
+mul-place c =
     let f : c .before .before .args .self .size ≤ greatest = search needs in
     omega (arith, there c, f)
 
-add-t8 : tie.Need-add-t8
-add-t8 c =
+add-place : tie.Need-add-place
+add-place c =
     let f : c .before .before .args .self .size ≤ greatest = search needs in
     omega (arith, there c, f)
 
@@ -41,4 +41,4 @@ returns-2 c =
     (omega arith, λ file h e. calls-there file (a .self) h (a .n) e)
 
 pub first-is-spec : {M : Type 1} → statement M
-first-is-spec = tie.close (tie.spec calls-stand-requires returns mul-t7 add-t8 returns-2)
+first-is-spec = tie.close (tie.spec calls-stand-requires returns mul-place add-place returns-2)
