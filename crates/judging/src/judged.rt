@@ -80,9 +80,10 @@ impl Judging {
             &mut locks,
             &mut versions,
         );
+        let rest = left - journal::next_piece(left);
         Judging {
             counts,
-            left: left - journal::next_piece(left),
+            left: rest,
             judge,
             txns,
             locks,

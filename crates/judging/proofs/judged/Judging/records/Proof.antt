@@ -21,8 +21,8 @@ piece-requires c κs = search needs
 next-piece-requires : tie.Need-next-piece-requires
 next-piece-requires c κs = search needs
 
-sub-t17 : tie.Need-sub-t17
-sub-t17 c = search needs
+sub-rest : tie.Need-sub-rest
+sub-rest c = search needs
 
 returns : tie.Need-returns
 returns c =
@@ -43,5 +43,5 @@ records-spec =
     slice-aggregate-piece-3
     piece-requires
     next-piece-requires
-    sub-t17
+    sub-rest
     returns)
