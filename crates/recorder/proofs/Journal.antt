@@ -12,7 +12,7 @@ use Rattle.journal.specs.Format.{callRecords, answerRecords, journalOf}
 use Rattle.recording.specs.Records.{answersTo, pieceCalls}
 use Rattle.recording.proofs.Answering.{length-answersTo}
 use Rattle.recorder.specs.First.{inputCalls, countOf}
-use Rattle.recorder.specs.Second.{Answered}
+use Rattle.recorder.specs.Second.{runJournal, Answered}
 use Rattle.recorder.specs.declared.second.Answering.{Answering}
 use Rattle.recorder.proofs.Fitting.{input-fits}
 use Rattle.recorder.proofs.Pieces.{piece-back}
@@ -23,8 +23,8 @@ count-exact input h = omega arith
 
 pub filed : (input calls put : List ℕ) (a : Answering) → Answered input calls put a → calls ≡ callRecords (inputCalls input) → length (inputCalls input) ≤ greatest →
     {first : List ℕ} → first ≡ wordBytes (a .count) →
-    first ++ (calls ++ (wordBytes (countOf input) ++ put)) ≡ journalOf (inputCalls input) (answersTo (inputCalls input) (fresh base))
-unfolding journalOf
+    first ++ (calls ++ (wordBytes (countOf input) ++ put)) ≡ runJournal input
+unfolding runJournal journalOf
 filed input calls put a h e s {first} f =
     let fs : List Fields = inputCalls input in
     let n : countOf input ≡ length fs = count-exact input s in

@@ -5,10 +5,14 @@ use mathlib.Core.List.{List}
 use lib.ListN.{length}
 use Rattle.names.specs.Sizes.{base}
 use Rattle.rules.specs.Tables.{tables, fresh}
-use Rattle.journal.specs.Format.{recordSize, answerRecords}
+use Rattle.journal.specs.Format.{recordSize, answerRecords, journalOf}
 use Rattle.recording.specs.Records.{answersTo, afterCalls, pieceCalls}
-use Rattle.recorder.specs.First.{countOf}
+use Rattle.recorder.specs.First.{inputCalls, countOf}
 use Rattle.recorder.specs.declared.second.Answering.{Answering}
+
+-- the journal of an input's run: its calls, and the answers to them from fresh tables on
+unfoldable pub runJournal : List ℕ → List ℕ
+runJournal input = journalOf (inputCalls input) (answersTo (inputCalls input) (fresh base))
 
 -- how many calls are still asked for; how many of them next, and how many bytes these have
 abbrev pub left : Answering → ℕ

@@ -7,15 +7,12 @@ ghost use mathlib.Core.Path.{_≡_};
 ghost use mathlib.Core.List.{List, [], _++_};
 ghost use Prim.Native.Nat.{ℕ, _-_, _*_, _≤_};
 ghost use lib.ListN.{length, take};
-ghost use Rattle.names.specs.Sizes.{base};
-ghost use Rattle.rules.specs.Tables.{fresh};
 ghost use Rattle.numerals.specs.Print.{followed};
 ghost use Rattle.texts.specs.Written.{Wrote};
 ghost use Rattle.journal.specs.Words.{wordBytes, greatest};
-ghost use Rattle.journal.specs.Format.{callRecords, journalOf};
-ghost use Rattle.recording.specs.Records.{answersTo};
+ghost use Rattle.journal.specs.Format.{callRecords};
 ghost use Rattle.recorder.specs.First.{inputCalls, countOf};
-ghost use Rattle.recorder.specs.Second.{left, recordsNext, bytesNext, Answered};
+ghost use Rattle.recorder.specs.Second.{runJournal, left, recordsNext, bytesNext, Answered};
 
 // A word's bytes.
 fn word(w: u64) -> [u8; 8]
@@ -119,7 +116,7 @@ impl Answering {
     // that were put out, all of it is the journal of the run.
     pub fn first(self) -> [u8; 8]
         requires { ⌜ left self ≡ 0 ⌝ }
-        ensures { λ r. ⌜ ((input calls put : List ℕ) → Answered input calls put self → calls ≡ callRecords (inputCalls input) → length (inputCalls input) ≤ greatest → r ++ (calls ++ (wordBytes (countOf input) ++ put)) ≡ journalOf (inputCalls input) (answersTo (inputCalls input) (fresh base))) ⌝ }
+        ensures { λ r. ⌜ ((input calls put : List ℕ) → Answered input calls put self → calls ≡ callRecords (inputCalls input) → length (inputCalls input) ≤ greatest → r ++ (calls ++ (wordBytes (countOf input) ++ put)) ≡ runJournal input) ⌝ }
     {
         word(self.count)
     }
