@@ -22,13 +22,13 @@ unfolding countOf
 count-exact input h = omega arith
 
 pub filed : (input calls put : List ℕ) (a : Answering) → Answered input calls put a → calls ≡ callRecords (inputCalls input) → length (inputCalls input) ≤ greatest →
-    {first : List ℕ} → first ≡ wordBytes (a .count) →
+    {first : List ℕ} → first ≡ wordBytes (countOf input) →
     first ++ (calls ++ (wordBytes (countOf input) ++ put)) ≡ runJournal input
 unfolding runJournal journalOf
 filed input calls put a h e s {first} f =
     let fs : List Fields = inputCalls input in
     let n : countOf input ≡ length fs = count-exact input s in
-    let k : first ≡ wordBytes (length fs) = f ∙ ap wordBytes (h .count ∙ n) in
+    let k : first ≡ wordBytes (length fs) = f ∙ ap wordBytes n in
     let again : pieceCalls calls ≡ fs = ap (λ (bs : List ℕ). pieceCalls bs) e ∙ piece-back (input-fits input) in
     let p : put ≡ answerRecords (answersTo fs (fresh base)) = h .answers ∙ ap (λ (gs : List Fields). answerRecords (answersTo gs (fresh base))) again in
     rw (k, n, e, p, length-answersTo fs (fresh base))

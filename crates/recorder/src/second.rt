@@ -118,7 +118,7 @@ impl Answering {
         requires { ⌜ left self ≡ 0 ⌝ }
         ensures { λ r. ⌜ ((input calls put : List ℕ) → Answered input calls put self → calls ≡ callRecords (inputCalls input) → length (inputCalls input) ≤ greatest → r ++ (calls ++ (wordBytes (countOf input) ++ put)) ≡ runJournal input) ⌝ }
     {
-        word(self.count)
+        self.second()
     }
 
     // The line of the count; how long it is.
