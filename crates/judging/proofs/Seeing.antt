@@ -15,7 +15,7 @@ use Rattle.judge.proofs.Speaking.{bytes, whole}
 use Rattle.judge.proofs.Said.{place, spoken-is}
 use Rattle.judge.proofs.Streamed.{seen-start, seen-more, replay-is}
 use Rattle.judging.specs.declared.counted.Counts.{Counts}
-use Rattle.judging.specs.declared.judged.Judging.{Judging}
+use Rattle.judging.specs.declared.lockstep.Judging.{Judging}
 use Rattle.judging.specs.Counted.{part, Counted, recordsBy}
 use Rattle.judging.specs.Handed.{recordsNext, bytesNext, passed, callsAt, answersAt, progressOf, Seen, Handed}
 

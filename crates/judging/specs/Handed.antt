@@ -1,12 +1,12 @@
 -- A file's calls and answers, as they are asked for and handed over, and what is known of them. Assumes nothing.
-use Prim.Native.Nat.{ℕ, _+_, _-_, _*_, _≤_, min}
+use Prim.Native.Nat.{ℕ, _+_, _-_, _*_, _≤_}
 use mathlib.Core.Path.{_≡_}
 use mathlib.Core.List.{List}
 use lib.ListN.{drop}
 use Rattle.journal.specs.Words.{wordSize}
-use Rattle.journal.specs.Format.{recordSize, callCount, answersPlace}
+use Rattle.journal.specs.Format.{recordSize, callCount, answersPlace, nextPiece}
 use Rattle.judge.specs.Pieces.{Progress, progress, start, seenAll, Whole}
-use Rattle.judging.specs.declared.judged.Judging.{Judging}
+use Rattle.judging.specs.declared.lockstep.Judging.{Judging}
 use Rattle.judging.specs.Counted.{Counted}
 
 -- how many records of each kind are still asked for
@@ -15,7 +15,7 @@ left j = j .left
 
 -- how many of them next, and how many bytes these have
 abbrev pub recordsNext : Judging → ℕ
-recordsNext j = min (j .left) 2048
+recordsNext j = nextPiece (j .left)
 
 abbrev pub bytesNext : Judging → ℕ
 bytesNext j = recordsNext j * recordSize

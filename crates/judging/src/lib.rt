@@ -6,7 +6,7 @@
 // another way. Each step is proved to keep to every file that the bytes so far were taken from, and
 // the last one to say that file's verdict.
 mod counted;
-mod judged;
+mod lockstep;
 
 pub use counted::Counts;
-pub use judged::Judging;
+pub use lockstep::Judging;

@@ -1,11 +1,11 @@
 -- The second pass: the calls are handed over again, and the records of their answers are put out.
-use Prim.Native.Nat.{ℕ, _-_, _*_, _≤_, min}
+use Prim.Native.Nat.{ℕ, _-_, _*_, _≤_}
 use mathlib.Core.Path.{_≡_}
 use mathlib.Core.List.{List}
 use lib.ListN.{length}
 use Rattle.names.specs.Sizes.{base}
 use Rattle.rules.specs.Tables.{tables, fresh}
-use Rattle.journal.specs.Format.{recordSize, answerRecords, journalOf}
+use Rattle.journal.specs.Format.{recordSize, answerRecords, journalOf, nextPiece}
 use Rattle.recording.specs.Records.{answersTo, afterCalls, pieceCalls}
 use Rattle.recorder.specs.First.{inputCalls, countOf}
 use Rattle.recorder.specs.declared.second.Answering.{Answering}
@@ -14,12 +14,16 @@ use Rattle.recorder.specs.declared.second.Answering.{Answering}
 unfoldable pub runJournal : List ℕ → List ℕ
 runJournal input = journalOf (inputCalls input) (answersTo (inputCalls input) (fresh base))
 
+-- the longest line of a count: a number of 20 digits, and the line's end
+abbrev pub longest : ℕ
+longest = 21
+
 -- how many calls are still asked for; how many of them next, and how many bytes these have
 abbrev pub left : Answering → ℕ
 left a = a .left
 
 abbrev pub recordsNext : Answering → ℕ
-recordsNext a = min (a .left) 2048
+recordsNext a = nextPiece (a .left)
 
 abbrev pub bytesNext : Answering → ℕ
 bytesNext a = recordsNext a * recordSize

@@ -12,7 +12,7 @@ ghost use Rattle.texts.specs.Written.{Wrote};
 ghost use Rattle.journal.specs.Words.{wordBytes, greatest};
 ghost use Rattle.journal.specs.Format.{callRecords};
 ghost use Rattle.recorder.specs.First.{inputCalls, countOf};
-ghost use Rattle.recorder.specs.Second.{runJournal, left, recordsNext, bytesNext, Answered};
+ghost use Rattle.recorder.specs.Second.{runJournal, longest, left, recordsNext, bytesNext, Answered};
 
 // A word's bytes.
 fn word(w: u64) -> [u8; 8]
@@ -33,7 +33,7 @@ pub fn unfinished() -> [u8; 8]
 
 // The line of a count.
 fn count_line(count: u64, out: &mut [u8]) -> usize
-    requires { ⌜ 21 ≤ length (now out) ⌝ }
+    requires { ⌜ longest ≤ length (now out) ⌝ }
     ensures { λ r. ⌜ r ≤ length (now (out .entry)) ⌝ }
     ensures { λ r. ⌜ Wrote (now (out .entry)) 0 (followed count 10) (now (out .exit)) r ⌝ }
 {
@@ -123,7 +123,7 @@ impl Answering {
 
     // The line of the count; how long it is.
     pub fn line(self, out: &mut [u8]) -> usize
-        requires { ⌜ 21 ≤ length (now out) ⌝ }
+        requires { ⌜ longest ≤ length (now out) ⌝ }
         ensures { λ r. ⌜ r ≤ length (now (out .entry)) ⌝ }
         ensures { λ r. ⌜ ((input calls put : List ℕ) → Answered input calls put self → Wrote (now (out .entry)) 0 (followed (countOf input) 10) (now (out .exit)) r) ⌝ }
     {

@@ -3,8 +3,8 @@ use mathlib.Core.Path.{refl, _∙_}
 use borrow.Author.Needs.{needs}
 use Rattle.judge.proofs.Judged.{made-fresh, at-start}
 use Rattle.judging.proofs.Seeing.{born}
-use Rattle.judging.proofs.judged.Judging.new.Statement.{statement}
-use Rattle.judging.proofs.judged.Judging.new.Tie as tie
+use Rattle.judging.proofs.lockstep.Judging.new.Statement.{statement}
+use Rattle.judging.proofs.lockstep.Judging.new.Tie as tie
 
 slice-aggregate-fresh : tie.Need-slice-aggregate-fresh
 slice-aggregate-fresh c = search needs

@@ -7,8 +7,8 @@ use Rattle.judge.specs.declared.Verdict.{Verdict}
 use Rattle.verdict_lines.specs.Lines.{verdictLine}
 use Rattle.verdict_lines.proofs.Said.{length-verdictLine}
 use Rattle.judging.proofs.Seeing.{said}
-use Rattle.judging.proofs.judged.Judging.line.Statement.{statement}
-use Rattle.judging.proofs.judged.Judging.line.Tie as tie
+use Rattle.judging.proofs.lockstep.Judging.line.Statement.{statement}
+use Rattle.judging.proofs.lockstep.Judging.line.Tie as tie
 
 say-requires : tie.Need-say-requires
 say-requires c κs = search needs

@@ -3,8 +3,8 @@ use Prim.Native.Nat.{ℕ, _-_}
 use mathlib.Core.Path.{refl, ap}
 use Rattle.judging.proofs.Seeing.{next}
 use borrow.Author.Needs.{needs}
-use Rattle.judging.proofs.judged.Judging.records.Statement.{statement}
-use Rattle.judging.proofs.judged.Judging.records.Tie as tie
+use Rattle.judging.proofs.lockstep.Judging.records.Statement.{statement}
+use Rattle.judging.proofs.lockstep.Judging.records.Tie as tie
 
 slice-aggregate-piece : tie.Need-slice-aggregate-piece
 slice-aggregate-piece c = search needs

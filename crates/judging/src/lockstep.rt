@@ -11,7 +11,7 @@ ghost use Prim.Native.Nat.{ℕ, _-_, _≤_};
 ghost use lib.ListN.{length};
 ghost use Rattle.texts.specs.Written.{Wrote};
 ghost use Rattle.judge.specs.Verdicts.{verdictOn};
-ghost use Rattle.verdict_lines.specs.Lines.{verdictLine};
+ghost use Rattle.verdict_lines.specs.Lines.{longest, verdictLine};
 ghost use Rattle.judging.specs.Counted.{wanted, part, Counted};
 ghost use Rattle.judging.specs.Handed.{left, recordsNext, bytesNext, callsAt, answersAt, Handed};
 
@@ -94,7 +94,7 @@ impl Judging {
     // The line that is said of the file, once no record is asked for any more; how long it is.
     pub fn line(self, out: &mut [u8]) -> usize
         requires { ⌜ left self ≡ 0 ⌝ }
-        requires { ⌜ 23 ≤ length (now out) ⌝ }
+        requires { ⌜ longest ≤ length (now out) ⌝ }
         ensures { λ r. ⌜ r ≤ length (now (out .entry)) ⌝ }
         ensures { λ r. ⌜ ((file : List ℕ) → Handed file self → Wrote (now (out .entry)) 0 (verdictLine (verdictOn file)) (now (out .exit)) r) ⌝ }
     {
