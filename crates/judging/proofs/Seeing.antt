@@ -1,23 +1,66 @@
 -- The records, piece by piece, and what is said at the end. Assumes nothing.
 use Prim.Native.Nat.{ℕ, _+_, _-_, _*_, _/_, _≤_, _<_, min}
 use mathlib.Core.Path.{_≡_, refl, sym, ap, ap₂, subst, _∙_}
+use mathlib.Core.Logic.{_≢_, ⊎-elim}
+use mathlib.Core.Bool.{Bool, true, false}
 use mathlib.Core.List.{List}
 use native.Mathlib.Omega.{arith}
+use lib.Dec.{ltb}
 use lib.ListN.{length, take, drop}
 use lib.Seq.{drop-drop}
+use borrow.Author.Tests.{ltb-true, ltb-false}
+use Rattle.rules.proofs.Tests.{same?}
 use Rattle.journal.specs.Words.{wordSize, greatest}
 use Rattle.journal.specs.Format.{recordSize, callCount, answersPlace, answerCount}
 use Rattle.judge.specs.Verdicts.{verdictOn, firstWrong}
 use Rattle.judge.specs.Pieces.{Progress, start, seenAll, seenPiece, Whole, spoken}
 use Rattle.judge.specs.declared.Verdict.{Verdict}
-use Rattle.judge.specs.declared.Verdict.the-variants.{Accepted}
-use Rattle.judge.proofs.Speaking.{bytes, whole}
+use Rattle.judge.specs.declared.Verdict.the-variants.{Accepted, Short, Unequal, LeftOver, Wrong}
+use Rattle.judge.proofs.Speaking.{bytes, short, unequal, left-over, whole}
 use Rattle.judge.proofs.Said.{place, spoken-is}
 use Rattle.judge.proofs.Streamed.{seen-start, seen-more, replay-is}
 use Rattle.judging.specs.declared.counted.Counts.{Counts}
 use Rattle.judging.specs.declared.lockstep.Judging.{Judging}
 use Rattle.judging.specs.Counted.{part, Counted, recordsBy}
 use Rattle.judging.specs.Handed.{recordsNext, bytesNext, passed, callsAt, answersAt, progressOf, Seen, Handed}
+
+-- ---- only a whole file's counts are accepted
+
+accepted-whole : (size n m : ℕ) → spoken size n m 0 ≡ Accepted → (size ≡ bytes n m) × (n ≡ m)
+accepted-whole size n m e = go (ltb size (bytes n m)) (ltb (bytes n m) size) refl refl
+  where
+    go : (a b : Bool) → ltb size (bytes n m) ≡ a → ltb (bytes n m) size ≡ b → (size ≡ bytes n m) × (n ≡ m)
+    go true b p q =
+        let s : spoken size n m 0 ≡ Short = short size n m 0 (ltb-true size (bytes n m) p) in
+        let z : _≡_ {A = ℕ} 0 1 = cc in
+        absurd (let no : ⊥ = omega arith in no)
+    go false b p q = ⊎-elim (same b q) other (same? n m)
+      where
+        enough : bytes n m ≤ size
+        enough = ltb-false size (bytes n m) p
+
+        other : n ≢ m → (size ≡ bytes n m) × (n ≡ m)
+        other d =
+            let s : spoken size n m 0 ≡ Unequal = unequal size n m 0 enough d in
+            let z : _≡_ {A = ℕ} 0 1 = cc in
+            absurd (let no : ⊥ = omega arith in no)
+
+        same : (b : Bool) → ltb (bytes n m) size ≡ b → n ≡ m → (size ≡ bytes n m) × (n ≡ m)
+        same true q i =
+            let s : spoken size n m 0 ≡ LeftOver = left-over size n m 0 (ltb-true (bytes n m) size q) i in
+            let z : _≡_ {A = ℕ} 0 1 = cc in
+            absurd (let no : ⊥ = omega arith in no)
+        same false q i =
+            let most : size ≤ bytes n m = ltb-false (bytes n m) size q in
+            (omega (arith, enough), i)
+
+some-accepted : (v : Verdict) (n : ℕ) → 0 < recordsBy v n → v ≡ Accepted
+unfolding recordsBy
+some-accepted Accepted n h = refl
+some-accepted Short n h = absurd (let no : ⊥ = omega arith in no)
+some-accepted Unequal n h = absurd (let no : ⊥ = omega arith in no)
+some-accepted LeftOver n h = absurd (let no : ⊥ = omega arith in no)
+some-accepted (Wrong k) n h = absurd (let no : ⊥ = omega arith in no)
 
 -- ---- birth
 
@@ -26,8 +69,15 @@ module _ (file : List ℕ) (j : Judging) where
       j .left ≡ recordsBy (spoken (j .counts .size) (j .counts .first) (j .counts .second) 0) (j .counts .first) →
       progressOf j ≡ start → Handed file j
   unfolding recordsBy seenAll
-  born h o l p = record { counted = h; over = o; seen = seen }
+  born h o l p = record { counted = h; over = o; whole = all; seen = seen }
     where
+      all : 0 < j .left → Whole file
+      all s =
+          let v : Verdict = spoken (j .counts .size) (j .counts .first) (j .counts .second) 0 in
+          let some : 0 < recordsBy v (j .counts .first) = omega arith in
+          let w = accepted-whole (length file) (callCount file) (answerCount file) (sym (h .said o 0) ∙ some-accepted v (j .counts .first) some) in
+          record { size = w .0; counts = w .1 }
+
       seen : Whole file → Seen file j
       seen w =
           let s : length file ≡ 2 * wordSize + recordSize * callCount file + recordSize * answerCount file = w .size in
@@ -92,6 +142,7 @@ module _ (file : List ℕ) (j : Judging) (h : Handed file j) (cs rs : List ℕ) 
       record {
         counted = subst (λ (x : Counts). Counted file x) (sym c) (h .counted);
         over = ap (λ (x : Counts). x .wanted) c ∙ h .over;
+        whole = λ s. h .whole (omega arith);
         seen = seen-next;
       }
 

@@ -1,5 +1,5 @@
 -- A file's calls and answers, as they are asked for and handed over, and what is known of them. Assumes nothing.
-use Prim.Native.Nat.{ℕ, _+_, _-_, _*_, _≤_}
+use Prim.Native.Nat.{ℕ, _+_, _-_, _*_, _≤_, _<_}
 use mathlib.Core.Path.{_≡_}
 use mathlib.Core.List.{List}
 use lib.ListN.{drop}
@@ -41,8 +41,9 @@ pub record Seen (file : List ℕ) (j : Judging) : Type 0 where
   pub within : j .left ≤ j .counts .first
   pub kept : progressOf j ≡ seenAll (passed j) (drop wordSize file) (drop (answersPlace file) file) start
 
--- what was asked for was handed over as it stands in the file
+-- what was asked for was handed over as it stands in the file; records are asked for of a whole file alone
 pub record Handed (file : List ℕ) (j : Judging) : Type 0 where
   pub counted : Counted file (j .counts)
   pub over : j .counts .wanted ≡ 0
+  pub whole : 0 < j .left → Whole file
   pub seen : Whole file → Seen file j
