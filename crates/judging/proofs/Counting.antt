@@ -29,6 +29,7 @@ too-short file size f h e =
       size = e;
       fits = f;
       most = omega arith;
+      stands = λ z. omega arith;
       start = λ z. omega arith;
       next = λ z. omega arith;
       first = λ z. omega arith;
@@ -36,12 +37,13 @@ too-short file size f h e =
       said = λ z w. short size 0 0 w (omega arith) ∙ sym (short (length file) (callCount file) (answerCount file) w (omega arith));
     }
 
-pub born : (file : List ℕ) (size : ℕ) → size ≤ greatest → size ≡ length file → Counted file (counts size 2 0 0 0)
-born file size f e =
+pub born : (file : List ℕ) (size : ℕ) → size ≤ greatest → 2 * wordSize ≤ size → size ≡ length file → Counted file (counts size 2 0 0 0)
+born file size f h e =
     record {
       size = e;
       fits = f;
       most = omega arith;
+      stands = λ z. omega arith;
       start = λ z. refl;
       next = λ z. omega arith;
       first = λ z. omega arith;
@@ -60,6 +62,7 @@ module _ (file : List ℕ) (c : Counts) (h : Counted file c) (n : ℕ) (e : n �
         size = h .size;
         fits = h .fits;
         most = omega arith;
+        stands = λ z. omega arith;
         start = λ z. omega arith;
         next = λ z. omega arith;
         first = λ z. omega arith;
@@ -70,13 +73,15 @@ module _ (file : List ℕ) (c : Counts) (h : Counted file c) (n : ℕ) (e : n �
             ∙ sym (short (length file) (callCount file) (answerCount file) w (omega arith));
       }
 
-  pub calls-there : Counted file (counts (c .size) 1 (wordSize + recordSize * n) n 0)
+  pub calls-there : 2 * wordSize + recordSize * n ≤ c .size → Counted file (counts (c .size) 1 (wordSize + recordSize * n) n 0)
   unfolding secondPlace
-  calls-there =
+  calls-there s =
+      let z : c .size ≡ length file = h .size in
       record {
         size = h .size;
         fits = h .fits;
         most = omega arith;
+        stands = λ z. omega arith;
         start = λ z. omega arith;
         next = λ z. ap (λ (k : ℕ). wordSize + recordSize * k) e;
         first = λ z. e;
@@ -92,6 +97,7 @@ both file c h o m e =
       size = h .size;
       fits = h .fits;
       most = omega arith;
+      stands = λ z. omega arith;
       start = λ z. omega arith;
       next = λ z. omega arith;
       first = λ z. omega arith;

@@ -1,9 +1,9 @@
 -- A file's size and its two counts, as they are asked for and handed over. Assumes nothing.
-use Prim.Native.Nat.{ℕ, _≤_}
+use Prim.Native.Nat.{ℕ, _+_, _≤_, _<_}
 use mathlib.Core.Path.{_≡_}
 use mathlib.Core.List.{List}
 use lib.ListN.{length, take, drop}
-use Rattle.journal.specs.Words.{greatest}
+use Rattle.journal.specs.Words.{wordSize, greatest}
 use Rattle.journal.specs.Format.{callCount, secondPlace, answerCount}
 use Rattle.judge.specs.Pieces.{Whole, spoken}
 use Rattle.judge.specs.declared.Verdict.{Verdict}
@@ -22,12 +22,13 @@ wanted c = c .wanted
 abbrev pub place : Counts → ℕ
 place c = c .place
 
--- what was asked for was handed over as it stands in the file. Once no count is asked for any more, what is said by the counts is
+-- what was asked for was handed over as it stands in the file, and a count is asked for where one stands. Once no count is asked for any more, what is said by the counts is
 -- what the file's own counts say; that need not be all of them, where the file is too short for what it says.
 pub record Counted (file : List ℕ) (c : Counts) : Type 0 where
   pub size : c .size ≡ length file
   pub fits : c .size ≤ greatest
   pub most : c .wanted ≤ 2
+  pub stands : 0 < c .wanted → c .place + wordSize ≤ length file
   pub start : c .wanted ≡ 2 → c .place ≡ 0
   pub next : c .wanted ≡ 1 → c .place ≡ secondPlace file
   pub first : c .wanted ≡ 1 → c .first ≡ callCount file

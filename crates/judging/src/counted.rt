@@ -103,7 +103,7 @@ impl Counts {
 
     // The count that was asked for, as it stands in the file.
     pub fn count(self, word: &[u8]) -> Self
-        requires { ⌜ 0 < wanted self ⌝ }
+        requires { ⌜ (0 < wanted self) × (length (now word) ≡ wordSize) ⌝ }
         ensures { λ r. ⌜ wanted r < wanted self ⌝ }
         ensures { λ r. ⌜ ((file : List ℕ) → Counted file self → now (word .entry) ≡ part file (place self) wordSize → Counted file r) ⌝ }
     {

@@ -1,10 +1,12 @@
 -- Each count as it stands in the file. Assumes nothing.
-use Prim.Native.Nat.{ℕ}
+use Prim.Native.Nat.{ℕ, _<_}
 use mathlib.Core.Path.{_≡_, refl, ap, _∙_}
 use native.Mathlib.Omega.{arith}
+use lib.ListN.{length}
 use borrow.Author.Needs.{needs}
 use Rattle.journal.specs.Words.{wordSize}
 use Rattle.judging.specs.Counted.{wanted, part, Counted}
+use Rattle.judging.proofs.Parts.{length-part}
 use Rattle.handed.proofs.counts_of.Statement.{statement}
 use Rattle.handed.proofs.counts_of.Tie as tie
 
@@ -13,6 +15,10 @@ Inv-loop file counts₀ counts = Counted file counts
 
 abbrev μ-loop : tie.MeasureT-loop
 μ-loop file counts₀ counts = wanted counts
+
+-- the word that is handed over is the one that is asked for
+word-is : (c : tie.After-part-of Inv-loop μ-loop) → c .part-of .result .now ≡ part (c .before .before .before .before .before .before .before .args .file .now) (c .before .before .before .before .loop .counts .place) wordSize
+word-is c = c .part-of .ensures ∙ ap (λ (k : ℕ). part (c .before .before .before .before .before .before .before .args .file .now) k wordSize) (c .before .at .ensures)
 
 new-requires : tie.Need-new-requires Inv-loop μ-loop
 new-requires c κs = search needs
@@ -30,7 +36,11 @@ part-of-requires : tie.Need-part-of-requires Inv-loop μ-loop
 part-of-requires c κs = search needs
 
 count-requires : tie.Need-count-requires Inv-loop μ-loop
-count-requires c κs = search needs
+count-requires c κs =
+    let l = c .before .before .before .before .loop in
+    let file = c .before .before .before .before .before .before .before .args .file .now in
+    let some : 0 < wanted (l .counts) = omega (arith, c .before .before .if1 .taken, c .before .before .before .asks .ensures) in
+    (some, ap length (word-is c) ∙ length-part file (l .counts .place) wordSize (l .inv .stands some))
 
 loop-less : tie.Need-loop-less Inv-loop μ-loop
 loop-less c = search needs
@@ -39,7 +49,7 @@ loop-again : tie.Need-loop-again Inv-loop μ-loop
 loop-again c =
     let l = c .before .before .before .before .before .loop in
     let file = c .before .before .before .before .before .before .before .before .args .file .now in
-    c .count .ensures .1 file (l .inv) (c .before .part-of .ensures ∙ ap (λ (k : ℕ). part file k wordSize) (c .before .before .at .ensures))
+    c .count .ensures .1 file (l .inv) (word-is (c .before))
 
 returns : tie.Need-returns Inv-loop μ-loop
 returns c = (omega (arith, c .if1 .left, c .before .asks .ensures), c .before .before .loop .inv)

@@ -42,7 +42,7 @@ unfolding answerCount
 returns-2 c =
     let w = c .before .before in
     let a = w .before .before .args in
-    let some : 0 < a .self .wanted = w .before .before .pre in
+    let some : 0 < a .self .wanted = w .before .before .pre .0 in
     let none = c .second-is .ensures .0 in (
       omega arith,
       λ file h p.

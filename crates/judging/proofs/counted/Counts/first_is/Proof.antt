@@ -38,7 +38,7 @@ add-place c =
 returns-2 : tie.Need-returns-2
 returns-2 c =
     let a = c .before .before .args in
-    (omega arith, λ file h e. calls-there file (a .self) h (a .n) e)
+    (omega arith, λ file h e. calls-there file (a .self) h (a .n) e (there c))
 
 pub first-is-spec : {M : Type 1} → statement M
 first-is-spec = tie.close (tie.spec calls-stand-requires returns mul-place add-place returns-2)
