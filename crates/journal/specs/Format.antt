@@ -1,6 +1,6 @@
 -- Request E1: "A journal is the calls (kind, number, item, value), then the answers (four numbers each), each section after its
 -- count". Assumes nothing.
-use Prim.Native.Nat.{ℕ, zero, suc, _+_, _*_, _≤_}
+use Prim.Native.Nat.{ℕ, zero, suc, _+_, _*_, _≤_, min}
 use mathlib.Core.List.{List, [], _∷_, _++_}
 use lib.ListN.{length, drop}
 use Rattle.names.specs.declared.Answer.{Answer}
@@ -80,6 +80,12 @@ callsOf bs = callsIn (callCount bs) (drop wordSize bs)
 
 unfoldable pub answersOf : List ℕ → List Answer
 answersOf bs = answersIn (answerCount bs) (drop (answersPlace bs) bs)
+
+-- ---- a section, piece by piece
+
+-- how many records come next, where so many are left: at most as many as 65,536 bytes have
+abbrev pub nextPiece : ℕ → ℕ
+nextPiece left = min left 2048
 
 -- ---- what can be written: 64-bit words
 

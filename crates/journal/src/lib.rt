@@ -12,8 +12,8 @@ pub use records::put_answer;
 pub use records::put_call;
 pub use words::put_word;
 pub use words::word;
-ghost use Prim.Native.Nat.{min};
 ghost use mathlib.Core.Path.{_≡_};
+ghost use Rattle.journal.specs.Format.{nextPiece};
 
 // The bytes of a word, and of a call or an answer.
 pub const WORD: usize = 8;
@@ -25,7 +25,7 @@ const PIECE: u64 = 2048;
 
 // How many records are read next, where so many are left.
 pub fn next_piece(left: u64) -> u64
-    ensures { λ r. ⌜ r ≡ min left 2048 ⌝ }
+    ensures { λ r. ⌜ r ≡ nextPiece left ⌝ }
 {
     if left < PIECE { left } else { PIECE }
 }

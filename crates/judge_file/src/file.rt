@@ -12,12 +12,6 @@ pub(crate) enum Size {
     Unknown,
 }
 
-// A word of a file.
-pub(crate) enum Count {
-    Is(u64),
-    Unread,
-}
-
 pub(crate) fn complain(path: &[u8], why: &[u8]) {
     io::write_all(STDERR_FILENO, path);
     io::write_all(STDERR_FILENO, why);
@@ -85,12 +79,11 @@ pub(crate) fn fill(fd: i32, buf: &mut [u8]) -> bool {
     got == buf.len()
 }
 
-// The next word of a file.
-pub(crate) fn read_count(fd: i32) -> Count {
-    let mut word = [0u8; journal::WORD];
-    if fill(fd, &mut word) {
-        Count::Is(journal::word(&word, 0))
+// The same from a place on.
+pub(crate) fn fill_at(fd: i32, at: u64, buf: &mut [u8]) -> bool {
+    if move_to(fd, at) {
+        fill(fd, buf)
     } else {
-        Count::Unread
+        false
     }
 }

@@ -5,7 +5,7 @@
 // pieces of whole records, so that its size does not matter. What cannot be read is told on standard
 // error, and then standard output stays empty.
 mod file;
-mod replay;
+mod handing;
 
 fn main() {
     let mut path = io::buffer();
@@ -14,5 +14,5 @@ fn main() {
         os::fail(b"the journal's name");
         return;
     }
-    replay::judge_path(&path[..n]);
+    handing::judge_path(&path[..n]);
 }

@@ -3,26 +3,30 @@
 //
 // The calls stand before their answers, so the input is gone through once: its calls are written
 // down, then read back piece by piece and made from fresh tables on. The memory that this takes
-// does not grow with the script. Until all is written the first count is the greatest word, so that
-// an unfinished journal is judged short. Whatever fails is said on standard error, and then nothing
-// is written to standard output.
+// does not grow with the script. What is written, and how much is read back, is said by the machine
+// (`recorder`): here bytes are handed over and written as they are put out. Until all is written
+// the first count is the greatest word, so that an unfinished journal is judged short. Whatever
+// fails is said on standard error, and then nothing is written to standard output.
+use journal::WORD;
 use libc::STDIN_FILENO;
 use libc::STDOUT_FILENO;
-use lines::Lines;
-use names::LOCK_WORDS;
-use names::TXN_WORDS;
-use names::VERSION_WORDS;
+use recorder::Answering;
+use recorder::Taking;
 ghost use mathlib.Core.Path.{_≡_};
-ghost use Prim.Native.Nat.{_≤_};
+ghost use mathlib.Core.Bool.{true};
 ghost use lib.ListN.{length};
-ghost use Rattle.numerals.specs.Print.{followed};
-ghost use Rattle.texts.specs.Written.{Wrote};
-ghost use Rattle.journal.specs.Words.{wordBytes};
+ghost use Rattle.recorder.specs.Second.{left};
 
-// How many calls are recorded, where nothing failed.
-enum Count {
-    All(u64),
-    Failed,
+// The machine of the first pass, and whether the input was read to its end and all was written.
+struct Read {
+    taking: Taking,
+    all: bool,
+}
+
+// The machine of the second pass, and whether all calls were read back and all answers written.
+struct Made {
+    answering: Answering,
+    all: bool,
 }
 
 // Room for the input: a line takes a byte at least and its record 32, so that the calls of what is
@@ -42,120 +46,102 @@ fn written(file: i32, bytes: &[u8], path: &[u8]) -> bool {
     all
 }
 
-// A word's bytes.
-fn word(w: u64) -> [u8; 8]
-    ensures { λ r. ⌜ r ≡ wordBytes w ⌝ }
-{
-    let mut bytes = [0u8; 8];
-    journal::put_word(&mut bytes, 0, w);
-    bytes
-}
-
-// Writes the calls of standard input. Nothing says that it ends, so the turns are counted down, from
-// a number that no run uses up.
-fn take_all(file: i32, path: &[u8]) -> Count {
+// Hands standard input over, and writes the calls. Nothing says that it ends, so the turns are
+// counted down, from a number that no run uses up.
+fn take_all(file: i32, path: &[u8]) -> Read {
     let mut input = input_buffer();
     let mut output = io::large_buffer();
-    let mut lines = Lines::new();
-    let mut count: u64 = 0;
+    let mut taking = Taking::new();
     let mut turns = u64::MAX;
     while turns > 0 {
         let got = libc::read(STDIN_FILENO, &mut input);
         if got < 0 {
             os::fail(b"standard input");
-            return Count::Failed;
+            return Read { taking, all: false };
         }
         let n = io::count(got, &input);
         if n == 0 {
             break;
         }
-        let taken = recording::take_chunk(lines, &input[..n], &mut output);
-        lines = taken.lines;
-        let used = taken.used;
+        let after = taking.chunk(&input[..n], &mut output);
+        taking = after.taking;
+        let used = after.used;
         if !written(file, &output[..used], path) {
-            return Count::Failed;
+            return Read { taking, all: false };
         }
-        count = recording::count_with(count, used);
         turns -= 1;
     }
-    let used = recording::take_last(lines, &mut output);
-    if !written(file, &output[..used], path) {
-        return Count::Failed;
-    }
-    Count::All(recording::count_with(count, used))
+    Read { taking, all: true }
 }
 
-// Reads so many calls back, and writes their answers.
-fn answer_from(
-    back: i32,
-    file: i32,
-    count: u64,
-    path: &[u8],
-    txns: &mut [u64],
-    locks: &mut [u64],
-    versions: &mut [u64],
-) -> bool {
+// Hands the calls over that are asked for, from where a file stands, and writes the answers.
+fn answer_from(born: Answering, back: i32, file: i32, path: &[u8]) -> Made
+    ensures { λ r. ⌜ (r .all ≡ true → left (r .answering) ≡ 0) ⌝ }
+{
     let mut input = io::large_buffer();
     let mut output = io::large_buffer();
-    let mut left = count;
-    while left > 0 {
-        let n = journal::next_piece(left);
-        let size = n as usize * journal::RECORD;
-        let got = io::read_full(back, &mut input[..size]);
-        if got != size {
+    let mut answering = born;
+    while answering.asks() > 0 {
+        let size = answering.bytes();
+        if io::read_full(back, &mut input[..size]) != size {
             os::fail(path);
-            return false;
+            return Made {
+                answering,
+                all: false,
+            };
         }
-        let used = recording::answer_piece(&input[..size], txns, locks, versions, &mut output);
-        if !written(file, &output[..used], path) {
-            return false;
+        answering = answering.answer(&input[..size], &mut output);
+        if !written(file, &output[..size], path) {
+            return Made {
+                answering,
+                all: false,
+            };
         }
-        left -= n;
     }
-    true
+    Made {
+        answering,
+        all: true,
+    }
 }
 
-// The same from fresh tables, with the calls behind the first count.
-fn answer_all(back: i32, file: i32, count: u64, path: &[u8]) -> bool {
-    let mut head = [0u8; journal::WORD];
-    if io::read_full(back, &mut head) != journal::WORD {
+// Whether a file could be moved behind its first count.
+fn behind_count(back: i32, path: &[u8]) -> bool {
+    let mut head = [0u8; WORD];
+    let all = io::read_full(back, &mut head) == WORD;
+    if !all {
         os::fail(path);
-        return false;
     }
-    let mut txns = [0u64; TXN_WORDS];
-    let mut locks = [0u64; LOCK_WORDS];
-    let mut versions = [0u64; VERSION_WORDS];
-    fresh::fresh(&mut txns, &mut locks, &mut versions);
-    answer_from(
-        back,
-        file,
-        count,
-        path,
-        &mut txns,
-        &mut locks,
-        &mut versions,
-    )
-}
-
-// The second count and the answers.
-fn answer_file(file: i32, count: u64, path: &[u8]) -> bool {
-    let second = word(count);
-    if !written(file, &second, path) {
-        return false;
-    }
-    let back = os::open_read(path);
-    if back < 0 {
-        os::fail(path);
-        return false;
-    }
-    let all = answer_all(back, file, count, path);
-    libc::close(back);
     all
 }
 
+// The same with the calls behind the first count of the file of this name.
+fn answer_all(answering: Answering, file: i32, path: &[u8]) -> Made
+    ensures { λ r. ⌜ (r .all ≡ true → left (r .answering) ≡ 0) ⌝ }
+{
+    let back = os::open_read(path);
+    if back < 0 {
+        os::fail(path);
+        return Made {
+            answering,
+            all: false,
+        };
+    }
+    if !behind_count(back, path) {
+        return Made {
+            answering,
+            all: false,
+        };
+    }
+    let made = answer_from(answering, back, file, path);
+    libc::close(back);
+    made
+}
+
 // The first count, once all is written.
-fn set_count(file: i32, count: u64, path: &[u8]) -> bool {
-    let first = word(count);
+fn set_count(file: i32, answering: Answering, path: &[u8]) -> bool
+    requires { ⌜ left answering ≡ 0 ⌝ }
+{
+    let first = answering.first();
     let set = libc::pwrite(file, &first, 0) == 8;
     if !set {
         os::fail(path);
@@ -163,56 +149,56 @@ fn set_count(file: i32, count: u64, path: &[u8]) -> bool {
     set
 }
 
-// The whole journal.
-fn fill(file: i32, path: &[u8]) -> Count {
-    let unfinished = word(u64::MAX);
-    if !written(file, &unfinished, path) {
-        return Count::Failed;
-    }
-    let taken = take_all(file, path);
-    let Count::All(count) = taken else {
-        return Count::Failed;
-    };
-    if !answer_file(file, count, path) {
-        return Count::Failed;
-    }
-    if !set_count(file, count, path) {
-        return Count::Failed;
-    }
-    Count::All(count)
-}
-
-// The line of a count.
-fn count_line(count: u64, out: &mut [u8]) -> usize
-    requires { ⌜ 21 ≤ length (now out) ⌝ }
-    ensures { λ r. ⌜ r ≤ length (now (out .entry)) ⌝ }
-    ensures { λ r. ⌜ Wrote (now (out .entry)) 0 (followed count 10) (now (out .exit)) r ⌝ }
-{
-    let end = numerals::decimal(count, out, 0);
-    texts::put(out, end, b'\n')
-}
-
-fn print(count: u64) {
+fn print(answering: Answering) {
     let mut out = io::buffer();
-    let used = count_line(count, &mut out);
+    let used = answering.line(&mut out);
     written(STDOUT_FILENO, &out[..used], b"standard output");
 }
 
-fn record(path: &[u8]) {
-    let file = os::open_overwrite(path);
-    if file < 0 {
-        os::fail(path);
+// What is put out at the end of the input, and the second count.
+fn end_input(taking: Taking, file: i32, path: &[u8]) -> Made {
+    let mut output = io::large_buffer();
+    let after = taking.end(&mut output);
+    let used = after.used;
+    let answering = after.answering;
+    let second = answering.second();
+    if !written(file, &output[..used], path) {
+        return Made {
+            answering,
+            all: false,
+        };
+    }
+    let all = written(file, &second, path);
+    Made { answering, all }
+}
+
+// The whole journal, in an open file.
+fn fill(file: i32, path: &[u8]) {
+    let unfinished = recorder::unfinished();
+    if !written(file, &unfinished, path) {
         return;
     }
-    let filled = fill(file, path);
-    let Count::All(count) = filled else {
+    let read = take_all(file, path);
+    if !read.all {
         return;
-    };
+    }
+    let ended = end_input(read.taking, file, path);
+    if !ended.all {
+        return;
+    }
+    let made = answer_all(ended.answering, file, path);
+    if !made.all {
+        return;
+    }
+    let answering = made.answering;
+    if !set_count(file, answering, path) {
+        return;
+    }
     if libc::close(file) < 0 {
         os::fail(path);
         return;
     }
-    print(count);
+    print(answering);
 }
 
 fn main() {
@@ -222,5 +208,10 @@ fn main() {
         os::fail(b"the journal's name");
         return;
     }
-    record(&path[..length]);
+    let file = os::open_overwrite(&path[..length]);
+    if file < 0 {
+        os::fail(&path[..length]);
+        return;
+    }
+    fill(file, &path[..length]);
 }

@@ -12,7 +12,6 @@ use Rattle.rules.specs.Step.{step}
 use Rattle.call_words.specs.Calls.{fieldsOf, callIn}
 use Rattle.call_words.specs.declared.Fields.{Fields}
 use Rattle.call_words.proofs.Inverse.{callIn-fieldsOf}
-use Rattle.lines.specs.Lines.{short, joined}
 use Rattle.script.specs.Inputs.{parsedLines}
 use Rattle.script.specs.declared.calls.Parsed.{Parsed}
 use Rattle.script.specs.declared.calls.Parsed.the-variants.{Call as Calls, Bad}
@@ -23,8 +22,9 @@ use Rattle.judge.specs.declared.Verdict.the-variants.{Accepted}
 use Rattle.judge.proofs.Runs.{length-fieldsOfAll}
 use Rattle.judge.proofs.Fitting.{journal-accepted}
 use Rattle.recording.specs.Records.{lineCalls, scriptCalls, answersTo}
-use Rattle.recorded.specs.Files.{takenAll, Whole, inputCalls, fileOf}
-use Rattle.recorded.proofs.Filed.{filed, input-fits}
+use Rattle.recorder.specs.First.{inputCalls}
+use Rattle.recorder.specs.Second.{runJournal}
+use Rattle.recorder.proofs.Fitting.{input-fits}
 
 -- what is recorded of lines is what their calls say
 lines-said : (ps : List Parsed) → fieldsOfAll (callsSaid (scriptCalls ps)) ≡ scriptCalls ps
@@ -39,14 +39,14 @@ unfolding answersFrom callsSaid answersTo
 answers-said [] G = refl
 answers-said (f ∷ fs) G = ap (λ (rs : List Answer). step base (callIn f) G .answer ∷ rs) (answers-said fs (step base (callIn f) G .after))
 
--- Request E1: a journal written from any run is accepted, however the input and the calls came in pieces
-pub recorded-accepted : (cs ps : List (List ℕ)) → Whole ps → joined ps ≡ takenAll (short []) cs →
-    length (inputCalls (joined cs)) ≤ greatest → verdictOn (fileOf cs ps) ≡ Accepted
-recorded-accepted cs ps w e h =
-    let fs : List Fields = inputCalls (joined cs) in
+-- Request E1: "a journal written from any run is accepted": what the recorder puts out of any input (`recorder: first`)
+pub recorded-accepted : (input : List ℕ) → length (inputCalls input) ≤ greatest → verdictOn (runJournal input) ≡ Accepted
+unfolding runJournal
+recorded-accepted input h =
+    let fs : List Fields = inputCalls input in
     let ks : List Call = callsSaid fs in
-    let said : fieldsOfAll ks ≡ fs = unfold inputCalls in (lines-said (parsedLines (joined cs))) in
+    let said : fieldsOfAll ks ≡ fs = unfold inputCalls in (lines-said (parsedLines input)) in
     let long : length ks ≡ length fs = sym (length-fieldsOfAll ks) ∙ ap length said in
-    let fits : Every CallFits (fieldsOfAll ks) = subst (λ (gs : List Fields). Every CallFits gs) (sym said) (input-fits (joined cs)) in
-    ap verdictOn (filed cs ps w e ∙ ap₂ journalOf (sym said) (sym (answers-said fs (fresh base))))
+    let fits : Every CallFits (fieldsOfAll ks) = subst (λ (gs : List Fields). Every CallFits gs) (sym said) (input-fits input) in
+    ap verdictOn (ap₂ journalOf (sym said) (sym (answers-said fs (fresh base))))
     ∙ journal-accepted ks fits (omega (arith, long, h))

@@ -1,3 +1,2 @@
--- Whatever script is recorded, its file is a journal that the judge accepts.
-pub mod Filed
+-- Whatever script is recorded, the judge accepts its journal.
 pub mod Accepted

@@ -50,7 +50,7 @@ unfolding lineCalls
 line-most (Call m) = omega arith
 line-most Bad = omega arith
 
-calls-most : (ps : List Parsed) → length (scriptCalls ps) ≤ length ps
+pub calls-most : (ps : List Parsed) → length (scriptCalls ps) ≤ length ps
 unfolding scriptCalls
 calls-most [] = omega arith
 calls-most (p ∷ ps) = simp length-append (omega (arith, line-most p, calls-most ps))
@@ -70,7 +70,7 @@ reads-most (b ∷ bs) h = go (eqb b 10) (reads-most bs (short [])) (reads-most b
 abbrev pub takenFrom : Held → List ℕ → ℕ → List ℕ
 takenFrom h chunk at = callRecords (scriptCalls (readsFrom h chunk at))
 
-taken-most : (h : Held) (chunk : List ℕ) (at : ℕ) → length (takenFrom h chunk at) ≤ recordSize * (length chunk - at)
+pub taken-most : (h : Held) (chunk : List ℕ) (at : ℕ) → length (takenFrom h chunk at) ≤ recordSize * (length chunk - at)
 taken-most h chunk at =
     omega (arith, length-callRecords (scriptCalls (readsFrom h chunk at)), calls-most (readsFrom h chunk at), reads-most (drop at chunk) h, length-drop at chunk)
 

@@ -9,7 +9,7 @@ use Rattle.texts.specs.Written.{Wrote}
 use Rattle.numerals.proofs.Decimals.{length-decimal}
 use Rattle.judge.specs.declared.Verdict.{Verdict}
 use Rattle.judge.specs.declared.Verdict.the-variants.{Accepted, Short, Unequal, LeftOver, Wrong}
-use Rattle.verdict_lines.specs.Lines.{acceptedLine, pointLine, wrongLine, verdictLine}
+use Rattle.verdict_lines.specs.Lines.{longest, acceptedLine, pointLine, wrongLine, verdictLine}
 
 module _ {l m : List ℕ} {at e : ℕ} {v : Verdict} where
   said : {w : Verdict} → v ≡ w → Wrote l at (verdictLine w) m e → Wrote l at (verdictLine v) m e
@@ -36,7 +36,7 @@ module _ {l m : List ℕ} {at e : ℕ} {v : Verdict} where
   said-wrong q w = said q w
 
 -- the longest is that of a wrong call: two bytes, a number and the line's end
-pub length-verdictLine : (v : Verdict) → length (verdictLine v) ≤ 23
+pub length-verdictLine : (v : Verdict) → length (verdictLine v) ≤ longest
 unfolding verdictLine
 length-verdictLine Accepted = omega arith
 length-verdictLine Short = omega arith

@@ -5,6 +5,10 @@ use Rattle.numerals.specs.Print.{decimal}
 use Rattle.judge.specs.declared.Verdict.{Verdict}
 use Rattle.judge.specs.declared.Verdict.the-variants.{Accepted, Short, Unequal, LeftOver, Wrong}
 
+-- the longest line: two bytes, a number of 20 digits, and the line's end
+abbrev pub longest : ℕ
+longest = 23
+
 abbrev pub acceptedLine : List ℕ
 acceptedLine = 97 ∷ 99 ∷ 99 ∷ 101 ∷ 112 ∷ 116 ∷ 101 ∷ 100 ∷ 10 ∷ []
 

@@ -5,9 +5,9 @@ ghost use Prim.Native.Nat.{_+_, _≤_};
 ghost use mathlib.Core.List.{[], _∷_};
 ghost use lib.ListN.{length};
 ghost use Rattle.texts.specs.Written.{Wrote};
-ghost use Rattle.verdict_lines.specs.Lines.{acceptedLine, pointLine, wrongLine, verdictLine};
+ghost use Rattle.verdict_lines.specs.Lines.{longest, acceptedLine, pointLine, wrongLine, verdictLine};
 
-// The longest line: two bytes, a number of 20 digits, and the line's end.
+// The longest line.
 pub const LONGEST: usize = 23;
 
 fn three(a: u8, b: u8, c: u8, out: &mut [u8], at: usize) -> usize
@@ -37,7 +37,7 @@ fn point(digit: u8, out: &mut [u8], at: usize) -> usize
 }
 
 fn wrong(call: u64, out: &mut [u8], at: usize) -> usize
-    requires { ⌜ at + 23 ≤ length (now out) ⌝ }
+    requires { ⌜ at + longest ≤ length (now out) ⌝ }
     ensures { λ r. ⌜ Wrote (now (out .entry)) at (wrongLine call) (now (out .exit)) r ⌝ }
 {
     let space = put(out, at, b'4');
@@ -48,7 +48,7 @@ fn wrong(call: u64, out: &mut [u8], at: usize) -> usize
 
 // Writes the line of a verdict from an index on, and answers the index after it.
 pub fn print(verdict: Verdict, out: &mut [u8], at: usize) -> usize
-    requires { ⌜ at + 23 ≤ length (now out) ⌝ }
+    requires { ⌜ at + longest ≤ length (now out) ⌝ }
     ensures { λ r. ⌜ Wrote (now (out .entry)) at (verdictLine verdict) (now (out .exit)) r ⌝ }
 {
     match verdict {

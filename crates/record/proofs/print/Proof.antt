@@ -9,17 +9,17 @@ use Rattle.record.proofs.print.Tie as tie
 buffer-requires : tie.Need-buffer-requires
 buffer-requires c κs = search needs
 
-slice-aggregate-count-line : tie.Need-slice-aggregate-count-line
-slice-aggregate-count-line c = search needs
+slice-aggregate-line : tie.Need-slice-aggregate-line
+slice-aggregate-line c = search needs
 
-count-line-requires : tie.Need-count-line-requires
-count-line-requires c κs = search needs
+line-requires : tie.Need-line-requires
+line-requires c κs = search needs
 
 array-share-prefix-out : tie.Need-array-share-prefix-out
 array-share-prefix-out c = search needs
 
 slice-aggregate-written : tie.Need-slice-aggregate-written
-slice-aggregate-written c = let l = c .before .before .count-line .ensures in let o = c .before .out2 .given in sym (length-take-le _ _ (omega arith))
+slice-aggregate-written c = sym (length-take-le _ _ (omega (arith, c .before .before .line .ensures .0, c .before .out2 .given)))
 
 slice-aggregate-written-2 : tie.Need-slice-aggregate-written-2
 slice-aggregate-written-2 c = search needs
@@ -35,8 +35,8 @@ print-spec =
     tie.close
     (tie.spec
     buffer-requires
-    slice-aggregate-count-line
-    count-line-requires
+    slice-aggregate-line
+    line-requires
     array-share-prefix-out
     slice-aggregate-written
     slice-aggregate-written-2

@@ -1,2 +1,0 @@
--- The whole file, as it is written.
-pub mod Files
