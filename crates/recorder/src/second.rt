@@ -5,7 +5,7 @@ use names::TXN_WORDS;
 use names::VERSION_WORDS;
 ghost use mathlib.Core.Path.{_≡_};
 ghost use mathlib.Core.List.{List, [], _++_};
-ghost use Prim.Native.Nat.{ℕ, _-_, _*_, _≤_};
+ghost use Prim.Native.Nat.{ℕ, _-_, _≤_};
 ghost use lib.ListN.{length, take};
 ghost use Rattle.numerals.specs.Print.{followed};
 ghost use Rattle.texts.specs.Written.{Wrote};
