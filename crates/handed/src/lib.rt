@@ -8,7 +8,7 @@ use judging::Counts;
 use judging::Judging;
 ghost use mathlib.Core.Path.{_≡_};
 ghost use Prim.Native.Nat.{_≤_, _<_};
-ghost use lib.ListN.{length, take, drop};
+ghost use lib.ListN.{length};
 ghost use Rattle.texts.specs.Written.{Wrote};
 ghost use Rattle.judge.specs.Verdicts.{verdictOn};
 ghost use Rattle.verdict_lines.specs.Lines.{longest, verdictLine};

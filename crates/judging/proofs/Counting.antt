@@ -1,10 +1,10 @@
 -- The counts, one after another. Assumes nothing.
 use Prim.Native.Nat.{ℕ, _+_, _*_, _≤_, _<_}
-use mathlib.Core.Path.{_≡_, refl, sym, ap, ap₂, _∙_}
+use mathlib.Core.Path.{_≡_, refl, sym, ap, _∙_}
 use mathlib.Core.Bool.{false}
 use mathlib.Core.List.{List}
 use native.Mathlib.Omega.{arith}
-use lib.ListN.{length, take, drop}
+use lib.ListN.{length, drop}
 use Rattle.journal.specs.Words.{wordSize, wordAt, greatest}
 use Rattle.journal.specs.Format.{recordSize, callCount, secondPlace, answerCount}
 use Rattle.journal.proofs.WordLaws.{word-drop, word-piece}

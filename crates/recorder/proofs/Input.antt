@@ -1,5 +1,5 @@
 -- Whatever chunks the input comes in, the records of its lines' calls are put out.
-use Prim.Native.Nat.{ℕ, _+_, _*_, _/_, _%_, _≤_, min}
+use Prim.Native.Nat.{ℕ, _+_, _*_, _%_, _≤_}
 use mathlib.Core.Path.{_≡_, refl, sym, ap, _∙_}
 use mathlib.Core.Bool.{Bool, true, false, cond}
 use mathlib.Core.List.{List, [], _∷_, _++_, append-nil, append-assoc}
@@ -11,7 +11,6 @@ use Rattle.lines.specs.Lines.{Held, short, begun, left, joined}
 use Rattle.script.specs.Inputs.{readAs, reads, last, chunked}
 use Rattle.script.specs.declared.calls.Parsed.{Parsed}
 use Rattle.script.proofs.Chunks.{chunks}
-use Rattle.journal.specs.Words.{greatest}
 use Rattle.journal.specs.Format.{recordSize, callRecords}
 use Rattle.journal.proofs.Sections.{length-callRecords}
 use Rattle.texts.specs.Written.{Buffer, written, buffer, put}

@@ -5,7 +5,7 @@ use names::TXN_WORDS;
 use names::VERSION_WORDS;
 ghost use mathlib.Core.Path.{_≡_};
 ghost use mathlib.Core.List.{List, [], _++_};
-ghost use Prim.Native.Nat.{ℕ, _-_, _*_, _≤_};
+ghost use Prim.Native.Nat.{ℕ, _-_, _≤_};
 ghost use lib.ListN.{length, take};
 ghost use Rattle.numerals.specs.Print.{followed};
 ghost use Rattle.texts.specs.Written.{Wrote};
@@ -112,11 +112,11 @@ impl Answering {
         word(self.count)
     }
 
-    // The first count, once every call is answered. Where the calls that were handed over are those
-    // that were put out, all of it is the journal of the run.
+    // The first count, once every call is answered. Where what was handed over is, as far as it goes,
+    // what was put out in the first pass, it is all of it, and with the answers the journal of the run.
     pub fn first(self) -> [u8; 8]
         requires { ⌜ left self ≡ 0 ⌝ }
-        ensures { λ r. ⌜ ((input calls put : List ℕ) → Answered input calls put self → calls ≡ callRecords (inputCalls input) → length (inputCalls input) ≤ greatest → r ++ (calls ++ (wordBytes (countOf input) ++ put)) ≡ runJournal input) ⌝ }
+        ensures { λ r. ⌜ ((input calls put : List ℕ) → Answered input calls put self → calls ≡ take (length calls) (callRecords (inputCalls input)) → length (inputCalls input) ≤ greatest → r ++ (calls ++ (wordBytes (countOf input) ++ put)) ≡ runJournal input) ⌝ }
     {
         self.second()
     }

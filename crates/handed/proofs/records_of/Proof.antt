@@ -1,5 +1,4 @@
 -- Piece after piece. Assumes nothing.
-use Prim.Native.Nat.{ℕ}
 use native.Mathlib.Omega.{arith}
 use borrow.Author.Needs.{needs}
 use Rattle.judging.specs.Handed.{left, Handed}

@@ -1,7 +1,5 @@
 -- The counts that are asked for become fewer; the word keeps its length.
-use Prim.Native.Nat.{_<_}
-use mathlib.Core.Path.{_≡_, refl, sym, _∙_}
-use native.Mathlib.Omega.{arith}
+use mathlib.Core.Path.{_≡_}
 use lib.ListN.{length}
 use borrow.Author.Needs.{needs}
 use Rattle.journal.specs.Words.{wordSize}

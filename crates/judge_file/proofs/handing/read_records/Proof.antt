@@ -1,12 +1,12 @@
 -- The records that are asked for become fewer; the buffers keep their lengths.
-use Prim.Native.Nat.{_*_, _≤_}
-use mathlib.Core.Path.{_≡_, refl, sym, _∙_}
+use Prim.Native.Nat.{_≤_}
+use mathlib.Core.Path.{_≡_, sym, _∙_}
 use mathlib.Core.List.{_++_}
 use native.Mathlib.Omega.{arith}
 use lib.ListN.{length, drop}
 use lib.Seq.{length-take-le, length-front}
 use borrow.Author.Needs.{needs}
-use Rattle.judging.specs.Handed.{left, bytesNext}
+use Rattle.judging.specs.Handed.{left}
 use Rattle.judge_file.proofs.handing.read_records.Statement.{statement}
 use Rattle.judge_file.proofs.handing.read_records.Tie as tie
 

@@ -1,12 +1,12 @@
 -- The first count, and then the second. Assumes nothing.
 use Prim.Native.Nat.{ℕ, _≤_, _<_}
-use mathlib.Core.Path.{_≡_, sym, ap, _∙_}
+use mathlib.Core.Path.{_≡_, ap, _∙_}
 use mathlib.Core.List.{List}
 use native.Mathlib.Omega.{arith}
 use borrow.Author.Needs.{needs}
 use Rattle.journal.specs.Words.{wordSize, wordAt}
-use Rattle.journal.specs.Format.{callCount, secondPlace, answerCount}
-use Rattle.judging.specs.Counted.{part, Counted}
+use Rattle.journal.specs.Format.{callCount, answerCount}
+use Rattle.judging.specs.Counted.{part}
 use Rattle.judging.proofs.Counting.{word-part}
 use Rattle.judging.proofs.counted.Counts.count.Statement.{statement}
 use Rattle.judging.proofs.counted.Counts.count.Tie as tie

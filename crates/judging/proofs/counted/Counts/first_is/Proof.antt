@@ -1,13 +1,11 @@
 -- The second count is asked for where it stands. Assumes nothing.
-use Prim.Native.Nat.{_+_, _*_, _≤_, _<_}
-use mathlib.Core.Path.{_≡_, sym, _∙_}
-use mathlib.Core.Bool.{false, true}
+use Prim.Native.Nat.{_+_, _*_, _≤_}
+use mathlib.Core.Path.{sym, _∙_}
 use native.Mathlib.Omega.{arith}
 use borrow.Author.Needs.{needs}
 use borrow.Author.Tests.{not-true, not-false}
 use Rattle.journal.specs.Words.{wordSize, greatest}
 use Rattle.journal.specs.Format.{recordSize}
-use Rattle.judge.specs.Pieces.{callsStand}
 use Rattle.judge.proofs.Speaking.{stand}
 use Rattle.judging.proofs.Counting.{calls-short, calls-there}
 use Rattle.judging.proofs.counted.Counts.first_is.Statement.{statement}

@@ -1,7 +1,5 @@
 -- A file has room for two counts, or is short. Assumes nothing.
-use Prim.Native.Nat.{_≤_}
 use borrow.Author.Needs.{needs}
-use Rattle.journal.specs.Words.{greatest}
 use Rattle.judging.proofs.Counting.{too-short, born}
 use Rattle.judging.proofs.counted.Counts.new.Statement.{statement}
 use Rattle.judging.proofs.counted.Counts.new.Tie as tie

@@ -1,10 +1,10 @@
 -- The calls of a chunk, and how many there are with them.
-use Prim.Native.Nat.{ℕ, _≤_}
-use mathlib.Core.Path.{_≡_, sym, ap, ap₂, subst, subst₂, _∙_}
+use Prim.Native.Nat.{ℕ}
+use mathlib.Core.Path.{sym, ap, subst₂, _∙_}
 use mathlib.Core.List.{List, _++_}
 use native.Mathlib.Omega.{arith}
-use lib.ListN.{length, take}
-use Rattle.lines.specs.Lines.{Held, heldBy, left}
+use lib.ListN.{length}
+use Rattle.lines.specs.Lines.{Held, heldBy}
 use Rattle.script.specs.Inputs.{reads}
 use Rattle.journal.specs.Format.{callRecords}
 use Rattle.recording.specs.Records.{scriptCalls, countWith}

@@ -1,9 +1,8 @@
 -- The call of the last line, and how many there are.
-use Prim.Native.Nat.{ℕ, _≤_}
-use mathlib.Core.Path.{_≡_, sym, ap, _∙_}
+use Prim.Native.Nat.{ℕ}
+use mathlib.Core.Path.{_≡_, ap, _∙_}
 use mathlib.Core.List.{List, _++_}
 use native.Mathlib.Omega.{arith}
-use lib.ListN.{length, take}
 use Rattle.lines.specs.Lines.{Held, heldBy}
 use Rattle.script.specs.Inputs.{last}
 use Rattle.journal.specs.Format.{callRecords}

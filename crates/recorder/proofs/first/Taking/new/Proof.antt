@@ -1,5 +1,5 @@
 -- Nothing is read.
-use mathlib.Core.Path.{_≡_, refl, sym, subst}
+use mathlib.Core.Path.{refl, sym, subst}
 use mathlib.Core.List.{[]}
 use Rattle.lines.specs.Lines.{Held}
 use Rattle.recorder.specs.First.{Taken, none}

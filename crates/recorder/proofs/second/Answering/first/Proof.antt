@@ -8,7 +8,7 @@ second-requires : tie.Need-second-requires
 second-requires c κs = search needs
 
 returns : tie.Need-returns
-returns c = λ input calls put h e s. filed input calls put (c .before .args .self) h e s (c .second .ensures input calls put h)
+returns c = λ input calls put h e s. filed input calls put (c .before .args .self) h (c .before .pre) e s (c .second .ensures input calls put h)
 
 pub first-spec : {M : Type 1} → statement M
 first-spec = tie.close (tie.spec second-requires returns)
