@@ -6,10 +6,7 @@ use mathlib.Core.List.{List}
 use native.Mathlib.Omega.{arith}
 use lib.ListN.{length, drop}
 use Rattle.names.specs.Sizes.{base}
-use Rattle.rules.specs.Tables.{tables, fresh, txnWords, lockWords, versionWords}
-use Rattle.rules.specs.Tested.{sizesExact}
-use Rattle.fresh.specs.Made.{freshened}
-use borrow.Author.Tests.{eq-eqb}
+use Rattle.rules.specs.Tables.{tables, fresh}
 use Rattle.journal.specs.Words.{wordSize, wordAt, greatest}
 use Rattle.journal.specs.Format.{recordSize, callCount, secondPlace, answersPlace, answerCount}
 use Rattle.judge.specs.Verdicts.{firstWrong, verdictOn}
@@ -21,11 +18,6 @@ use Rattle.judge.proofs.Said.{place, verdict-said, spoken-is}
 use Rattle.judge.proofs.Streamed.{replay-is}
 
 -- ---- the start
-
-pub made-fresh : (t l v : List ℕ) → length t ≡ txnWords base → length l ≡ lockWords base → length v ≡ versionWords base →
-    freshened base (tables t l v) ≡ fresh base
-unfolding freshened sizesExact
-made-fresh t l v a b c = rw (eq-eqb (length t) (txnWords base) a, eq-eqb (length l) (lockWords base) b, eq-eqb (length v) (versionWords base) c)
 
 pub at-start : (j : Judge) (t l v : List ℕ) → j ≡ unseen → tables t l v ≡ fresh base → progress j t l v ≡ start
 at-start j t l v e f = λ i. record { seen = e i .seen; wrong = e i .wrong; left = f i }

@@ -5,12 +5,9 @@ use mathlib.Core.List.{List, [], _∷_, _++_, append-nil, append-assoc}
 use native.Mathlib.Omega.{arith}
 use lib.ListN.{length, take, drop, length-append}
 use lib.Seq.{take-at, drop-at}
-use borrow.Author.Tests.{eq-eqb}
 use Rattle.names.specs.Sizes.{base}
 use Rattle.names.specs.declared.Answer.{Answer}
-use Rattle.rules.specs.Tables.{Tables, tables, fresh, txnWords, lockWords, versionWords}
-use Rattle.rules.specs.Tested.{sizesExact}
-use Rattle.fresh.specs.Made.{freshened}
+use Rattle.rules.specs.Tables.{Tables, tables, fresh}
 use Rattle.call_words.specs.declared.Fields.{Fields}
 use Rattle.journal.specs.Format.{recordSize, callsIn, answerBytes, callRecords, answerRecords, CallFits, Every}
 use Rattle.journal.proofs.Sections.{length-callRecords, length-answerRecords, length-callsIn, callsIn-back, calls-piece, calls-more}
@@ -45,11 +42,6 @@ piece-back {fs} h =
     rw n (ap (λ (l : List ℕ). callsIn (length fs) l) (sym (append-nil (callRecords fs))) ∙ callsIn-back [] h)
 
 -- ---- birth
-
-pub made-fresh : (t l v : List ℕ) → length t ≡ txnWords base → length l ≡ lockWords base → length v ≡ versionWords base →
-    freshened base (tables t l v) ≡ fresh base
-unfolding freshened sizesExact
-made-fresh t l v a b c = rw (eq-eqb (length t) (txnWords base) a, eq-eqb (length l) (lockWords base) b, eq-eqb (length v) (versionWords base) c)
 
 pub born : (input : List ℕ) (a : Answering) → a .count ≡ countOf input → a .left ≡ a .count → tables (a .txns) (a .locks) (a .versions) ≡ fresh base → Answered input [] [] a
 unfolding pieceCalls callsIn answersTo answerRecords afterCalls

@@ -1,14 +1,11 @@
--- Fresh tables at birth, and what is put out at the end of the input.
+-- What is put out at the end of the input.
 use Prim.Native.Nat.{ℕ, _≤_}
 use mathlib.Core.Path.{_≡_, refl, sym, _∙_}
 use mathlib.Core.Bool.{true, false}
 use mathlib.Core.List.{List, append-nil}
 use native.Mathlib.Omega.{arith}
 use lib.ListN.{length, take}
-use Rattle.names.specs.Sizes.{base}
-use Rattle.rules.specs.Tables.{Tables, tables, fresh, txnWords, lockWords, versionWords}
-use Rattle.rules.specs.Tested.{sizesExact}
-use Rattle.fresh.specs.Made.{freshened}
+use Rattle.rules.specs.Tables.{Tables}
 use Rattle.texts.specs.Written.{Wrote}
 use Rattle.texts.proofs.Parts.{front}
 use Rattle.lines.specs.Lines.{Held, begun}
@@ -17,13 +14,6 @@ use Rattle.script.specs.declared.calls.Parsed.{Parsed}
 use Rattle.running.specs.Replies.{replyTo, repliesTo, longestReply}
 use Rattle.running.specs.Life.{state, repliesAtEnd}
 use Rattle.running.proofs.Replied.{reply-most}
-
--- tables of the exact sizes are made fresh
-pub made-fresh : (t l v : List ℕ) {G : Tables} → length t ≡ txnWords base → length l ≡ lockWords base → length v ≡ versionWords base → G ≡ freshened base (tables t l v) → G ≡ fresh base
-unfolding freshened sizesExact
-made-fresh t l v a b c e = e ∙ rw (a, b, c) refl
-
--- ---- the end of the input
 
 -- a line that is begun is answered
 module _ (h : Held) (G : Tables) (t : begun h ≡ true) {out m : List ℕ} {p : Parsed} {used : ℕ} (q : p ≡ readAs h) (w : Wrote out 0 (replyTo p G) m used) where

@@ -2,7 +2,8 @@
 use mathlib.Core.Path.{refl, ap, _∙_}
 use borrow.Author.Needs.{needs}
 use Rattle.judge.specs.Pieces.{Progress, seenAll}
-use Rattle.judge.proofs.Judged.{made-fresh, at-start}
+use Rattle.fresh.proofs.Exact.{made-fresh}
+use Rattle.judge.proofs.Judged.{at-start}
 use Rattle.judge.proofs.whole.replayed.Statement.{statement}
 use Rattle.judge.proofs.whole.replayed.Tie as tie
 

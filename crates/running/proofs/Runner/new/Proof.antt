@@ -1,9 +1,9 @@
 -- A new runner keeps no byte, and fresh tables.
-use mathlib.Core.Path.{_≡_, ap₂}
+use mathlib.Core.Path.{_≡_, ap₂, _∙_}
 use lib.ListN.{length}
 use Rattle.names.specs.Sizes.{base}
 use Rattle.running.specs.Life.{state, stateOf, born}
-use Rattle.running.proofs.Keeping.{made-fresh}
+use Rattle.fresh.proofs.Exact.{made-fresh}
 use borrow.Author.Needs.{needs}
 use Rattle.running.proofs.Runner.new.Statement.{statement}
 use Rattle.running.proofs.Runner.new.Tie as tie
@@ -26,7 +26,7 @@ new-requires c κs = search needs
 returns : tie.Need-returns
 unfolding stateOf born
 returns c =
-    ap₂ state (c .new .ensures) (made-fresh _ _ _ (search needs) (search needs) (search needs) (c .before .before .before .before .fresh .ensures .1))
+    ap₂ state (c .new .ensures) (c .before .before .before .before .fresh .ensures .1 ∙ made-fresh _ _ _ (search needs) (search needs) (search needs))
 
 pub new-spec : {M : Type 1} → statement M
 new-spec =

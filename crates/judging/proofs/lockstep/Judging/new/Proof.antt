@@ -1,7 +1,8 @@
 -- From fresh tables. Assumes nothing.
 use mathlib.Core.Path.{refl, _∙_}
 use borrow.Author.Needs.{needs}
-use Rattle.judge.proofs.Judged.{made-fresh, at-start}
+use Rattle.fresh.proofs.Exact.{made-fresh}
+use Rattle.judge.proofs.Judged.{at-start}
 use Rattle.judging.proofs.Seeing.{born}
 use Rattle.judging.proofs.lockstep.Judging.new.Statement.{statement}
 use Rattle.judging.proofs.lockstep.Judging.new.Tie as tie

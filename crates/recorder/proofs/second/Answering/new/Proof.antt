@@ -1,6 +1,7 @@
 -- From fresh tables.
 use mathlib.Core.Path.{refl, _∙_}
-use Rattle.recorder.proofs.Pieces.{made-fresh, born}
+use Rattle.fresh.proofs.Exact.{made-fresh}
+use Rattle.recorder.proofs.Pieces.{born}
 use borrow.Author.Needs.{needs}
 use Rattle.recorder.proofs.second.Answering.new.Statement.{statement}
 use Rattle.recorder.proofs.second.Answering.new.Tie as tie
