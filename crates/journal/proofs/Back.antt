@@ -1,4 +1,4 @@
--- And back: bytes that are whole are the journal of what is read from them. Assumes nothing.
+-- And back: bytes that are whole are the journal of what is read from them.
 use Prim.Native.Nat.{ℕ, zero, suc, _+_, _*_, _/_, _%_, _<_, _≤_}
 use mathlib.Core.Path.{_≡_, refl, sym, ap, ap₂, _∙_}
 use mathlib.Core.List.{List, _∷_, _++_}

@@ -1,4 +1,4 @@
--- Words, records and small journals, computed. Assumes nothing.
+-- Words, records and small journals, computed.
 use mathlib.Core.Path.{_≡_, refl}
 use mathlib.Core.List.{[], _∷_, _++_}
 use lib.ListN.{replicate}

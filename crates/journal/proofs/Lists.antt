@@ -1,4 +1,4 @@
--- Pieces of a list, and what is left of it. Assumes nothing.
+-- Pieces of a list, and what is left of it.
 use Prim.Native.Nat.{ℕ, zero, suc, _-_}
 use mathlib.Core.Path.{_≡_, sym, ap, _∙_}
 use mathlib.Core.List.{List, [], _∷_}

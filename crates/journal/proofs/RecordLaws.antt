@@ -1,4 +1,4 @@
--- Records of four words: their length, that they are read back, and which bytes they are read from. Assumes nothing.
+-- Records of four words: their length, that they are read back, and which bytes they are read from.
 use Prim.Native.Nat.{ℕ, _+_, _*_, _≤_}
 use mathlib.Core.Path.{_≡_, sym, _∙_}
 use mathlib.Core.List.{List, _++_, append-assoc}

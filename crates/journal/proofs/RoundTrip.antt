@@ -1,4 +1,4 @@
--- A journal that is written is read back as it was: its counts, its places, its calls and its answers. Assumes nothing.
+-- A journal that is written is read back as it was: its counts, its places, its calls and its answers.
 use Prim.Native.Nat.{ℕ, _+_, _*_, _≤_}
 use mathlib.Core.Path.{_≡_, sym, ap, ap₂, _∙_}
 use mathlib.Core.List.{List, [], _++_, append-assoc, append-nil}

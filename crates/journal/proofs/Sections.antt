@@ -1,4 +1,4 @@
--- Records one after another: their length, that they are read back, and which bytes they are read from. Assumes nothing.
+-- Records one after another: their length, that they are read back, and which bytes they are read from.
 use Prim.Native.Nat.{ℕ, zero, suc, _+_, _-_, _*_, _≤_}
 use mathlib.Core.Path.{_≡_, refl, ap, ap₂, _∙_}
 use mathlib.Core.List.{List, [], _∷_, _++_, append-assoc}

@@ -1,4 +1,4 @@
--- A word as bytes: how many they are, that they are read back, and which bytes a word is read from. Assumes nothing.
+-- A word as bytes: how many they are, that they are read back, and which bytes a word is read from.
 use Prim.Native.Nat.{ℕ, zero, suc, _+_, _-_, _*_, _/_, _^_, _<_, _≤_}
 use mathlib.Core.Path.{_≡_, refl, sym, ap, _∙_}
 use mathlib.Core.List.{List, [], _∷_, _++_}

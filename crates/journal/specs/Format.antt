@@ -1,5 +1,5 @@
 -- Request E1: "A journal is the calls (kind, number, item, value), then the answers (four numbers each), each section after its
--- count". Assumes nothing.
+-- count".
 use Prim.Native.Nat.{ℕ, zero, suc, _+_, _*_, _≤_, min}
 use mathlib.Core.List.{List, [], _∷_, _++_}
 use lib.ListN.{length, drop}

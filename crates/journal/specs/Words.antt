@@ -1,4 +1,4 @@
--- Request E1: "all in little-endian 64-bit words". Assumes nothing.
+-- Request E1: "all in little-endian 64-bit words".
 use Prim.Native.Nat.{ℕ, zero, suc, _+_, _*_, _/_, _%_}
 use mathlib.Core.List.{List, [], _∷_}
 use lib.ListN.{getD, drop}

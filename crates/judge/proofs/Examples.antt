@@ -1,4 +1,4 @@
--- Verdicts on small files, by computation. Assumes nothing.
+-- Verdicts on small files, by computation.
 use mathlib.Core.Path.{_≡_, refl}
 use mathlib.Core.List.{[], _++_}
 use lib.ListN.{replicate}

@@ -1,4 +1,4 @@
--- What the judge finds in a whole file. Assumes nothing.
+-- What the judge finds in a whole file.
 use Prim.Native.Nat.{ℕ, _+_, _*_, _<_, _≤_}
 use mathlib.Core.Path.{_≡_, sym, ap, ap₂, _∙_}
 use mathlib.Core.Bool.{false}

@@ -1,4 +1,4 @@
--- Record by record, the first wrong call of all is found. Assumes nothing.
+-- Record by record, the first wrong call of all is found.
 use Prim.Native.Nat.{ℕ, zero, suc, _+_, _≤_, _<_}
 use mathlib.Core.Path.{_≡_, refl, sym, ap, _∙_}
 use mathlib.Core.Logic.{_≢_}

@@ -1,4 +1,4 @@
--- Only the journals of runs are accepted. Assumes nothing.
+-- Only the journals of runs are accepted.
 use Prim.Native.Nat.{ℕ, suc, _<_, _≤_}
 use mathlib.Core.Path.{_≡_, refl, sym, ap, ap₂, _∙_}
 use mathlib.Core.Logic.{⊎-elim}

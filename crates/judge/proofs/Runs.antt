@@ -1,4 +1,4 @@
--- The journal of a run is accepted. Assumes nothing.
+-- The journal of a run is accepted.
 use Prim.Native.Nat.{ℕ, suc, _≤_}
 use mathlib.Core.Path.{_≡_, refl, ap, ap₂, _∙_}
 use mathlib.Core.Bool.{Bool, true, cond, _&&_}

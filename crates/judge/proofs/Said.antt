@@ -1,4 +1,4 @@
--- What is said at the end is the verdict on the whole file. Assumes nothing.
+-- What is said at the end is the verdict on the whole file.
 use Prim.Native.Nat.{ℕ, _+_, _*_, _<_, _≤_}
 use mathlib.Core.Path.{_≡_, refl, sym, ap, _∙_}
 use mathlib.Core.Logic.{⊎-elim}

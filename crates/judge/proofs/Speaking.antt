@@ -1,4 +1,4 @@
--- The verdict, point by point. Assumes nothing.
+-- The verdict, point by point.
 use Prim.Native.Nat.{ℕ, _+_, _-_, _*_, _/_, _<_, _≤_}
 use mathlib.Core.Path.{_≡_, refl}
 use mathlib.Core.Logic.{_≢_}

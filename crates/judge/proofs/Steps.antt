@@ -1,4 +1,4 @@
--- What is kept after a call and its answer, case by case. Assumes nothing.
+-- What is kept after a call and its answer, case by case.
 use Prim.Native.Nat.{ℕ, _+_, _<_, _≤_}
 use mathlib.Core.Path.{_≡_, sym, ap, _∙_}
 use mathlib.Core.Logic.{_≢_}

@@ -1,4 +1,4 @@
--- A file that is seen in pieces gets the verdict on the whole. Assumes nothing.
+-- A file that is seen in pieces gets the verdict on the whole.
 use Prim.Native.Nat.{ℕ, zero, suc, _+_, _-_, _*_, _/_, _%_, _^_, _<_, _≤_, min}
 use mathlib.Core.Path.{_≡_, refl, sym, ap, ap₂, _∙_}
 use mathlib.Core.List.{List, [], _∷_, _++_}

@@ -1,4 +1,4 @@
--- The turns of the loop over records: what the ones to come make of what is kept is what all make of the start. Assumes nothing.
+-- The turns of the loop over records: what the ones to come make of what is kept is what all make of the start.
 use Prim.Native.Nat.{ℕ, suc, _+_, _-_, _*_, _<_, _≤_}
 use mathlib.Core.Path.{_≡_, sym, ap, ap₂, _∙_}
 use mathlib.Core.List.{List}

@@ -1,4 +1,4 @@
--- What the judge keeps while it sees a call and an answer at a time, and what it says at the end. Assumes nothing.
+-- What the judge keeps while it sees a call and an answer at a time, and what it says at the end.
 use Prim.Native.Nat.{ℕ, zero, suc, _+_, _*_, _/_, _%_, min}
 use mathlib.Core.Bool.{Bool, cond, not}
 use mathlib.Core.Path.{_≡_}

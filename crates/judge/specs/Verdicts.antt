@@ -1,7 +1,7 @@
 -- Request E1: the verdict on a whole file, as one list of bytes. "It accepts exactly when no section is short, the counts are
 -- equal, no byte is left over, and each call has a known kind, zeros in its unused fields and the answer document 01 gives.
 -- Otherwise it names the first of these four points that fails, in that order, and for the last one the first wrong call, counted
--- from 1." Assumes nothing.
+-- from 1."
 use Prim.Native.Nat.{ℕ, suc, _+_, _*_}
 use mathlib.Core.Bool.{Bool, cond, not, _&&_, _||_}
 use mathlib.Core.List.{List, [], _∷_}

@@ -1,4 +1,4 @@
--- Small files, each with its verdict: the words of a file, the bytes behind them, and what is said of it. Assumes nothing.
+-- Small files, each with its verdict: the words of a file, the bytes behind them, and what is said of it.
 use Prim.Native.Nat.{ℕ}
 use mathlib.Core.Bool.{Bool, true, _&&_}
 use mathlib.Core.List.{List, [], _∷_, _++_}

@@ -1,4 +1,4 @@
--- The counts, one after another. Assumes nothing.
+-- The counts, one after another.
 use Prim.Native.Nat.{ℕ, _+_, _*_, _≤_, _<_}
 use mathlib.Core.Path.{_≡_, refl, sym, ap, _∙_}
 use mathlib.Core.Bool.{false}

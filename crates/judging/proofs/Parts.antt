@@ -1,4 +1,4 @@
--- A file's parts, and that what is asked for of a whole file stands there. Assumes nothing.
+-- A file's parts, and that what is asked for of a whole file stands there.
 use Prim.Native.Nat.{ℕ, _+_, _-_, _*_, _≤_, _<_}
 use mathlib.Core.Path.{_≡_, sym, ap, _∙_}
 use mathlib.Core.List.{List, []}

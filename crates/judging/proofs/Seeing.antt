@@ -1,4 +1,4 @@
--- The records, piece by piece, and what is said at the end. Assumes nothing.
+-- The records, piece by piece, and what is said at the end.
 use Prim.Native.Nat.{ℕ, _+_, _-_, _*_, _/_, _≤_, _<_, min}
 use mathlib.Core.Path.{_≡_, refl, sym, ap, subst, _∙_}
 use mathlib.Core.Logic.{_≢_, ⊎-elim}

@@ -1,4 +1,4 @@
--- A file's size and its two counts, as they are asked for and handed over. Assumes nothing.
+-- A file's size and its two counts, as they are asked for and handed over.
 use Prim.Native.Nat.{ℕ, _+_, _≤_, _<_}
 use mathlib.Core.Path.{_≡_}
 use mathlib.Core.List.{List}

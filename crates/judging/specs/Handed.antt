@@ -1,4 +1,4 @@
--- A file's calls and answers, as they are asked for and handed over, and what is known of them. Assumes nothing.
+-- A file's calls and answers, as they are asked for and handed over, and what is known of them.
 use Prim.Native.Nat.{ℕ, _+_, _-_, _*_, _≤_, _<_}
 use mathlib.Core.Path.{_≡_}
 use mathlib.Core.List.{List}

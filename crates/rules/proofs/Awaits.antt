@@ -1,4 +1,4 @@
--- The awaited fields of a live update written, as a wait and a grant do, leave good tables. Assumes nothing.
+-- The awaited fields of a live update written, as a wait and a grant do, leave good tables.
 use Prim.Native.Nat.{ℕ, _≤_, _<_}
 use mathlib.Core.Path.{_≡_, refl, sym, ap, _∙_, subst}
 use mathlib.Core.Logic.{_≢_, _⊎_, inl, inr}

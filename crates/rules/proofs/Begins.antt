@@ -1,4 +1,4 @@
--- Begin leaves good tables. Assumes nothing.
+-- Begin leaves good tables.
 use Prim.Native.Nat.{ℕ, _+_, _≤_, _<_}
 use mathlib.Core.Path.{_≡_, refl, sym, ap, _∙_, subst}
 use mathlib.Core.Logic.{_≢_, _⊎_, inl, inr}

@@ -1,4 +1,4 @@
--- Bits of a word: one set or cleared, the others as they were; the word of one bit; a word below a power of two. Assumes nothing.
+-- Bits of a word: one set or cleared, the others as they were; the word of one bit; a word below a power of two.
 use Prim.Native.Nat.{ℕ, zero, suc, _+_, _-_, _*_, _/_, _%_, _^_, _≤_, _<_}
 use mathlib.Core.Path.{_≡_, refl, sym, ap, _∙_, subst}
 use mathlib.Core.Logic.{_≢_}

@@ -1,5 +1,5 @@
 -- Numbers stay within a bound: where the values of writes are at most B, so are the values in the tables and every number of an
--- answer. With the greatest word for B: what the keeper answers can be written in words. Assumes nothing.
+-- answer. With the greatest word for B: what the keeper answers can be written in words.
 use Prim.Native.Nat.{ℕ, zero, suc, _+_, _*_, _≤_, _<_}
 use mathlib.Core.Path.{sym, ap, _∙_, subst}
 use mathlib.Core.Logic.{_⊎_, ⊎-elim}

@@ -1,4 +1,4 @@
--- What each call does where nothing refuses it, as one equation. Assumes nothing.
+-- What each call does where nothing refuses it, as one equation.
 use Prim.Native.Nat.{ℕ, suc, _+_, _<_}
 use mathlib.Core.Path.{_≡_, _∙_}
 use mathlib.Core.Logic.{_≢_}

@@ -1,4 +1,4 @@
--- What a clause of good tables needs of other tables, to hold there too. Assumes nothing.
+-- What a clause of good tables needs of other tables, to hold there too.
 use Prim.Native.Nat.{ℕ, zero, suc, _-_, _≤_, _<_}
 use mathlib.Core.Path.{_≡_, refl, subst}
 use mathlib.Core.Logic.{_≢_, _⊎_, inl, inr}

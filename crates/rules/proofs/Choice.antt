@@ -1,4 +1,4 @@
--- The words of a row of versions, falling stamps, and the version that a start chooses. Assumes nothing.
+-- The words of a row of versions, falling stamps, and the version that a start chooses.
 use Prim.Native.Nat.{ℕ, zero, suc, _+_, _-_, _*_, _≤_, _<_}
 use mathlib.Core.Path.{_≡_, refl, ap, _∙_}
 use mathlib.Core.Bool.{Bool, true, false, cond}

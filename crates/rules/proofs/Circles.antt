@@ -1,4 +1,4 @@
--- The marks after n rounds on n slots are exactly the slots below n that a walk reaches. Assumes nothing.
+-- The marks after n rounds on n slots are exactly the slots below n that a walk reaches.
 use Prim.Native.Nat.{ℕ, zero, suc, _+_, _≤_, _<_}
 use mathlib.Core.Path.{_≡_, refl, sym, ap, _∙_, subst}
 use mathlib.Core.Logic.{_⊎_, inl, inr}

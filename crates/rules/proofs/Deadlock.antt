@@ -1,4 +1,4 @@
--- On good tables the computed circle is the walk, a noted wait closes circles through the caller only, and grants close none. Assumes nothing.
+-- On good tables the computed circle is the walk, a noted wait closes circles through the caller only, and grants close none.
 use Prim.Native.Nat.{ℕ, _<_}
 use mathlib.Core.Path.{_≡_, sym, ap, _∙_, subst}
 use mathlib.Core.Logic.{_≢_, _⊎_, inl, inr, _↔_}

@@ -1,4 +1,4 @@
--- The table of six cells against the conflict of wanted and held locks, on good tables. Assumes nothing.
+-- The table of six cells against the conflict of wanted and held locks, on good tables.
 use Prim.Native.Nat.{ℕ, zero, suc, _<_}
 use mathlib.Core.Path.{_≡_, refl, sym, ap, _∙_, subst}
 use mathlib.Core.Logic.{_≢_, _⊎_, inl, inr, _↔_, ⊎-elim}

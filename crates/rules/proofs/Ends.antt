@@ -1,4 +1,4 @@
--- Abort, a query's end and an update's commit leave good tables. Assumes nothing.
+-- Abort, a query's end and an update's commit leave good tables.
 use Prim.Native.Nat.{ℕ, zero, suc, _+_, _-_, _≤_, _<_}
 use mathlib.Core.Path.{_≡_, refl, sym, ap, _∙_, subst}
 use mathlib.Core.Logic.{_≢_, _⊎_, inl, inr}

@@ -1,4 +1,4 @@
--- The test of all tables says what Good says. Assumes nothing.
+-- The test of all tables says what Good says.
 use Prim.Native.Nat.{ℕ, _<_}
 use mathlib.Core.Path.{_≡_, refl, sym}
 use mathlib.Core.Logic.{_≢_, _⊎_, inl, inr, _↔_}

@@ -1,4 +1,4 @@
--- The tests of one transaction row and of one lock say what GoodTxn and GoodLock say. Assumes nothing.
+-- The tests of one transaction row and of one lock say what GoodTxn and GoodLock say.
 use Prim.Native.Nat.{ℕ, suc, _^_, _≤_, _<_}
 use mathlib.Core.Path.{_≡_, refl, sym, subst}
 use mathlib.Core.Logic.{_≢_, _⊎_, inl, inr}

@@ -1,4 +1,4 @@
--- The test of one row of versions says what GoodVersions says. Assumes nothing.
+-- The test of one row of versions says what GoodVersions says.
 use Prim.Native.Nat.{ℕ, zero, suc, _+_, _-_, _*_, _≤_, _<_}
 use mathlib.Core.Path.{_≡_, sym, ap, _∙_, subst}
 use mathlib.Core.Bool.{_&&_, _||_}

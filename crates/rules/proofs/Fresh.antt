@@ -1,4 +1,4 @@
--- Fresh tables are good. Assumes nothing.
+-- Fresh tables are good.
 use Prim.Native.Nat.{ℕ, zero, suc, _+_, _*_, _≤_, _<_}
 use mathlib.Core.Path.{_≡_, refl, sym, ap, _∙_, subst}
 use mathlib.Core.Logic.{_⊎_, inl, inr}

@@ -1,4 +1,4 @@
--- A grant leaves good tables: the awaited fields cleared, then the lock of one item changed for the caller alone. Assumes nothing.
+-- A grant leaves good tables: the awaited fields cleared, then the lock of one item changed for the caller alone.
 use Prim.Native.Nat.{ℕ, suc, _≤_, _<_}
 use mathlib.Core.Path.{_≡_, refl, sym, ap, _∙_, subst}
 use mathlib.Core.Logic.{_≢_, _⊎_, inl, inr}

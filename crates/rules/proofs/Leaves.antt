@@ -1,4 +1,4 @@
--- A transaction that leaves: its locks go, then its row, and good tables stay good. Assumes nothing.
+-- A transaction that leaves: its locks go, then its row, and good tables stay good.
 use Prim.Native.Nat.{ℕ, suc, _≤_, _<_}
 use mathlib.Core.Path.{_≡_, refl, sym, ap, _∙_, subst}
 use mathlib.Core.Logic.{_≢_, _⊎_, inl, inr}

@@ -1,5 +1,5 @@
 -- What is kept of a row where at most one of its versions lost its readers: when one who read it leaves, and when a new version
--- comes in front. Assumes nothing.
+-- comes in front.
 use Prim.Native.Nat.{ℕ, zero, suc, _+_, _<_}
 use mathlib.Core.Path.{_≡_, refl, sym, ap, _∙_, subst}
 use mathlib.Core.Logic.{_≢_, _⊎_, inl, inr}

@@ -1,4 +1,4 @@
--- How many places are named by some element of a list: at most as many as there are elements. Assumes nothing.
+-- How many places are named by some element of a list: at most as many as there are elements.
 use Prim.Native.Nat.{ℕ, zero, suc, _+_, _≤_, _<_}
 use mathlib.Core.Path.{_≡_, refl}
 use mathlib.Core.Bool.{Bool, true, false, _&&_, _||_}

@@ -1,4 +1,4 @@
--- Request E2: how many items a slot holds exclusively, and when one more is too many. Assumes nothing.
+-- Request E2: how many items a slot holds exclusively, and when one more is too many.
 use Prim.Native.Nat.{ℕ, suc, _≤_, _<_}
 use mathlib.Core.Path.{_≡_, sym, subst}
 use mathlib.Core.Logic.{_≢_, _⊎_, inl, inr}

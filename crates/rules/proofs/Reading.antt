@@ -1,4 +1,4 @@
--- Whom a version has for readers: those whose start is from its stamp on and below the stamp before it. Assumes nothing.
+-- Whom a version has for readers: those whose start is from its stamp on and below the stamp before it.
 use Prim.Native.Nat.{ℕ, suc, _<_, _≤_}
 use mathlib.Core.Path.{_≡_, sym, ap, subst, fun-ext}
 use mathlib.Core.Logic.{_⊎_, inl, inr}

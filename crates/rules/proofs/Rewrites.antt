@@ -1,4 +1,4 @@
--- A table of versions whose rows are all rewritten and trimmed: its size, its rows, its versions. Assumes nothing.
+-- A table of versions whose rows are all rewritten and trimmed: its size, its rows, its versions.
 use Prim.Native.Nat.{ℕ, _*_, _≤_, _<_}
 use mathlib.Core.Path.{_≡_, ap, _∙_}
 use mathlib.Core.List.{List}

@@ -1,4 +1,4 @@
--- Rows of a table: a test of every row says what it says, and a table whose rows are replaced has the new rows. Assumes nothing.
+-- Rows of a table: a test of every row says what it says, and a table whose rows are replaced has the new rows.
 use Prim.Native.Nat.{ℕ, zero, suc, _+_, _*_, _≤_, _<_}
 use mathlib.Core.Path.{_≡_, refl, sym, ap, _∙_}
 use mathlib.Core.Bool.{Bool}

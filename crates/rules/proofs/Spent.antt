@@ -1,4 +1,4 @@
--- Request E2: when code 11 comes. Assumes nothing.
+-- Request E2: when code 11 comes.
 use Prim.Native.Nat.{ℕ, _<_}
 use mathlib.Core.Path.{_≡_, refl, ap}
 use mathlib.Core.Logic.{_↔_}

@@ -1,4 +1,4 @@
--- The starts of the live queries: whose they are, how many there are, and when they stay the same. Assumes nothing.
+-- The starts of the live queries: whose they are, how many there are, and when they stay the same.
 use Prim.Native.Nat.{ℕ, zero, suc, _+_, _≤_, _<_}
 use mathlib.Core.Path.{_≡_, refl, sym, ap, _∙_}
 use mathlib.Core.Logic.{_≢_, _⊎_, inl, inr}

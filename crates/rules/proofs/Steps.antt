@@ -1,4 +1,4 @@
--- What `step` answers on good tables and on bad ones, and that no second outcome fits. Assumes nothing.
+-- What `step` answers on good tables and on bad ones, and that no second outcome fits.
 use mathlib.Core.Path.{_≡_, refl}
 use mathlib.Core.Bool.{Bool, true, false, cond}
 use Rattle.names.specs.declared.Sizes.{Sizes}

@@ -1,4 +1,4 @@
--- Tests as facts: T b says that b is true. Assumes nothing.
+-- Tests as facts: T b says that b is true.
 use Prim.Native.Nat.{ℕ}
 use mathlib.Core.Path.{_≡_, refl, sym, subst}
 use mathlib.Core.Logic.{_≢_, _⊎_, inl, inr}

@@ -1,4 +1,4 @@
--- What is kept of a row of versions, and that the words of what is kept are a good row. Assumes nothing.
+-- What is kept of a row of versions, and that the words of what is kept are a good row.
 use Prim.Native.Nat.{ℕ, zero, suc, _+_, _-_, _*_, _≤_, _<_}
 use mathlib.Core.Path.{_≡_, refl, sym, ap, _∙_, subst}
 use mathlib.Core.Logic.{_≢_, _⊎_, inl, inr}

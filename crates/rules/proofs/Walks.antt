@@ -1,4 +1,4 @@
--- Walks: what new links do to circles, and the computed circles of the tables are the walks. Assumes nothing.
+-- Walks: what new links do to circles, and the computed circles of the tables are the walks.
 use Prim.Native.Nat.{ℕ, _<_}
 use mathlib.Core.Path.{_≡_, refl, subst}
 use mathlib.Core.Logic.{_≢_, _⊎_, inl, inr}

@@ -1,5 +1,5 @@
 -- Document 01, "Tables are good when all of this holds": a field for each clause, in the document's order. The test that the calls
--- make is in Tested; the two are proved equal. Assumes nothing.
+-- make is in Tested; the two are proved equal.
 use Prim.Native.Nat.{ℕ, _-_, _*_, _≤_, _<_}
 use mathlib.Core.Path.{_≡_}
 use mathlib.Core.Logic.{_≢_, _⊎_, _↔_}

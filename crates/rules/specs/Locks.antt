@@ -1,4 +1,4 @@
--- Document 01, "Call kind, held lock and wanted lock decide together": the table of six cells. Assumes nothing.
+-- Document 01, "Call kind, held lock and wanted lock decide together": the table of six cells.
 use Prim.Native.Nat.{ℕ}
 use mathlib.Core.Bool.{Bool, _&&_, _||_, not, cond}
 use lib.Dec.{eqb}

@@ -1,4 +1,4 @@
--- The test of all tables: the clauses of Good, in the same order, as it is computed. Assumes nothing.
+-- The test of all tables: the clauses of Good, in the same order, as it is computed.
 use Prim.Native.Nat.{ℕ, suc, _+_, _-_, _*_, _^_}
 use mathlib.Core.Bool.{Bool, true, _&&_, _||_, not, cond}
 use mathlib.Core.List.{List, [], _∷_}

@@ -1,4 +1,4 @@
--- The versions in a row: which one a start chooses, and which are kept. Assumes nothing.
+-- The versions in a row: which one a start chooses, and which are kept.
 use Prim.Native.Nat.{ℕ, zero, suc, _-_, _*_}
 use mathlib.Core.Bool.{Bool, _||_, cond}
 use mathlib.Core.List.{List, [], _∷_, _++_}

@@ -1,4 +1,4 @@
--- Document 01, "Waits": who waits for whom, and walks along the waits. Assumes nothing.
+-- Document 01, "Waits": who waits for whom, and walks along the waits.
 use Prim.Native.Nat.{ℕ, zero, suc}
 use mathlib.Core.Bool.{Bool, false, _&&_, _||_, not}
 use mathlib.Core.List.{List}

@@ -1,4 +1,4 @@
--- Counting, rows and bits: the words that the rules are said with. Assumes nothing.
+-- Counting, rows and bits: the words that the rules are said with.
 use Prim.Native.Nat.{ℕ, zero, suc, _+_, _-_, _*_, _/_, _%_, _^_}
 use mathlib.Core.Bool.{Bool, true, false, _&&_, _||_, cond}
 use mathlib.Core.List.{List, [], _∷_, _++_}

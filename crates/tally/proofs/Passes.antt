@@ -1,4 +1,4 @@
--- The count of differing words, word by word from the left. Assumes nothing.
+-- The count of differing words, word by word from the left.
 use Prim.Native.Nat.{ℕ, zero, suc, _+_, _-_, _≤_, _<_}
 use mathlib.Core.Path.{_≡_, refl, sym, ap, _∙_}
 use mathlib.Core.Bool.{Bool, true, false, cond}

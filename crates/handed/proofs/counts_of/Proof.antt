@@ -1,4 +1,4 @@
--- Each count as it stands in the file. Assumes nothing.
+-- Each count as it stands in the file.
 use Prim.Native.Nat.{ℕ, _<_}
 use mathlib.Core.Path.{_≡_, refl, ap, _∙_}
 use native.Mathlib.Omega.{arith}

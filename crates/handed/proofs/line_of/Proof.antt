@@ -1,4 +1,4 @@
--- All that was asked for stands in the file. Assumes nothing.
+-- All that was asked for stands in the file.
 use borrow.Author.Needs.{needs}
 use Rattle.handed.proofs.line_of.Statement.{statement}
 use Rattle.handed.proofs.line_of.Tie as tie

@@ -1,4 +1,4 @@
--- What is asked for stands in the file. Assumes nothing.
+-- What is asked for stands in the file.
 use Prim.Native.Nat.{ℕ, _+_, _-_, _*_, _≤_}
 use mathlib.Core.Path.{_≡_, ap, _∙_}
 use native.Mathlib.Omega.{arith}

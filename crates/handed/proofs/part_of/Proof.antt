@@ -1,4 +1,4 @@
--- To its end, to the file's end, or nothing. Assumes nothing.
+-- To its end, to the file's end, or nothing.
 use Rattle.judging.proofs.Parts.{part-none, part-rest, part-all}
 use borrow.Author.Needs.{needs}
 use Rattle.handed.proofs.part_of.Statement.{statement}

@@ -1,4 +1,4 @@
--- Piece after piece. Assumes nothing.
+-- Piece after piece.
 use native.Mathlib.Omega.{arith}
 use borrow.Author.Needs.{needs}
 use Rattle.judging.specs.Handed.{left, Handed}

@@ -11,7 +11,6 @@ use borrow.Author.Needs.{needs}
 use Rattle.judged.proofs.judged.Statement.{statement}
 use Rattle.judged.proofs.judged.Tie as tie
 
--- /work/main/target/rlib/names.rlib/interface/lang/src/lib.rt:44:27
 enum-told : tie.Need-enum-told
 enum-told c = search needs
 

@@ -1,4 +1,4 @@
--- The answer of what stands from the place on. Assumes nothing.
+-- The answer of what stands from the place on.
 use borrow.Author.Needs.{needs}
 use Rattle.journal.proofs.RecordLaws.{answer-words}
 use Rattle.journal.proofs.records.answer.Statement.{statement}

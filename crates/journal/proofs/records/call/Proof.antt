@@ -1,4 +1,4 @@
--- The call of what stands from the place on. Assumes nothing.
+-- The call of what stands from the place on.
 use borrow.Author.Needs.{needs}
 use Rattle.journal.proofs.RecordLaws.{call-words}
 use Rattle.journal.proofs.records.call.Statement.{statement}

@@ -1,4 +1,4 @@
--- The four words of an answer. Assumes nothing.
+-- The four words of an answer.
 use borrow.Author.Needs.{needs}
 use Rattle.journal.specs.Format.{answerBytes}
 use Rattle.journal.proofs.records.put_answer.Statement.{statement}

@@ -1,4 +1,4 @@
--- The four words of a call. Assumes nothing.
+-- The four words of a call.
 use borrow.Author.Needs.{needs}
 use Rattle.journal.specs.Format.{callBytes}
 use Rattle.journal.proofs.records.put_call.Statement.{statement}

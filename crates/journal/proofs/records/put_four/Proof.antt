@@ -1,4 +1,4 @@
--- Where there is room, four words, each behind the one before. Assumes nothing.
+-- Where there is room, four words, each behind the one before.
 use Prim.Native.Nat.{_+_, _<_, _≤_}
 use mathlib.Core.Path.{sym, ap, _∙_}
 use native.Mathlib.Omega.{arith}

@@ -1,4 +1,4 @@
--- A byte past the end is 0. Assumes nothing.
+-- A byte past the end is 0.
 use mathlib.Core.Path.{sym}
 use lib.ListN.{List·getD-eq-default}
 use borrow.Author.Needs.{needs}

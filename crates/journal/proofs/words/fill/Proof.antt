@@ -1,4 +1,4 @@
--- Eight bytes, stored one by one. Assumes nothing.
+-- Eight bytes, stored one by one.
 use Prim.Native.Nat.{_-_, _<_, _≤_}
 use mathlib.Core.Path.{sym, _∙_}
 use native.Mathlib.Omega.{arith}

@@ -1,4 +1,4 @@
--- To the end, or nothing where the place is past it. Assumes nothing.
+-- To the end, or nothing where the place is past it.
 use mathlib.Core.Path.{sym}
 use lib.ListN.{drop-of-length-le}
 use borrow.Author.Needs.{needs}

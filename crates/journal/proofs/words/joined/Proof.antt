@@ -1,4 +1,4 @@
--- Eight bytes, each 256 times the one before. Assumes nothing.
+-- Eight bytes, each 256 times the one before.
 use native.Mathlib.Omega.{arith}
 use Rattle.journal.specs.Words.{numberIn, wordAt}
 use Rattle.journal.proofs.words.joined.Statement.{statement}

@@ -1,4 +1,4 @@
--- Where there is room, the eight bytes from the place on are filled. Assumes nothing.
+-- Where there is room, the eight bytes from the place on are filled.
 use Prim.Native.Nat.{_+_, _<_, _≤_}
 use mathlib.Core.Path.{sym, _∙_}
 use native.Mathlib.Omega.{arith}

@@ -1,4 +1,4 @@
--- A place and a need, within a size or not. Assumes nothing.
+-- A place and a need, within a size or not.
 use Prim.Native.Nat.{_+_}
 use mathlib.Core.Path.{sym}
 use native.Mathlib.Omega.{arith}

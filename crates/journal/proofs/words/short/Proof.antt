@@ -1,4 +1,4 @@
--- Each byte, or 0. Assumes nothing.
+-- Each byte, or 0.
 use mathlib.Core.Path.{_∙_}
 use borrow.Author.Needs.{needs}
 use Rattle.journal.proofs.WordLaws.{word-joined}

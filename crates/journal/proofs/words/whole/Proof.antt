@@ -1,4 +1,4 @@
--- The eight bytes are there. Assumes nothing.
+-- The eight bytes are there.
 use mathlib.Core.Path.{_∙_}
 use borrow.Author.Needs.{needs}
 use Rattle.journal.proofs.WordLaws.{word-bytes}

@@ -1,4 +1,4 @@
--- The word of what stands from the place on. Assumes nothing.
+-- The word of what stands from the place on.
 use mathlib.Core.Path.{sym, ap, _∙_}
 use borrow.Author.Needs.{needs}
 use Rattle.journal.specs.Words.{wordAt}

@@ -1,4 +1,4 @@
--- Each turn sees one record more. Assumes nothing.
+-- Each turn sees one record more.
 use Prim.Native.Nat.{_-_}
 use mathlib.Core.Path.{_≡_, refl, _∙_}
 use lib.ListN.{length}

@@ -1,4 +1,4 @@
--- As many as the shorter one has. Assumes nothing.
+-- As many as the shorter one has.
 use native.Mathlib.Omega.{arith}
 use Rattle.judge.proofs.pieces.both_have.Statement.{statement}
 use Rattle.judge.proofs.pieces.both_have.Tie as tie

@@ -1,4 +1,4 @@
--- One more, up to the greatest word. Assumes nothing.
+-- One more, up to the greatest word.
 use mathlib.Core.Path.{sym}
 use borrow.Author.Needs.{needs}
 use Rattle.judge.proofs.Steps.{one-more, no-more}

@@ -1,4 +1,4 @@
--- The records that both pieces have whole, from their starts on. Assumes nothing.
+-- The records that both pieces have whole, from their starts on.
 use Prim.Native.Nat.{ℕ}
 use mathlib.Core.Path.{ap, _∙_}
 use borrow.Author.Needs.{needs}

@@ -1,4 +1,4 @@
--- The four numbers are the same. Assumes nothing.
+-- The four numbers are the same.
 use mathlib.Core.Path.{refl}
 use Rattle.judge.specs.Verdicts.{sameAnswer}
 use Rattle.judge.proofs.pieces.same_answer.Statement.{statement}

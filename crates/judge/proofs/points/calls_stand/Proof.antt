@@ -1,4 +1,4 @@
--- By division. Assumes nothing.
+-- By division.
 use Rattle.judge.proofs.Speaking.{too-small, by-division}
 use Rattle.judge.proofs.points.calls_stand.Statement.{statement}
 use Rattle.judge.proofs.points.calls_stand.Tie as tie

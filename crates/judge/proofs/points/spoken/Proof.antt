@@ -1,4 +1,4 @@
--- Point by point. Assumes nothing.
+-- Point by point.
 use Prim.Native.Nat.{_+_, _*_, _≤_}
 use mathlib.Core.Path.{sym, _∙_}
 use native.Mathlib.Omega.{arith}

@@ -1,4 +1,4 @@
--- From fresh tables, all of them. Assumes nothing.
+-- From fresh tables, all of them.
 use mathlib.Core.Path.{refl, ap, _∙_}
 use borrow.Author.Needs.{needs}
 use Rattle.judge.specs.Pieces.{Progress, seenAll}

@@ -1,4 +1,4 @@
--- The two counts, the replay, and what is said of them. Assumes nothing.
+-- The two counts, the replay, and what is said of them.
 use Prim.Native.Nat.{_+_, _*_, _≤_}
 use mathlib.Core.Path.{sym, _∙_}
 use lib.ListN.{length}

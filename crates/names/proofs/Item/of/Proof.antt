@@ -1,4 +1,4 @@
--- A word is an item where it is below their number. Assumes nothing.
+-- A word is an item where it is below their number.
 use borrow.Author.Tests.{lt-ltb, le-ltb}
 use Rattle.names.specs.Words.{itemOf}
 use Rattle.names.proofs.Item.of.Statement.{statement}

@@ -1,4 +1,4 @@
--- A word is a transaction's number where it is neither 0 nor above the last. Assumes nothing.
+-- A word is a transaction's number where it is neither 0 nor above the last.
 use borrow.Author.Tests.{eq-eqb, ne-eqb, lt-ltb, le-ltb}
 use Rattle.names.specs.Words.{numberOf}
 use Rattle.names.proofs.Number.of.Statement.{statement}

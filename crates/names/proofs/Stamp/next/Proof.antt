@@ -1,4 +1,4 @@
--- The next stamp, below the last one. Assumes nothing.
+-- The next stamp, below the last one.
 use borrow.Author.Tests.{lt-ltb, le-ltb}
 use Rattle.names.specs.Words.{nextStamp}
 use borrow.Author.Needs.{needs}

@@ -1,4 +1,4 @@
--- The tests one by one. Assumes nothing.
+-- The tests one by one.
 use borrow.Author.Needs.{needs}
 use Rattle.tally.proofs.tally.as_expected.Statement.{statement}
 use Rattle.tally.proofs.tally.as_expected.Tie as tie

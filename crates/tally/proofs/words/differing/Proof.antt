@@ -1,4 +1,4 @@
--- The words below k are counted. Assumes nothing.
+-- The words below k are counted.
 use Prim.Native.Nat.{ℕ, _-_}
 use mathlib.Core.Path.{_≡_, _∙_, sym, ap}
 use mathlib.Core.Logic.{⊎-elim}

@@ -1,4 +1,4 @@
--- A word beyond the end is not set. Assumes nothing.
+-- A word beyond the end is not set.
 use mathlib.Core.Path.{sym}
 use native.Mathlib.Omega.{arith}
 use lib.Seq.{set-out}

@@ -1,4 +1,4 @@
--- Beyond the end there is 0. Assumes nothing.
+-- Beyond the end there is 0.
 use mathlib.Core.Path.{sym}
 use native.Mathlib.Omega.{arith}
 use lib.ListN.{List·getD-eq-default}

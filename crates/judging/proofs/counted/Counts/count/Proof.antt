@@ -1,4 +1,4 @@
--- The first count, and then the second. Assumes nothing.
+-- The first count, and then the second.
 use Prim.Native.Nat.{ℕ, _≤_, _<_}
 use mathlib.Core.Path.{_≡_, ap, _∙_}
 use mathlib.Core.List.{List}

@@ -1,4 +1,4 @@
--- The second count is asked for where it stands. Assumes nothing.
+-- The second count is asked for where it stands.
 use Prim.Native.Nat.{_+_, _*_, _≤_}
 use mathlib.Core.Path.{sym, _∙_}
 use native.Mathlib.Omega.{arith}

@@ -1,4 +1,4 @@
--- A file has room for two counts, or is short. Assumes nothing.
+-- A file has room for two counts, or is short.
 use borrow.Author.Needs.{needs}
 use Rattle.judging.proofs.Counting.{too-short, born}
 use Rattle.judging.proofs.counted.Counts.new.Statement.{statement}

@@ -1,4 +1,4 @@
--- All of them, or none. Assumes nothing.
+-- All of them, or none.
 use Prim.Native.Nat.{ℕ}
 use mathlib.Core.Path.{_≡_, refl, sym, ap, _∙_}
 use mathlib.Core.Logic.{⊎-elim}

@@ -1,4 +1,4 @@
--- Both counts are known. Assumes nothing.
+-- Both counts are known.
 use mathlib.Core.Path.{refl}
 use Rattle.judging.proofs.Counting.{both}
 use Rattle.judging.proofs.counted.Counts.second_is.Statement.{statement}

@@ -1,4 +1,4 @@
--- What is said is the verdict on the file. Assumes nothing.
+-- What is said is the verdict on the file.
 use mathlib.Core.Path.{subst, _∙_}
 use native.Mathlib.Omega.{arith}
 use borrow.Author.Needs.{needs}

@@ -1,4 +1,4 @@
--- From fresh tables. Assumes nothing.
+-- From fresh tables.
 use mathlib.Core.Path.{refl, _∙_}
 use borrow.Author.Needs.{needs}
 use Rattle.fresh.proofs.Exact.{made-fresh}

@@ -1,4 +1,4 @@
--- A piece of the calls and of the answers, from the tables that the pieces before it left. Assumes nothing.
+-- A piece of the calls and of the answers, from the tables that the pieces before it left.
 use Prim.Native.Nat.{ℕ, _-_}
 use mathlib.Core.Path.{refl, ap}
 use Rattle.judging.proofs.Seeing.{next}

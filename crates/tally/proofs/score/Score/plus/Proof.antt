@@ -1,4 +1,4 @@
--- By whether the call answered as it must. Assumes nothing.
+-- By whether the call answered as it must.
 use mathlib.Core.Path.{_≡_, _∙_}
 use mathlib.Core.Bool.{cond}
 use mathlib.Core.Logic.{⊎-elim}

@@ -1,4 +1,4 @@
--- By whether the step was right. Assumes nothing.
+-- By whether the step was right.
 use mathlib.Core.Path.{_≡_, refl, _∙_, sym, ap}
 use mathlib.Core.Bool.{cond}
 use mathlib.Core.Logic.{⊎-elim}
