@@ -2,3 +2,4 @@
 pub mod Search
 pub mod Bits
 pub mod Releases
+pub mod Ranks

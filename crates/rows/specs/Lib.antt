@@ -1,2 +1,3 @@
 -- What the contracts say of the rows' structs.
 pub mod Founds
+pub mod Lines

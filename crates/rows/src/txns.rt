@@ -10,6 +10,7 @@ use names::TXN_HEAD;
 use names::TXN_ITEM_AT;
 use names::TXN_KIND_AT;
 use names::TXN_LOCK_AT;
+use names::TXN_RANK_AT;
 use names::TXN_ROW;
 use names::TXN_START_AT;
 ghost use mathlib.Core.Path.{_≡_};
@@ -112,14 +113,25 @@ pub fn awaited_item(txns: &[u64], slot: Slot) -> u64
     txns[at + TXN_ITEM_AT]
 }
 
-// The awaited lock and item of a slot; where nothing is awaited, the item 0.
-pub fn set_awaited(txns: &mut [u64], slot: Slot, lock: u64, item: Item)
+// The rank on the awaited item, or 0.
+pub fn rank(txns: &[u64], slot: Slot) -> u64
     requires { ⌜ (length (now txns) ≡ txnWords base) × (slot .0 < base .slots) ⌝ }
-    ensures { λ _. ⌜ now (txns .exit) ≡ setAwaited (now (txns .entry)) (slot .0) lock (item .0) ⌝ }
+    ensures { λ r. ⌜ r ≡ (txn (now (txns .entry)) (slot .0)) .rank ⌝ }
+{
+    let at = TXN_HEAD + TXN_ROW * (slot.0 as usize);
+    txns[at + TXN_RANK_AT]
+}
+
+// The awaited lock and item of a slot, and its rank there; where nothing is awaited, the item 0 and
+// the rank 0.
+pub fn set_awaited(txns: &mut [u64], slot: Slot, lock: u64, item: Item, rank: u64)
+    requires { ⌜ (length (now txns) ≡ txnWords base) × (slot .0 < base .slots) ⌝ }
+    ensures { λ _. ⌜ now (txns .exit) ≡ setAwaited (now (txns .entry)) (slot .0) lock (item .0) rank ⌝ }
 {
     let at = TXN_HEAD + TXN_ROW * (slot.0 as usize);
     txns[at + TXN_LOCK_AT] = lock;
     txns[at + TXN_ITEM_AT] = item.0;
+    txns[at + TXN_RANK_AT] = rank;
 }
 
 // The row of a slot goes: each of its words becomes 0.

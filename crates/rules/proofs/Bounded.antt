@@ -82,7 +82,7 @@ module _ (B : ℕ) where
   released-working s h b = cond-case (λ (k : Lock). k .working ≤ B) (holdsExclusive h s) _ _ (λ e. omega arith) (λ e. b)
 
   module _ (S : Sizes) (G : Tables) (g : Good S G) (b : Bounded B S G) where
-    locked-bounded : (s x : ℕ) → x < S .items → (h : Lock) → h .working ≤ B → Bounded B S (locked s x h G)
+    locked-bounded : (s x : ℕ) → x < S .items → (h : Lock) → h .working ≤ B → Bounded B S (locked S s x h G)
     unfolding locked
     locked-bounded s x i h w =
         record {

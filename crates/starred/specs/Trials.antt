@@ -9,6 +9,7 @@ use Rattle.rules.specs.Tables.{Tables, tables, fresh, versionRow}
 use Rattle.rules.specs.Answers.{BeginUpdate, BeginQuery, Read, Write, Commit, Abort}
 use Rattle.starred.specs.Plays.{Line, _⇒_, Trial}
 use Rattle.starred.specs.Quotas.{trialQ, trialR}
+use Rattle.starred.specs.Waiters.{nobodyStands, secondStands, trialS, trialT, exchangerAhead, trialU, closedUpLine, trialV}
 
 -- "A. The run above."
 unfoldable pub trialA : List Line
@@ -130,7 +131,7 @@ trialL = (BeginUpdate ⇒ (10, 0, 0, 0)) ∷ []
 unfoldable pub uncounted : Tables
 uncounted = tables ((fresh base) .txns) ((fresh base) .locks) (set ((fresh base) .versions) (versionRow base) 0)
 
--- ---- the list of them, and of the two of request E2
+-- ---- the list of them, and of those of requests E2 and E4; the ends of C, E and F are those of E4
 abbrev pub anyEnd : Tables → Bool
 anyEnd G = true
 
@@ -138,10 +139,10 @@ unfoldable pub trials : List Trial
 trials =
     (record { from = fresh base; script = trialA; end = anyEnd })
     ∷ (record { from = fresh base; script = trialB; end = anyEnd })
-    ∷ (record { from = fresh base; script = trialC; end = anyEnd })
+    ∷ (record { from = fresh base; script = trialC; end = nobodyStands })
     ∷ (record { from = fresh base; script = trialD; end = anyEnd })
-    ∷ (record { from = fresh base; script = trialE; end = anyEnd })
-    ∷ (record { from = fresh base; script = trialF; end = anyEnd })
+    ∷ (record { from = fresh base; script = trialE; end = nobodyStands })
+    ∷ (record { from = fresh base; script = trialF; end = secondStands })
     ∷ (record { from = fresh base; script = trialG; end = anyEnd })
     ∷ (record { from = fresh base; script = trialH; end = anyEnd })
     ∷ (record { from = fresh base; script = trialI; end = fullRow })
@@ -150,4 +151,8 @@ trials =
     ∷ (record { from = uncounted; script = trialL; end = anyEnd })
     ∷ (record { from = fresh base; script = trialQ; end = anyEnd })
     ∷ (record { from = fresh base; script = trialR; end = anyEnd })
+    ∷ (record { from = fresh base; script = trialS; end = nobodyStands })
+    ∷ (record { from = fresh base; script = trialT; end = exchangerAhead })
+    ∷ (record { from = fresh base; script = trialU; end = closedUpLine })
+    ∷ (record { from = fresh base; script = trialV; end = secondStands })
     ∷ []

@@ -1,4 +1,6 @@
 -- Laws of the waits as words of slots.
+pub mod Marks
+pub mod Standing
 pub mod Blocking
 pub mod Linking
 pub mod Rounds

@@ -2,21 +2,23 @@
 use Prim.Native.Nat.{ℕ, _<_}
 use mathlib.Core.Path.{_≡_, sym, subst}
 use mathlib.Core.Logic.{_≢_, _⊎_, inl, inr, _↔_}
-use mathlib.Core.Bool.{Bool}
+use mathlib.Core.Bool.{Bool, _&&_, not}
 use mathlib.Core.List.{List}
-use lib.Dec.{T}
+use lib.Dec.{T, eqb}
 use Rattle.names.specs.Sizes.{base}
+use Rattle.rules.specs.Words.{implies, everyBelow}
 use Rattle.rules.specs.Tables.{txn, noLock, lock}
 use Rattle.rules.specs.Waits.{waitsFor, Walk, noCircle}
-use Rattle.rules.specs.Tested.{awaiterGood}
+use Rattle.rules.specs.Tested.{awaiterGood, rankWithin, ranksApart, ranksGood}
 use Rattle.rules.proofs.Tests.{false-is, same?, true-is}
 use Rattle.rules.proofs.Counts.{→everyBelow}
 use Rattle.rules.proofs.Bits.{bit-none}
 use Rattle.rules.proofs.Walks.{walk-map, waits-for→, waiter-within, no-circle→, →no-circle}
 use Rattle.circles.specs.Links.{linked, LinkWords, Waiting, NoCircle}
 use Rattle.words.proofs.Turns.{iff-eq}
-use Rattle.waiting.specs.Waiting.{Readable, Awaiting, Links, awaitersGood}
+use Rattle.waiting.specs.Waiting.{Readable, Awaiting, Links, awaitersGood, rankRight}
 use Rattle.waiting.proofs.Linking.{awaiter-none}
+use Rattle.waiting.proofs.Standing.{right-still}
 
 module _ (t l w : List ℕ) (k : Links t l w) where
   pub links-slots : LinkWords w
@@ -55,6 +57,12 @@ module _ (t l : List ℕ) (o : Readable t l) (h : Awaiting t 0) where
   pub none-awaits : T (awaitersGood base t l)
   unfolding awaitersGood
   none-awaits = →everyBelow (base .slots) (λ s. awaiterGood s (txn t s) (lock l ((txn t s) .awaitedItem))) (λ s i. true-is (awaiter-none s (txn t s) (lock l ((txn t s) .awaitedItem)) (none s i)))
+
+  pub none-ranked : T (ranksGood base t l)
+  unfolding ranksGood
+  none-ranked =
+      →everyBelow (base .slots) (λ s. rankWithin base t s && everyBelow (base .slots) (λ r. implies (not (eqb r s)) (ranksApart t l r s)))
+      (λ s i. unfold rankRight in (true-is (sym (right-still t l s (none s i)))))
 
   pub none-circles : T (noCircle base t l)
   none-circles = →no-circle base t l (o .txnsExact) (o .itemKnown) (o .inside) (λ a y. stuck y)

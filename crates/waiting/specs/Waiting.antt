@@ -5,13 +5,13 @@ use mathlib.Core.Logic.{_≢_}
 use mathlib.Core.Bool.{Bool, _&&_, _||_, not}
 use mathlib.Core.List.{List}
 use lib.ListN.{getD, length}
-use lib.Dec.{T, eqb}
+use lib.Dec.{T, eqb, ltb}
 use Rattle.names.specs.declared.Sizes.{Sizes}
 use Rattle.names.specs.Sizes.{base}
-use Rattle.rules.specs.Words.{bit, everyBelow}
+use Rattle.rules.specs.Words.{bit, implies, everyBelow}
 use Rattle.rules.specs.Tables.{txn, txnWords, Lock, lock, lockWords, holds, noLock, sharedLock, exclusiveLock}
-use Rattle.rules.specs.Waits.{blocks, waitsFor}
-use Rattle.rules.specs.Tested.{awaiterGood}
+use Rattle.rules.specs.Waits.{awaitsOn, conflicts, ahead, blocks, waitsFor}
+use Rattle.rules.specs.Tested.{awaiterGood, rankWithin, ranksApart}
 
 -- ---- what is known of the tables when the waits are read
 pub record Readable (t l : List ℕ) : Type 0 where
@@ -27,10 +27,20 @@ pub record Awaiting (t : List ℕ) (waiting : ℕ) : Type 0 where
   pub all : (s : ℕ) → s < base .slots → (txn t s) .awaitedLock ≢ noLock → T (bit waiting s)
 
 -- ---- the answers
--- the word w holds the slots that hold a lock in conflict with slot s's request for one of kind k
-pub record Blockers (h : Lock) (k s w : ℕ) : Type 0 where
+-- the word w holds the slots whose hold on a lock conflicts with a request for one of kind k
+pub record Holders (h : Lock) (k w : ℕ) : Type 0 where
   pub small : w < 2 ^ base .slots
-  pub at : (b : ℕ) → bit w b ≡ blocks h k s b
+  pub at : (b : ℕ) → bit w b ≡ conflicts h k b
+
+-- the word w holds the slots that wait on item x before the rank p, in conflict with a request for a lock of kind k
+pub record Ahead (t : List ℕ) (k x p w : ℕ) : Type 0 where
+  pub small : w < 2 ^ base .slots
+  pub at : (b : ℕ) → bit w b ≡ ahead x k p (txn t b)
+
+-- the word w holds the slots that block slot s's request, at the rank p, for a lock of kind k on item x
+pub record Blockers (t l : List ℕ) (k x p s w : ℕ) : Type 0 where
+  pub small : w < 2 ^ base .slots
+  pub at : (b : ℕ) → bit w b ≡ blocks t l k x p s b
 
 -- the words w say whom each slot waits for
 pub record Links (t l w : List ℕ) : Type 0 where
@@ -46,3 +56,17 @@ awaitersGood S t l = everyBelow (S .slots) (λ s. awaiterGood s (txn t s) (lock 
 abbrev pub awaiterOk : ℕ → ℕ → ℕ → ℕ → Bool
 awaiterOk shared exclusive wanted slot =
     not (eqb exclusive (slot + 1)) && (not (eqb wanted sharedLock) || eqb (shared / 2 ^ slot % 2) 0)
+
+-- ---- request E4: the ranks, slot by slot
+unfoldable pub rankRight : Sizes → List ℕ → List ℕ → ℕ → Bool
+rankRight S t l s = rankWithin S t s && everyBelow (S .slots) (λ r. implies (not (eqb r s)) (ranksApart t l r s))
+
+-- slot r against slot s, which waits on item x at the rank p; h is the word of the item's shared holders
+unfoldable pub standsApart : List ℕ → ℕ → ℕ → ℕ → ℕ → ℕ → Bool
+standsApart t h s x p r =
+    eqb r s
+    || not (awaitsOn x (txn t r))
+    || (not (eqb ((txn t r) .rank) p) && (not (bit h r && not (bit h s)) || ltb ((txn t r) .rank) p))
+
+unfoldable pub allApart : Sizes → List ℕ → ℕ → ℕ → ℕ → ℕ → Bool
+allApart S t h s x p = everyBelow (S .slots) (standsApart t h s x p)

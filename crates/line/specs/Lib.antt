@@ -1,0 +1,2 @@
+-- Request E4's promise over runs.
+pub mod Served
