@@ -91,15 +91,18 @@ quotaGood S l s r = quotaMost S (exclusivesOf S l s) r && fullIdle S (exclusives
 unfoldable pub rankWithin : Sizes → List ℕ → ℕ → Bool
 rankWithin S t s =
     let r = txn t s in
-    implies (awaits r) (leb 1 (r .rank) && leb (r .rank) (waitersOn S t (r .awaitedItem)))
+    let within = leb 1 (r .rank) && leb (r .rank) (waitersOn S t (r .awaitedItem)) in
+    implies (awaits r) within
 
 -- slots r and s on one item have two ranks, and one that shares the item stands ahead of one that does not
 unfoldable pub ranksApart : List ℕ → List ℕ → ℕ → ℕ → Bool
 ranksApart t l r s =
     let x = (txn t r) .awaitedItem in
-    implies (awaits (txn t r) && awaitsOn x (txn t s))
-    (not (eqb ((txn t r) .rank) ((txn t s) .rank))
-    && implies (holdsShared (lock l x) r && not (holdsShared (lock l x) s)) (ltb ((txn t r) .rank) ((txn t s) .rank)))
+    let both = awaitsOn x (txn t s) in
+    let apart =
+    not (eqb ((txn t r) .rank) ((txn t s) .rank))
+    && implies (holdsShared (lock l x) r && not (holdsShared (lock l x) s)) (ltb ((txn t r) .rank) ((txn t s) .rank)) in
+    implies (awaits (txn t r) && both) apart
 
 unfoldable pub ranksGood : Sizes → List ℕ → List ℕ → Bool
 ranksGood S t l =
