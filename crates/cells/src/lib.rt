@@ -62,7 +62,7 @@ fn another_ahead(txns: &[u64], locks: &[u64], wanted: u64, item: Item, slot: Slo
     requires { ⌜ (length (now txns) ≡ txnWords base) × (length (now locks) ≡ lockWords base) × (slot .0 < base .slots) × (item .0 < base .items) ⌝ }
     ensures { λ r. ⌜ r ≡ anotherAhead base (now (txns .entry)) (now (locks .entry)) wanted (item .0) (slot .0) ⌝ }
 {
-    let rank = rows::rank_for(txns, locks, slot, item);
+    let rank = ranks::rank_for(txns, locks, slot, item);
     let word = waiting::ahead(txns, wanted, item, rank);
     !((word ^ (word & (1 << slot.0))) == 0)
 }

@@ -16,8 +16,8 @@ use Rattle.rules.specs.Versions.{versionsOf, newest, place, choice, rewritten}
 use Rattle.rules.specs.Good.{Good}
 use Rattle.rules.specs.Answers.{Outcome, outcome, Wait, Deed, Waits, Begins, ReadsByStart, ReadsOwn, ReadsNewest, TakesShared, Replaces, TakesExclusive, Commits, Ends, Aborts}
 use Rattle.rules.specs.Step.{done, begun, cleared, locked, replaced, sharedToo, taken, queryRead, withNew, committed, ended, aborted}
-use Rattle.rows.specs.Lines.{RanksSmall}
-use Rattle.rows.proofs.Ranks.{ranks-small}
+use Rattle.ranks.specs.Lines.{RanksSmall}
+use Rattle.ranks.proofs.Ranks.{ranks-small}
 use Rattle.choices.proofs.Handed.{good-least}
 use Rattle.deeds.specs.Asked.{Lockable, HasNewest, GrantedTo}
 

@@ -15,7 +15,7 @@ pub fn aborts(txns: &mut [u64], locks: &mut [u64], slot: Slot) -> Answer
     requires { ⌜ (length (now txns) ≡ txnWords base) × (length (now locks) ≡ lockWords base) × (slot .0 < base .slots) ⌝ }
     ensures { λ r. ⌜ ((v : List ℕ) → outcome r (now (txns .exit)) (now (locks .exit)) v ≡ done base (Aborts slot) (tables (now (txns .entry)) (now (locks .entry)) v)) ⌝ }
 {
-    rows::close_up(txns, slot);
+    ranks::close_up(txns, slot);
     rows::leave(txns, slot);
     rows::release(locks, slot);
     Answer::granted()

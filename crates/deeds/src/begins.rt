@@ -13,7 +13,7 @@ ghost use Rattle.names.specs.Sizes.{base, lastWord};
 ghost use Rattle.rules.specs.Tables.{tables, txnWords, lastNumber};
 ghost use Rattle.rules.specs.Answers.{outcome, Waits, Begins};
 ghost use Rattle.rules.specs.Step.{done};
-ghost use Rattle.rows.specs.Lines.{RanksSmall};
+ghost use Rattle.ranks.specs.Lines.{RanksSmall};
 ghost use Rattle.deeds.specs.Asked.{Lockable};
 
 // The slot gets the next number, and a row of this kind with this start.
@@ -31,6 +31,6 @@ pub fn waits(txns: &mut [u64], locks: &[u64], slot: Slot, lock: u64, item: Item)
     requires { ⌜ Lockable (now txns) (now locks) (slot .0) (item .0) × RanksSmall (now txns) ⌝ }
     ensures { λ r. ⌜ ((v : List ℕ) → outcome r (now (txns .exit)) (now (locks .entry)) v ≡ done base (Waits slot lock item) (tables (now (txns .entry)) (now (locks .entry)) v)) ⌝ }
 {
-    rows::note(txns, locks, slot, lock, item);
+    ranks::note(txns, locks, slot, lock, item);
     Answer::refused(Refusal::Wait)
 }

@@ -19,7 +19,7 @@ fn granted(txns: &mut [u64], locks: &mut [u64], slot: Slot, item: Item, row: Loc
     requires { ⌜ Lockable (now txns) (now locks) (slot .0) (item .0) ⌝ }
     ensures { λ _. ⌜ GrantedTo (slot .0) (item .0) (lockOf row) (now (txns .entry)) (now (locks .entry)) (now (txns .exit)) (now (locks .exit)) ⌝ }
 {
-    rows::clear(txns, slot);
+    ranks::clear(txns, slot);
     rows::set_lock(locks, item, row);
 }
 

@@ -47,7 +47,7 @@ fn conflict(txns: &[u64], locks: &[u64], slot: Slot, lock: u64, item: Item) -> D
     ensures { λ r. ⌜ r ≡ conflicted base (slot .0) lock (item .0) (ofLocks (now (txns .entry)) (now (locks .entry))) ⌝ }
 {
     let mut after = copied(txns);
-    rows::note(&mut after, locks, slot, lock, item);
+    ranks::note(&mut after, locks, slot, lock, item);
     let waiters = waiting::waits(&after, locks);
     let links = waiters.links;
     let at = slot.0 as usize;

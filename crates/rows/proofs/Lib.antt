@@ -2,4 +2,3 @@
 pub mod Search
 pub mod Bits
 pub mod Releases
-pub mod Ranks

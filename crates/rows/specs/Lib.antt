@@ -1,3 +1,2 @@
 -- What the contracts say of the rows' structs.
 pub mod Founds
-pub mod Lines

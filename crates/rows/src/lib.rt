@@ -1,16 +1,8 @@
 // Rows of the transaction table and of the lock table, read and written: the code that knows where
 // a word stands. Every function is proved equal to the rules' view of its row, and decides nothing.
-mod lines;
 mod locks;
 mod txns;
 
-pub use lines::awaits_on;
-pub use lines::clear;
-pub use lines::close_up;
-pub use lines::note;
-pub use lines::rank_for;
-pub use lines::shares;
-pub use lines::waiters_on;
 pub use locks::LockRow;
 pub use locks::exclusives_of;
 pub use locks::lock_at;

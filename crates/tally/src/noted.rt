@@ -15,7 +15,7 @@ ghost use mathlib.Core.Path.{_≡_};
 ghost use lib.ListN.{length};
 ghost use Rattle.names.specs.Sizes.{base};
 ghost use Rattle.rules.specs.Tables.{txnWords, lockWords};
-ghost use Rattle.rows.specs.Lines.{RanksSmall};
+ghost use Rattle.ranks.specs.Lines.{RanksSmall};
 ghost use Rattle.tally.specs.Noted.{awaited, ranksSmall, waitedIn, waited};
 
 // Whether no rank is above the number of slots.
@@ -41,7 +41,7 @@ fn awaits(txns: &mut [u64], locks: &[u64], number: u64, lock: u64, item: u64)
         return;
     };
     if item < ITEMS {
-        rows::note(txns, locks, slot, lock, Item(item));
+        ranks::note(txns, locks, slot, lock, Item(item));
     }
 }
 

@@ -61,7 +61,7 @@ fn rank_ok(txns: &[u64], locks: &[u64], slot: Slot) -> bool
     let item = rows::awaited_item(txns, slot);
     let place = rows::rank(txns, slot);
     let row = rows::lock_at(locks, Item(item));
-    let count = rows::waiters_on(txns, Item(item));
+    let count = ranks::waiters_on(txns, Item(item));
     let apart = all_apart(txns, row.shared, slot, Item(item), place);
     (1 <= place) & (place <= count) & apart
 }

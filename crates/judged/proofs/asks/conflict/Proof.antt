@@ -7,8 +7,8 @@ use Rattle.names.specs.Sizes.{base}
 use Rattle.rules.specs.Tables.{tables}
 use Rattle.rules.specs.Waits.{noted, circleAt}
 use Rattle.rules.specs.Step.{conflicted}
-use Rattle.rows.specs.Lines.{RanksSmall}
-use Rattle.rows.proofs.Ranks.{ranks-small}
+use Rattle.ranks.specs.Lines.{RanksSmall}
+use Rattle.ranks.proofs.Ranks.{ranks-small}
 use Rattle.waiting.specs.Waiting.{Readable, Links}
 use Rattle.waiting.proofs.Rounds.{links-slots}
 use Rattle.judged.proofs.Conflicts.{noted-readable, circle-found}

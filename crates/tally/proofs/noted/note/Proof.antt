@@ -9,7 +9,7 @@ use borrow.Author.Tests.{eq-eqb, ne-eqb}
 use Rattle.names.specs.Sizes.{base}
 use Rattle.rules.proofs.Tests.{true-is}
 use Rattle.rules.proofs.Counts.{everyBelow→}
-use Rattle.rows.specs.Lines.{RanksSmall}
+use Rattle.ranks.specs.Lines.{RanksSmall}
 use Rattle.tally.specs.Noted.{rankSmall, ranksSmall, waited}
 use Rattle.tally.proofs.noted.note.Statement.{statement}
 use Rattle.tally.proofs.noted.note.Tie as tie

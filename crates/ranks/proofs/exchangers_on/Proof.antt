@@ -10,8 +10,8 @@ use Rattle.rules.specs.Words.{countBelow}
 use Rattle.rules.specs.Tables.{txn, Lock, lock, holdsShared}
 use Rattle.rules.specs.Waits.{awaitsOn, exchangersOn}
 use Rattle.rules.proofs.Counts.{count-yes, count-no, count-le}
-use Rattle.rows.proofs.lines.exchangers_on.Statement.{statement}
-use Rattle.rows.proofs.lines.exchangers_on.Tie as tie
+use Rattle.ranks.proofs.exchangers_on.Statement.{statement}
+use Rattle.ranks.proofs.exchangers_on.Tie as tie
 
 -- slot b waits on item x and shares it
 abbrev exchanger : List ℕ → List ℕ → ℕ → ℕ → Bool

@@ -9,9 +9,9 @@ use Rattle.names.specs.Layout.{txnRankAt}
 use Rattle.rules.specs.Tables.{Txn, txnAt, txn, reranked}
 use Rattle.rules.specs.Waits.{lowered}
 use Rattle.rules.proofs.Views.{length-reranked, txn-reranked-out}
-use Rattle.rows.proofs.Ranks.{reranked-more}
-use Rattle.rows.proofs.lines.lower.Statement.{statement}
-use Rattle.rows.proofs.lines.lower.Tie as tie
+use Rattle.ranks.proofs.Ranks.{reranked-more}
+use Rattle.ranks.proofs.lower.Statement.{statement}
+use Rattle.ranks.proofs.lower.Tie as tie
 
 abbrev Inv-loop : tie.InvT-loop
 Inv-loop txns₀ item behind slot₀ txns slot = (slot ≤ base .slots) × (txns ≡ reranked slot (lowered (item .0) behind) txns₀)

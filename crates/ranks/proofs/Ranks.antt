@@ -16,7 +16,7 @@ use Rattle.rules.specs.Waits.{awaitsOn, waitersOn, exchangersOn, rankFor}
 use Rattle.rules.proofs.Tests.{same?}
 use Rattle.rules.proofs.Counts.{count-le}
 use Rattle.rules.proofs.EqualRanks.{→awaits}
-use Rattle.rows.specs.Lines.{RanksSmall}
+use Rattle.ranks.specs.Lines.{RanksSmall}
 use Rattle.rules.proofs.Views.{txn-reranked-out}
 
 -- one row more

@@ -10,8 +10,8 @@ use Rattle.rules.specs.Words.{countBelow}
 use Rattle.rules.specs.Tables.{txn}
 use Rattle.rules.specs.Waits.{awaitsOn, waitersOn}
 use Rattle.rules.proofs.Counts.{count-yes, count-no, count-le}
-use Rattle.rows.proofs.lines.waiters_on.Statement.{statement}
-use Rattle.rows.proofs.lines.waiters_on.Tie as tie
+use Rattle.ranks.proofs.waiters_on.Statement.{statement}
+use Rattle.ranks.proofs.waiters_on.Tie as tie
 
 -- slot b waits on item x
 abbrev waiter : List ℕ → ℕ → ℕ → Bool

@@ -3,8 +3,8 @@ use mathlib.Core.Path.{refl}
 use Rattle.rules.specs.Tables.{txn}
 use Rattle.rules.specs.Waits.{awaitsOn, awaits}
 use borrow.Author.Needs.{needs}
-use Rattle.rows.proofs.lines.awaits_on.Statement.{statement}
-use Rattle.rows.proofs.lines.awaits_on.Tie as tie
+use Rattle.ranks.proofs.awaits_on.Statement.{statement}
+use Rattle.ranks.proofs.awaits_on.Tie as tie
 
 mul-at : tie.Need-mul-at
 mul-at c = search needs

@@ -5,8 +5,8 @@ use mathlib.Core.List.{List}
 use Rattle.rules.specs.Tables.{setAwaited, noLock}
 use Rattle.rules.specs.Step.{cleared}
 use borrow.Author.Needs.{needs}
-use Rattle.rows.proofs.lines.clear.Statement.{statement}
-use Rattle.rows.proofs.lines.clear.Tie as tie
+use Rattle.ranks.proofs.clear.Statement.{statement}
+use Rattle.ranks.proofs.clear.Tie as tie
 
 close-up-requires : tie.Need-close-up-requires
 close-up-requires c κs = search needs

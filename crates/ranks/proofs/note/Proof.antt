@@ -8,8 +8,8 @@ use Rattle.names.specs.Sizes.{base}
 use Rattle.rules.specs.Tables.{txn, setAwaited, reranked}
 use Rattle.rules.specs.Waits.{awaitsOn, rankFor, raised, noted}
 use borrow.Author.Needs.{needs}
-use Rattle.rows.proofs.lines.note.Statement.{statement}
-use Rattle.rows.proofs.lines.note.Tie as tie
+use Rattle.ranks.proofs.note.Statement.{statement}
+use Rattle.ranks.proofs.note.Tie as tie
 
 -- where the function began
 abbrev start : tie.After-slice-known3 → tie.Start

@@ -9,9 +9,9 @@ use Rattle.names.specs.Layout.{txnRankAt}
 use Rattle.rules.specs.Tables.{Txn, txnAt, txn, reranked}
 use Rattle.rules.specs.Waits.{raised}
 use Rattle.rules.proofs.Views.{length-reranked, txn-reranked-out}
-use Rattle.rows.proofs.Ranks.{reranked-more}
-use Rattle.rows.proofs.lines.raise.Statement.{statement}
-use Rattle.rows.proofs.lines.raise.Tie as tie
+use Rattle.ranks.proofs.Ranks.{reranked-more}
+use Rattle.ranks.proofs.raise.Statement.{statement}
+use Rattle.ranks.proofs.raise.Tie as tie
 
 abbrev Inv-loop : tie.InvT-loop
 Inv-loop txns₀ item from slot₀ txns slot = (slot ≤ base .slots) × (txns ≡ reranked slot (raised (item .0) from) txns₀)

@@ -8,8 +8,8 @@ use Rattle.names.specs.Sizes.{base}
 use Rattle.rules.specs.Tables.{noLock, txn, reranked}
 use Rattle.rules.specs.Waits.{closedUp, awaits, lowered}
 use borrow.Author.Needs.{needs}
-use Rattle.rows.proofs.lines.close_up.Statement.{statement}
-use Rattle.rows.proofs.lines.close_up.Tie as tie
+use Rattle.ranks.proofs.close_up.Statement.{statement}
+use Rattle.ranks.proofs.close_up.Tie as tie
 
 -- where the function began
 abbrev start : tie.After-rank → tie.Start

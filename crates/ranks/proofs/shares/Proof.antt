@@ -3,8 +3,8 @@ use mathlib.Core.Path.{refl}
 use Rattle.rules.specs.Words.{bit}
 use Rattle.rules.specs.Tables.{holdsShared}
 use borrow.Author.Needs.{needs}
-use Rattle.rows.proofs.lines.shares.Statement.{statement}
-use Rattle.rows.proofs.lines.shares.Tie as tie
+use Rattle.ranks.proofs.shares.Statement.{statement}
+use Rattle.ranks.proofs.shares.Tie as tie
 
 shr-result : tie.Need-shr-result
 shr-result c = search needs

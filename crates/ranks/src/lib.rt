@@ -1,10 +1,4 @@
 // The lines of waiters: who stands where on an item, and the ranks that move when one comes or goes.
-use super::locks::LockRow;
-use super::locks::lock_at;
-use super::txns::awaited_item;
-use super::txns::awaited_lock;
-use super::txns::rank;
-use super::txns::set_awaited;
 use names::Item;
 use names::NO_LOCK;
 use names::SLOTS;
@@ -14,6 +8,7 @@ use names::TXN_ITEM_AT;
 use names::TXN_LOCK_AT;
 use names::TXN_RANK_AT;
 use names::TXN_ROW;
+use rows::LockRow;
 ghost use mathlib.Core.Path.{_≡_};
 ghost use Prim.Native.Nat.{_+_, _<_, _≤_};
 ghost use lib.ListN.{length, set};
@@ -22,11 +17,11 @@ ghost use Rattle.names.specs.Layout.{txnRankAt};
 ghost use Rattle.rules.specs.Tables.{txnWords, lockWords, txnAt, txn, reranked, holdsShared};
 ghost use Rattle.rules.specs.Waits.{awaitsOn, waitersOn, exchangersOn, rankFor, raised, lowered, noted, closedUp};
 ghost use Rattle.rules.specs.Step.{cleared};
 ghost use Rattle.rows.specs.Founds.{lockOf};
-ghost use Rattle.rows.specs.Lines.{RanksSmall};
+ghost use Rattle.ranks.specs.Lines.{RanksSmall};
 
 // Whether a slot waits on an item.
-pub fn awaits_on(txns: &[u64], slot: Slot, item: Item) -> bool
+fn awaits_on(txns: &[u64], slot: Slot, item: Item) -> bool
     requires { ⌜ (length (now txns) ≡ txnWords base) × (slot .0 < base .slots) ⌝ }
     ensures { λ r. ⌜ r ≡ awaitsOn (item .0) (txn (now (txns .entry)) (slot .0)) ⌝ }
 {
@@ -38,7 +33,7 @@ pub fn awaits_on(txns: &[u64], slot: Slot, item: Item) -> bool
 }
 
 // Whether a slot shares a lock.
-pub fn shares(row: LockRow, slot: Slot) -> bool
+fn shares(row: LockRow, slot: Slot) -> bool
     requires { ⌜ slot .0 < base .slots ⌝ }
     ensures { λ r. ⌜ r ≡ holdsShared (lockOf row) (slot .0) ⌝ }
 {
@@ -67,7 +62,7 @@ fn exchangers_on(txns: &[u64], locks: &[u64], item: Item) -> u64
     requires { ⌜ (length (now txns) ≡ txnWords base) × (length (now locks) ≡ lockWords base) × (item .0 < base .items) ⌝ }
     ensures { λ r. ⌜ r ≡ exchangersOn base (now (txns .entry)) (now (locks .entry)) (item .0) ⌝ }
 {
-    let row = lock_at(locks, item);
+    let row = rows::lock_at(locks, item);
     let mut count: u64 = 0;
     let mut slot: u64 = 0;
     while slot < SLOTS {
@@ -86,9 +81,9 @@ pub fn rank_for(txns: &[u64], locks: &[u64], slot: Slot, item: Item) -> u64
     ensures { λ r. ⌜ r ≡ rankFor base (now (txns .entry)) (now (locks .entry)) (slot .0) (item .0) ⌝ }
 {
     if awaits_on(txns, slot, item) {
-        return rank(txns, slot);
+        return rows::rank(txns, slot);
     }
-    let row = lock_at(locks, item);
+    let row = rows::lock_at(locks, item);
     if shares(row, slot) {
         return exchangers_on(txns, locks, item) + 1;
     }
@@ -126,7 +121,7 @@ fn lower_row(txns: &mut [u64], slot: Slot, item: Item, behind: u64)
 }
 
 // Room for a newcomer at this rank on the item.
-pub fn raise(txns: &mut [u64], item: Item, from: u64)
+fn raise(txns: &mut [u64], item: Item, from: u64)
     requires { ⌜ (length (now txns) ≡ txnWords base) × RanksSmall (now txns) ⌝ }
     ensures { λ _. ⌜ now (txns .exit) ≡ reranked (base .slots) (raised (item .0) from) (now (txns .entry)) ⌝ }
 {
@@ -154,10 +149,10 @@ pub fn close_up(txns: &mut [u64], slot: Slot)
     requires { ⌜ (length (now txns) ≡ txnWords base) × (slot .0 < base .slots) ⌝ }
     ensures { λ _. ⌜ now (txns .exit) ≡ closedUp base (now (txns .entry)) (slot .0) ⌝ }
 {
-    let wanted = awaited_lock(&txns[..], slot);
+    let wanted = rows::awaited_lock(&txns[..], slot);
     if wanted != NO_LOCK {
-        let item = awaited_item(&txns[..], slot);
-        let place = rank(&txns[..], slot);
+        let item = rows::awaited_item(&txns[..], slot);
+        let place = rows::rank(&txns[..], slot);
         lower(txns, Item(item), place);
     }
 }
@@ -170,7 +165,7 @@ pub fn note(txns: &mut [u64], locks: &[u64], slot: Slot, lock: u64, item: Item)
     if !awaits_on(&txns[..], slot, item) {
         let place = rank_for(&txns[..], locks, slot, item);
         raise(txns, item, place);
-        set_awaited(txns, slot, lock, item, place);
+        rows::set_awaited(txns, slot, lock, item, place);
     }
 }
 
@@ -180,5 +175,5 @@ pub fn clear(txns: &mut [u64], slot: Slot)
     ensures { λ _. ⌜ now (txns .exit) ≡ cleared base (now (txns .entry)) (slot .0) ⌝ }
 {
     close_up(txns, slot);
-    set_awaited(txns, slot, NO_LOCK, Item(0), 0);
+    rows::set_awaited(txns, slot, NO_LOCK, Item(0), 0);
 }

@@ -5,10 +5,10 @@ use mathlib.Core.Bool.{Bool, true, false}
 use native.Mathlib.Omega.{arith}
 use Rattle.rules.specs.Tables.{txn, Lock, lock, holdsShared}
 use Rattle.rules.specs.Waits.{awaitsOn}
-use Rattle.rows.proofs.Ranks.{rank-there, rank-exchange, rank-behind, exchangers-most, waiters-most}
+use Rattle.ranks.proofs.Ranks.{rank-there, rank-exchange, rank-behind, exchangers-most, waiters-most}
 use borrow.Author.Needs.{needs}
-use Rattle.rows.proofs.lines.rank_for.Statement.{statement}
-use Rattle.rows.proofs.lines.rank_for.Tie as tie
+use Rattle.ranks.proofs.rank_for.Statement.{statement}
+use Rattle.ranks.proofs.rank_for.Tie as tie
 
 -- it does not wait there; whether it shares was asked
 abbrev start : tie.After-shares → tie.Start

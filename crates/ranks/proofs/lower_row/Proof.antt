@@ -1,16 +1,19 @@
 -- The rank alone is stored, and only where it moves.
-use Prim.Native.Nat.{_+_}
+use Prim.Native.Nat.{_+_, _<_, _≤_}
+use lib.ListN.{getD}
+use mathlib.Core.Bool.{_&&_, not}
+use lib.Dec.{eqb, ltb}
 use mathlib.Core.Path.{sym}
 use native.Mathlib.Omega.{arith}
 use lib.Seq.{set-getD}
 use borrow.Author.Tests.{ltb-true}
 use Rattle.rules.proofs.Tests.{is-true, true-is, and-right}
-use Rattle.names.specs.Layout.{txnRankAt}
-use Rattle.rules.specs.Tables.{txnAt, txn}
-use Rattle.rules.specs.Waits.{raised, awaitsOn, awaits}
+use Rattle.names.specs.Layout.{txnLockAt, txnItemAt, txnRankAt}
+use Rattle.rules.specs.Tables.{txnAt, txn, noLock}
+use Rattle.rules.specs.Waits.{lowered, awaitsOn, awaits}
 use borrow.Author.Needs.{needs}
-use Rattle.rows.proofs.lines.raise_row.Statement.{statement}
-use Rattle.rows.proofs.lines.raise_row.Tie as tie
+use Rattle.ranks.proofs.lower_row.Statement.{statement}
+use Rattle.ranks.proofs.lower_row.Tie as tie
 
 mul-at : tie.Need-mul-at
 mul-at c = search needs
@@ -45,12 +48,17 @@ mul-rank c = search needs
 slice-read-rank : tie.Need-slice-read-rank
 slice-read-rank c = search needs
 
-add-txns : tie.Need-add-txns
-unfolding txn
-add-txns c = let p = c .before .before .before .before .pre in omega arith
+sub-txns : tie.Need-sub-txns
+sub-txns c =
+    let a = c .before .before .before .before .args in
+    let r = getD (a .txns .now) (txnAt (a .slot .0) + txnRankAt) 0 in
+    let on = not (eqb (getD (a .txns .now) (txnAt (a .slot .0) + txnLockAt) 0) noLock) && eqb (getD (a .txns .now) (txnAt (a .slot .0) + txnItemAt) 0) (a .item .0) in
+    let h : a .behind < r = ltb-true (a .behind) r (is-true (ltb (a .behind) r) (and-right on (ltb (a .behind) r) (true-is (c .if1 .taken)))) in
+    let g : 1 ≤ r = omega arith in
+    g
 
-add-txns-2 : tie.Need-add-txns-2
-add-txns-2 c = search needs
+add-txns : tie.Need-add-txns
+add-txns c = search needs
 
 mul-txns : tie.Need-mul-txns
 mul-txns c = search needs
@@ -62,15 +70,15 @@ same-length : tie.Need-same-length
 same-length c = search needs
 
 returns : tie.Need-returns
-unfolding raised awaitsOn awaits txn
+unfolding lowered awaitsOn awaits txn
 returns c = rw (c .if1 .taken)
 
 returns-2 : tie.Need-returns-2
-unfolding raised awaitsOn awaits txn
+unfolding lowered awaitsOn awaits txn
 returns-2 c = rw (c .if1 .left) (sym (set-getD (c .before .before .before .before .args .txns .now) (txnAt (c .before .before .before .before .args .slot .0) + txnRankAt) 0))
 
-pub raise-row-spec : {M : Type 1} → statement M
-raise-row-spec =
+pub lower-row-spec : {M : Type 1} → statement M
+lower-row-spec =
     tie.close
     (tie.spec
     mul-at
@@ -84,8 +92,8 @@ raise-row-spec =
     add-rank
     mul-rank
     slice-read-rank
+    sub-txns
     add-txns
-    add-txns-2
     mul-txns
     slice-write-txns
     same-length
