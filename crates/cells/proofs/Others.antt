@@ -2,7 +2,7 @@
 use Prim.Native.Nat.{ℕ, zero, suc, _+_, _-_, _*_, _/_, _%_, _^_, _<_}
 use mathlib.Core.Path.{_≡_, refl, sym, ap, _∙_, subst}
 use mathlib.Core.Logic.{_≢_}
-use mathlib.Core.Bool.{Bool, true, false, _&&_, not, cond}
+use mathlib.Core.Bool.{Bool, true, false, _&&_, _||_, not, cond}
 use mathlib.Core.List.{List}
 use native.Mathlib.Omega.{arith}
 use native.Mathlib.Nat.{one-mul, zero-mul}
@@ -14,17 +14,18 @@ use Rattle.names.specs.Sizes.{base}
 use Rattle.rules.specs.Words.{bit, someBelow, withBit, withoutBit}
 use Rattle.rules.specs.Tables.{tables, txn, Lock, lock, holdsShared, holdsExclusive}
 use Rattle.rules.specs.Good.{Good}
-use Rattle.rules.specs.Waits.{ahead, rankFor}
-use Rattle.rules.specs.Locks.{wanted, anotherShares, anotherExcludes, anotherAhead}
-use Rattle.rules.proofs.Tests.{and-left, and-right, and-both, ne-make, ne-use, eq-make, false-is}
+use Rattle.rules.specs.Waits.{awaitsOn, ahead, rankFor}
+use Rattle.rules.specs.Locks.{Asked, toRead, toWrite, Held, exclusively, sharing, nothing, wanted, decide, anotherShares, anotherExcludes, anotherAhead}
+use Rattle.rules.proofs.Tests.{and-left, and-right, and-both, ne-make, ne-use, eq-make, is-false, false-is}
 use Rattle.rules.proofs.Counts.{someBelow→, →someBelow}
 use Rattle.rules.proofs.Bits.{bit-none, bit-below, below-power, one-bit-at, withoutBit-here, withoutBit-there}
 use Rattle.words.proofs.SlotWords.{has-bit, sans-at, shifted, oneShifted}
 use Rattle.words.proofs.Turns.{iff-eq}
+use Rattle.ranks.specs.Lines.{somebodyOn}
 use Rattle.waiting.specs.Waiting.{Ahead}
 use Rattle.waiting.proofs.Handed.{good-readable}
 use Rattle.waiting.proofs.Linking.{shared-small, exclusive-small}
-use Rattle.cells.specs.Cells.{askedOf, SlotsOnly}
+use Rattle.cells.specs.Cells.{askedOf, heldOf, needsLock, SlotsOnly}
 
 -- ---- the tests on the others
 module _ (h : Lock) (s : ℕ) (k : SlotsOnly h) where
@@ -112,6 +113,39 @@ ahead-is t l k x s w i h = rw (shifted s (omega arith)) (iff-eq (not (eqb v 0)) 
         subst T (sym (sans-at w (2 ^ s) b))
         (and-both (bit w b) _ (subst T (sym (h .at b)) (and-right (not (eqb s b)) _ (r .2))) (subst (λ (c : Bool). T (not c)) (sym (one-bit-at s b)) (and-left (not (eqb s b)) _ (r .2)))) in
         ne-make v 0 (λ e. false-is (ap (λ (m : ℕ). bit m b) e ∙ bit-none b) f)
+
+-- where nobody waits on the item, nobody is ahead
+pub none-ahead : (t l : List ℕ) (k x s : ℕ) → somebodyOn base t x ≡ false → anotherAhead base t l k x s ≡ false
+unfolding somebodyOn anotherAhead ahead
+none-ahead t l k x s e =
+    is-false (anotherAhead base t l k x s)
+    (λ u.
+    let r = someBelow→ (base .slots) (λ b. not (eqb s b) && ahead x k (rankFor base t l s x) (txn t b)) u in
+    let b : ℕ = r .0 in
+    false-is e
+    (→someBelow (base .slots) (λ b. awaitsOn x (txn t b)) b (r .1) (and-left (awaitsOn x (txn t b)) _ (and-right (not (eqb s b)) _ (r .2)))))
+
+-- ---- who needs no further lock
+pub needs-is : (a h : ℕ) → a < 2 → h < 3 → (not (eqb h 0) && (not (eqb h 1) || eqb a 1)) ≡ needsLock (askedOf a) (heldOf h)
+needs-is zero zero i j = refl
+needs-is zero (suc zero) i j = refl
+needs-is zero (suc (suc zero)) i j = refl
+needs-is (suc zero) zero i j = refl
+needs-is (suc zero) (suc zero) i j = refl
+needs-is (suc zero) (suc (suc zero)) i j = refl
+needs-is zero (suc (suc (suc h))) i j = absurd (omega arith)
+needs-is (suc zero) (suc (suc (suc h))) i j = absurd (omega arith)
+needs-is (suc (suc a)) h i j = absurd (omega arith)
+
+-- its cell is the same, whoever waits
+pub no-line : (a : Asked) (h : Held) (s e r : Bool) → needsLock a h ≡ false → decide a h s e false ≡ decide a h s e r
+unfolding decide
+no-line toRead exclusively s e r n = refl
+no-line toWrite exclusively s e r n = refl
+no-line toRead sharing s e r n = refl
+no-line toWrite sharing s e r n = absurd (false-is n tt)
+no-line toRead nothing s e r n = absurd (false-is n tt)
+no-line toWrite nothing s e r n = absurd (false-is n tt)
 
 -- ---- a bit set, as the code sets it
 pub set-is : (h s : ℕ) → bitOr h (2 ^ s) ≡ withBit h s

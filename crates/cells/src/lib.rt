@@ -13,7 +13,7 @@ ghost use Rattle.rules.specs.Tables.{txnWords, lockWords, lock};
 ghost use Rattle.rules.specs.Locks.{heldBy, decide, decision, anotherShares, anotherExcludes, anotherAhead};
 ghost use Rattle.rules.specs.Step.{sharedToo as Step·sharedToo, taken as Step·taken};
 ghost use Rattle.rows.specs.Founds.{lockOf};
-ghost use Rattle.cells.specs.Cells.{askedOf, heldOf, SlotsOnly};
+ghost use Rattle.cells.specs.Cells.{askedOf, heldOf, needsLock, SlotsOnly};
 
 // What an update asks for.
 pub const TO_READ: u64 = 0;
@@ -58,10 +58,14 @@ fn another_excludes(row: LockRow, slot: Slot) -> bool
 }
 
 // Whether another slot waits on the item ahead of a request for the lock `wanted`, in conflict with it.
+// Most items have no line, and then no rank is asked for.
 fn another_ahead(txns: &[u64], locks: &[u64], wanted: u64, item: Item, slot: Slot) -> bool
     requires { ⌜ (length (now txns) ≡ txnWords base) × (length (now locks) ≡ lockWords base) × (slot .0 < base .slots) × (item .0 < base .items) ⌝ }
     ensures { λ r. ⌜ r ≡ anotherAhead base (now (txns .entry)) (now (locks .entry)) wanted (item .0) (slot .0) ⌝ }
 {
+    if !ranks::somebody_on(txns, item) {
+        return false;
+    }
     let rank = ranks::rank_for(txns, locks, slot, item);
     let word = waiting::ahead(txns, wanted, item, rank);
     !((word ^ (word & (1 << slot.0))) == 0)
@@ -101,6 +105,14 @@ fn look_up(asked: u64, held: u64, shares: bool, excludes: bool, earlier: bool) -
     }
 }
 
+// Whether a call by one who holds so much needs a further lock: else it asks no line.
+fn needs_lock(asked: u64, held: u64) -> bool
+    requires { ⌜ (asked < 2) × (held < 3) ⌝ }
+    ensures { λ r. ⌜ r ≡ needsLock (askedOf asked) (heldOf held) ⌝ }
+{
+    !(held == 0) & (!(held == 1) | (asked == TO_WRITE))
+}
+
 // The cell for an item and a slot.
 pub fn decision(asked: u64, txns: &[u64], locks: &[u64], item: Item, slot: Slot) -> Cell
     requires { ⌜ (asked < 2) × (length (now txns) ≡ txnWords base) × (length (now locks) ≡ lockWords base) × (slot .0 < base .slots) × (item .0 < base .items) × SlotsOnly (lock (now locks) (item .0)) ⌝ }
@@ -110,6 +122,9 @@ pub fn decision(asked: u64, txns: &[u64], locks: &[u64], item: Item, slot: Slot)
     let h = held(row, slot);
     let shares = another_shares(row, slot);
     let excludes = another_excludes(row, slot);
+    if !needs_lock(asked, h) {
+        return look_up(asked, h, shares, excludes, false);
+    }
     let earlier = another_ahead(txns, locks, asked + 1, item, slot);
     look_up(asked, h, shares, excludes, earlier)
 }

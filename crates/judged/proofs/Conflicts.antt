@@ -9,9 +9,9 @@ use lib.Dec.{T}
 use Rattle.names.specs.Sizes.{base}
 use Rattle.rules.specs.Tables.{Tables, tables, txn, noLock, exclusiveLock}
 use Rattle.rules.specs.Waits.{awaitsOn, noted, waitsFor, Walk, circleAt}
-use Rattle.rules.proofs.Tests.{true-is, false-is, same?}
+use Rattle.rules.proofs.Tests.{true-is, false-is, is-false, same?}
 use Rattle.rules.proofs.Noting.{noted-known, noted-length, noted-there, noted-here}
-use Rattle.rules.proofs.Deadlock.{circle-is}
+use Rattle.rules.proofs.Deadlock.{circle-is, repeated}
 use Rattle.circles.specs.Links.{Leads}
 use Rattle.circles.proofs.Closing.{closes}
 use Rattle.words.proofs.Turns.{iff-eq}
@@ -62,6 +62,12 @@ module _ (t l : List ℕ) (s k x : ℕ) (c : Asks t l s k x) where
             itemKnown = known (false-is e);
             inside = before .inside;
           }
+
+  -- ---- a wait that is noted already closes no circle
+  pub known-free : awaitsOn x (txn t s) ≡ true → circleAt base (noted base t l s k x) l s ≡ false
+  known-free e =
+      let o = circle-is base (tables t l (c .versions)) (c .good) s k x (c .inside) (c .known) (c .some) in
+      is-false (circleAt base after l s) (λ p. repeated base (tables t l (c .versions)) (c .good) s k x (true-is e) (o .0 p))
 
   -- ---- what is searched for is the circle
   module _ (w : List ℕ) (h : Links (noted base t l s k x) l w) where

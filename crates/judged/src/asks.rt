@@ -41,11 +41,14 @@ fn copied(txns: &[u64]) -> [u64; WORDS]
 }
 
 // A wait, or a deadlock where the wait would close a circle: it is noted in a copy, and the slot is
-// searched for from those whom it waits for there.
+// searched for from those whom it waits for there. A wait that is noted already closes none.
 fn conflict(txns: &[u64], locks: &[u64], slot: Slot, lock: u64, item: Item) -> Deed
     requires { ⌜ Asks (now txns) (now locks) (slot .0) lock (item .0) ⌝ }
     ensures { λ r. ⌜ r ≡ conflicted base (slot .0) lock (item .0) (ofLocks (now (txns .entry)) (now (locks .entry))) ⌝ }
 {
+    if ranks::awaits_on(txns, slot, item) {
+        return Deed::Waits(slot, lock, item);
+    }
     let mut after = copied(txns);
     ranks::note(&mut after, locks, slot, lock, item);
     let waiters = waiting::waits(&after, locks);

@@ -18,10 +18,10 @@ ghost use Rattle.rules.specs.Tables.{txnWords, lockWords, txnAt, txn, reranked,
 ghost use Rattle.rules.specs.Waits.{awaitsOn, waitersOn, exchangersOn, rankFor, raised, lowered, noted, closedUp};
 ghost use Rattle.rules.specs.Step.{cleared};
 ghost use Rattle.rows.specs.Founds.{lockOf};
-ghost use Rattle.ranks.specs.Lines.{RanksSmall};
+ghost use Rattle.ranks.specs.Lines.{RanksSmall, somebodyOn};
 
 // Whether a slot waits on an item.
-fn awaits_on(txns: &[u64], slot: Slot, item: Item) -> bool
+pub fn awaits_on(txns: &[u64], slot: Slot, item: Item) -> bool
     requires { ⌜ (length (now txns) ≡ txnWords base) × (slot .0 < base .slots) ⌝ }
     ensures { λ r. ⌜ r ≡ awaitsOn (item .0) (txn (now (txns .entry)) (slot .0)) ⌝ }
 {
@@ -39,6 +39,20 @@ fn shares(row: LockRow, slot: Slot) -> bool
 {
     let s = slot.0;
     (row.shared >> s) % 2 == 1
+}
+
+// Whether somebody waits on an item: where nobody does, no line need be looked at.
+pub fn somebody_on(txns: &[u64], item: Item) -> bool
+    requires { ⌜ length (now txns) ≡ txnWords base ⌝ }
+    ensures { λ r. ⌜ r ≡ somebodyOn base (now (txns .entry)) (item .0) ⌝ }
+{
+    let mut some = false;
+    let mut slot: u64 = 0;
+    while slot < SLOTS {
+        some = awaits_on(txns, Slot(slot), item) | some;
+        slot += 1;
+    }
+    some
 }
 
 // How many wait on an item.

@@ -1,4 +1,4 @@
--- The wait noted in a copy, and the slot searched for from those whom it waits for there.
+-- A wait that is noted already closes no circle; else it is noted in a copy, and the slot searched for from those whom it waits for there.
 use Prim.Native.Nat.{ℕ}
 use mathlib.Core.Path.{_≡_, sym, ap, _∙_, subst}
 use mathlib.Core.List.{List}
@@ -11,14 +11,14 @@ use Rattle.ranks.specs.Lines.{RanksSmall}
 use Rattle.ranks.proofs.Ranks.{ranks-small}
 use Rattle.waiting.specs.Waiting.{Readable, Links}
 use Rattle.waiting.proofs.Rounds.{links-slots}
-use Rattle.judged.proofs.Conflicts.{noted-readable, circle-found}
+use Rattle.judged.proofs.Conflicts.{noted-readable, known-free, circle-found}
 use borrow.Author.Needs.{needs}
 use Rattle.judged.proofs.asks.conflict.Statement.{statement}
 use Rattle.judged.proofs.asks.conflict.Tie as tie
 
 -- where the wait is noted
 abbrev start : tie.After-after3 → tie.Start
-start c = c .before .before .before .before .before .before .before
+start c = c .before .before .before .before .before .before .before .before .before
 
 abbrev txns : tie.After-after3 → List ℕ
 txns c = start c .args .txns .now
@@ -52,6 +52,15 @@ searched c =
     circle-found (txns r) (locks r) (slot r) (wants r) (item r) (start r .pre) (w .result .links)
     (subst (λ (u : List ℕ). Links u (locks r) (w .result .links)) (is-noted r) (w .ensures .1)) (c .reaches .result) (c .reaches .ensures)
 
+awaits-on-requires : tie.Need-awaits-on-requires
+awaits-on-requires c κs = (c .before .before .pre .good .txnsExact, c .before .before .pre .inside)
+
+returns : tie.Need-returns
+unfolding conflicted
+returns c = let s = c .before .before .before .before in
+    let a = s .args in
+    rw (known-free (a .txns .now) (a .locks .now) (a .slot .0) (a .lock) (a .item .0) (s .pre) (sym (c .before .awaits-on .ensures) ∙ c .if1 .taken))
+
 copied-requires : tie.Need-copied-requires
 copied-requires c κs = search needs
 
@@ -59,8 +68,8 @@ slice-aggregate-note : tie.Need-slice-aggregate-note
 slice-aggregate-note c = search needs
 
 note-requires : tie.Need-note-requires
-note-requires c κs = let a = c .before .before .before .before .args in
-    let p = c .before .before .before .before .pre in
+note-requires c κs = let a = c .before .before .before .before .before .before .args in
+    let p = c .before .before .before .before .before .before .pre in
     let e = c .before .copied .ensures in
     (ap length e ∙ p .good .txnsExact, p .good .locksExact, p .inside, p .known, subst RanksSmall (sym e) (ranks-small (tables (a .txns .now) (a .locks .now) (p .versions)) (p .good)))
 
@@ -68,7 +77,7 @@ slice-aggregate-waits : tie.Need-slice-aggregate-waits
 slice-aggregate-waits c = search needs
 
 waits-requires : tie.Need-waits-requires
-waits-requires c κs = subst (λ (u : List ℕ). Readable u (locks c)) (sym (is-noted c)) (noted-readable (txns c) (locks c) (slot c) (wants c) (item c) (c .before .before .before .before .before .before .before .pre))
+waits-requires c κs = subst (λ (u : List ℕ). Readable u (locks c)) (sym (is-noted c)) (noted-readable (txns c) (locks c) (slot c) (wants c) (item c) (start c .pre))
 
 mul-from : tie.Need-mul-from
 mul-from c = search needs
@@ -83,18 +92,20 @@ reaches-requires : tie.Need-reaches-requires
 reaches-requires c κs = let w = c .before .before .waits in
     (links-slots _ (locks (c .before .before .before)) (w .result .links) (w .ensures .1), w .ensures .1 .small (slot (c .before .before .before)))
 
-returns : tie.Need-returns
-unfolding conflicted
-returns c = rw (sym (searched (c .before)) ∙ c .if1 .taken)
-
 returns-2 : tie.Need-returns-2
 unfolding conflicted
-returns-2 c = rw (sym (searched (c .before)) ∙ c .if1 .left)
+returns-2 c = rw (sym (searched (c .before)) ∙ c .if2 .taken)
+
+returns-3 : tie.Need-returns-3
+unfolding conflicted
+returns-3 c = rw (sym (searched (c .before)) ∙ c .if2 .left)
 
 pub conflict-spec : {M : Type 1} → statement M
 conflict-spec =
     tie.close
     (tie.spec
+    awaits-on-requires
+    returns
     copied-requires
     slice-aggregate-note
     note-requires
@@ -104,5 +115,5 @@ conflict-spec =
     array-read-from
     slice-aggregate-reaches
     reaches-requires
-    returns
-    returns-2)
+    returns-2
+    returns-3)
