@@ -1,7 +1,7 @@
 -- The rows after a wait was noted, and after one left its line.
 use Prim.Native.Nat.{ℕ, suc, _≤_, _<_}
 use mathlib.Core.Path.{_≡_, refl, sym, ap, _∙_}
-use mathlib.Core.Logic.{_≢_, inl}
+use mathlib.Core.Logic.{_≢_, _⊎_, inl, inr, ⊎-elim}
 use mathlib.Core.Bool.{Bool, true, false, _&&_, cond}
 use mathlib.Core.List.{List}
 use native.Mathlib.Omega.{arith}
@@ -12,7 +12,7 @@ use Rattle.names.specs.Layout.{txnHead, lastNumberAt, clockAt}
 use Rattle.rules.specs.Tables.{txnWords, lastNumber, clock, Txn, txn, setTxn, setAwaited, withRank, reranked, lock, holdsShared, noLock}
 use Rattle.rules.specs.Waits.{awaits, awaitsOn, waitersOn, exchangersOn, rankFor, raised, lowered, noted, closedUp}
 use Rattle.rules.specs.Changed.{NoRank, leaving}
-use Rattle.rules.proofs.Tests.{true-is, is-true, is-false, and-left, same?}
+use Rattle.rules.proofs.Tests.{true-is, is-true, is-false, false-is, and-left}
 use Rattle.rules.proofs.Counts.{count-fewer}
 use Rattle.rules.proofs.Views.{awaiting, setAwaited-row, length-setTxn, txn-setTxn, txn-setTxn-other, lastNumber-setTxn, clock-setTxn, length-reranked, word-reranked, txn-reranked, txn-reranked-out}
 
@@ -22,18 +22,23 @@ head-no-rank n j h r i e = omega arith
 
 -- ---- a request's rank, where it stands in no line yet
 module _ (S : Sizes) (t l : List ℕ) (s x : ℕ) (new : T (awaitsOn x (txn t s)) → ⊥) where
-  rank-is : rankFor S t l s x ≡ suc (cond (holdsShared (lock l x) s) (exchangersOn S t l x) (waitersOn S t x))
-  unfolding rankFor
-  rank-is = rw (is-false (awaitsOn x (txn t s)) new)
-
   pub rank-shared : T (holdsShared (lock l x) s) → rankFor S t l s x ≡ suc (exchangersOn S t l x)
-  rank-shared h = rank-is ∙ rw (is-true (holdsShared (lock l x) s) h)
+  unfolding rankFor
+  rank-shared h = rw (is-false (awaitsOn x (txn t s)) new, is-true (holdsShared (lock l x) s) h)
 
   pub rank-last : (T (holdsShared (lock l x) s) → ⊥) → rankFor S t l s x ≡ suc (waitersOn S t x)
-  rank-last n = rank-is ∙ rw (is-false (holdsShared (lock l x) s) n)
+  unfolding rankFor
+  rank-last n = rw (is-false (awaitsOn x (txn t s)) new, is-false (holdsShared (lock l x) s) n)
+
+  rank-is : (rankFor S t l s x ≡ suc (exchangersOn S t l x)) ⊎ (rankFor S t l s x ≡ suc (waitersOn S t x))
+  rank-is = go (holdsShared (lock l x) s) refl
+    where
+      go : (b : Bool) → holdsShared (lock l x) s ≡ b → (rankFor S t l s x ≡ suc (exchangersOn S t l x)) ⊎ (rankFor S t l s x ≡ suc (waitersOn S t x))
+      go true e = inl (rank-shared (true-is e))
+      go false e = inr (rank-last (false-is e))
 
   pub rank-least : 1 ≤ rankFor S t l s x
-  rank-least = let e = rank-is in omega arith
+  rank-least = ⊎-elim (λ e. omega arith) (λ e. omega arith) rank-is
 
   -- who waits to exchange waits
   pub exchangers-wait : exchangersOn S t l x ≤ waitersOn S t x
@@ -41,11 +46,7 @@ module _ (S : Sizes) (t l : List ℕ) (s x : ℕ) (new : T (awaitsOn x (txn t s)
   exchangers-wait = count-fewer (S .slots) (λ b. awaitsOn x (txn t b) && holdsShared (lock l x) b) (λ b. awaitsOn x (txn t b)) (λ b i h. and-left (awaitsOn x (txn t b)) _ h)
 
   pub rank-most : rankFor S t l s x ≤ suc (waitersOn S t x)
-  rank-most = go (holdsShared (lock l x) s) rank-is
-    where
-      go : (b : Bool) → rankFor S t l s x ≡ suc (cond b (exchangersOn S t l x) (waitersOn S t x)) → rankFor S t l s x ≤ suc (waitersOn S t x)
-      go true e = let m = exchangers-wait in omega arith
-      go false e = omega arith
+  rank-most = let m = exchangers-wait in ⊎-elim (λ e. omega arith) (λ e. omega arith) rank-is
 
 -- where it stands in line already
 pub rank-known : (S : Sizes) (t l : List ℕ) (s x : ℕ) → T (awaitsOn x (txn t s)) → rankFor S t l s x ≡ (txn t s) .rank

@@ -1,20 +1,16 @@
 -- Slot by slot, no rank is above the number of slots.
 use Prim.Native.Nat.{ℕ, _+_, _-_, _≤_}
 use mathlib.Core.Path.{_≡_, refl, sym, ap, ap₂, _∙_}
-use mathlib.Core.Bool.{Bool, _&&_}
-use native.Mathlib.Numerals.{add-one}
+use mathlib.Core.Bool.{_&&_}
 use native.Mathlib.Omega.{arith}
 use borrow.Author.Needs.{needs}
 use lib.Dec.{leb}
 use Rattle.names.specs.Sizes.{base}
 use Rattle.rules.specs.Words.{everyBelow}
+use Rattle.rules.proofs.Counts.{every-more}
 use Rattle.tally.specs.Noted.{rankSmall, ranksSmall}
 use Rattle.tally.proofs.noted.ranks_small.Statement.{statement}
 use Rattle.tally.proofs.noted.ranks_small.Tie as tie
-
-every-more : (p : ℕ → Bool) (n : ℕ) → everyBelow (n + 1) p ≡ (p n && everyBelow n p)
-unfolding everyBelow
-every-more p n = rw add-one
 
 abbrev Inv-loop : tie.InvT-loop
 Inv-loop txns ok₀ slot₀ ok slot = (slot ≤ base .slots) × (ok ≡ everyBelow slot (rankSmall txns))
