@@ -1,0 +1,114 @@
+-- A slot that waits is marked, or its rank is one that cannot stand.
+use Prim.Native.Nat.{ℕ, _<_}
+use mathlib.Core.Path.{refl, sym, ap, _∙_, subst}
+use mathlib.Core.Logic.{_≢_}
+use native.Mathlib.Omega.{arith}
+use Rattle.names.specs.Sizes.{base}
+use Rattle.rules.specs.Tables.{txn, noLock, Lock}
+use Rattle.rules.proofs.Tests.{true-is, false-is}
+use Rattle.ranked.proofs.Marking.{marked-still, rank-0, rank-high, rank-taken, marked-more}
+use borrow.Author.Needs.{needs}
+use Rattle.ranked.proofs.mark.Statement.{statement}
+use Rattle.ranked.proofs.mark.Tie as tie
+
+-- it waits
+waits : (c : tie.Else1) → (txn (c .before .before .before .before .before .args .txns .now) (c .before .before .before .before .before .args .slot .0)) .awaitedLock ≢ noLock
+waits c e = c .if1 .left (c .before .awaited-lock .ensures ∙ e)
+
+-- the awaited item is one
+known : (c : tie.After-awaited-item) → c .awaited-item .result < base .items
+known c = let p = c .before .before .before .before .before .before .pre in
+    subst (λ (n : ℕ). n < base .items) (sym (c .awaited-item .ensures)) (p .0 .itemKnown (c .before .before .before .before .before .before .args .slot .0) (p .2) (waits (c .before)))
+
+awaited-lock-requires : tie.Need-awaited-lock-requires
+awaited-lock-requires c κs = search needs
+
+returns : tie.Need-returns
+returns c = let a = c .before .before .before .before .before .args in
+    let p = c .before .before .before .before .before .pre in
+    (λ e. marked-still (a .txns .now) (a .locks .now) (a .marks .now) (a .slot .0) (p .2) (p .1) (sym (c .before .awaited-lock .ensures) ∙ c .if1 .taken), λ e g. false-is e tt)
+
+awaited-item-requires : tie.Need-awaited-item-requires
+awaited-item-requires c κs = search needs
+
+rank-requires : tie.Need-rank-requires
+rank-requires c κs = search needs
+
+returns-2 : tie.Need-returns-2
+returns-2 c = let a = c .before .before .before .before .before .before .before .before .args in
+    let p = c .before .before .before .before .before .before .before .before .pre in
+    (λ e. absurd (true-is e), λ e. rank-0 (a .txns .now) (a .locks .now) (a .marks .now) (a .slot .0) (p .2) (p .1) (c .before .before .awaited-item .result) (c .before .rank .result) (c .before .before .awaited-item .ensures) (c .before .rank .ensures) (waits (c .before .before .before)) (c .if2 .taken))
+
+returns-3 : tie.Need-returns-3
+returns-3 c = let a = c .before .before .before .before .before .before .before .before .before .args in
+    let p = c .before .before .before .before .before .before .before .before .before .pre in
+    (λ e. absurd (true-is e), λ e. rank-high (a .txns .now) (a .locks .now) (a .marks .now) (a .slot .0) (p .2) (p .1) (c .before .before .before .awaited-item .result) (c .before .before .rank .result) (c .before .before .before .awaited-item .ensures) (c .before .before .rank .ensures) (waits (c .before .before .before .before)) (c .if3 .taken))
+
+mul-word : tie.Need-mul-word
+mul-word c = let k = known (c .before .before .before) in omega arith
+
+slice-read-word : tie.Need-slice-read-word
+slice-read-word c = let k = known (c .before .before .before .before) in let z = c .before .before .before .before .before .before .before .before .before .before .pre .1 .size in omega arith
+
+shr-if4 : tie.Need-shr-if4
+shr-if4 c = search needs
+
+returns-4 : tie.Need-returns-4
+returns-4 c = let a = c .before .before .before .before .before .before .before .before .before .before .before .args in
+    let p = c .before .before .before .before .before .before .before .before .before .before .before .pre in
+    let k = c .before .before .if3 .left in
+    (λ e. absurd (true-is e), λ e. rank-taken (a .txns .now) (a .locks .now) (a .marks .now) (a .slot .0) (p .2) (p .1) (c .before .before .before .before .before .awaited-item .result) (c .before .before .before .before .rank .result) (c .before .before .before .before .before .awaited-item .ensures) (c .before .before .before .before .rank .ensures) (waits (c .before .before .before .before .before .before)) (known (c .before .before .before .before .before)) (omega arith) (c .if4 .taken))
+
+lock-at-requires : tie.Need-lock-at-requires
+lock-at-requires c κs = (c .before .before .before .before .before .before .before .before .before .before .before .pre .0 .locksExact, known (c .before .before .before .before .before))
+
+shr-share : tie.Need-shr-share
+shr-share c = search needs
+
+shl-marks : tie.Need-shl-marks
+shl-marks c = search needs
+
+add-marks : tie.Need-add-marks
+add-marks c = search needs
+
+shl-marks-2 : tie.Need-shl-marks-2
+shl-marks-2 c = search needs
+
+mul-marks : tie.Need-mul-marks
+mul-marks c = let k = known (c .before .before .before .before .before .before .before .before) in omega arith
+
+slice-write-marks : tie.Need-slice-write-marks
+slice-write-marks c = let k = known (c .before .before .before .before .before .before .before .before) in let z = c .before .before .before .before .before .before .before .before .before .before .before .before .before .before .pre .1 .size in omega arith
+
+same-length : tie.Need-same-length
+same-length c = search needs
+
+returns-5 : tie.Need-returns-5
+returns-5 c = let a = c .before .before .before .before .before .before .before .before .before .before .before .before .before .before .args in
+    let p = c .before .before .before .before .before .before .before .before .before .before .before .before .before .before .pre in
+    let k = c .before .before .before .before .before .if3 .left in
+    (λ e. marked-more (a .txns .now) (a .locks .now) (a .marks .now) (a .slot .0) (p .2) (p .1) (c .before .before .before .before .before .before .before .before .awaited-item .result) (c .before .before .before .before .before .before .before .rank .result) (c .before .before .before .before .before .before .before .before .awaited-item .ensures) (c .before .before .before .before .before .before .before .rank .ensures) (waits (c .before .before .before .before .before .before .before .before .before)) (known (c .before .before .before .before .before .before .before .before)) (omega arith) (c .before .before .before .before .before .before .if2 .left) (c .before .before .before .if4 .left) (c .before .before .lock-at .result .shared) (ap (λ (h : Lock). h .shared) (c .before .before .lock-at .ensures)) refl, λ e g. false-is e tt)
+
+pub mark-spec : {M : Type 1} → statement M
+mark-spec =
+    tie.close
+    (tie.spec
+    awaited-lock-requires
+    returns
+    awaited-item-requires
+    rank-requires
+    returns-2
+    returns-3
+    mul-word
+    slice-read-word
+    shr-if4
+    returns-4
+    lock-at-requires
+    shr-share
+    shl-marks
+    add-marks
+    shl-marks-2
+    mul-marks
+    slice-write-marks
+    same-length
+    returns-5)
