@@ -37,12 +37,12 @@ rank-requires c κs = search needs
 returns-2 : tie.Need-returns-2
 returns-2 c = let a = c .before .before .before .before .before .before .before .before .args in
     let p = c .before .before .before .before .before .before .before .before .pre in
-    (λ e. absurd (true-is e), λ e. rank-0 (a .txns .now) (a .locks .now) (a .marks .now) (a .slot .0) (p .2) (p .1) (c .before .before .awaited-item .result) (c .before .rank .result) (c .before .before .awaited-item .ensures) (c .before .rank .ensures) (waits (c .before .before .before)) (c .if2 .taken))
+    (λ e. absurd (true-is e), λ e. rank-0 (a .txns .now) (a .locks .now) (a .marks .now) (a .slot .0) (p .2) (p .1) (c .before .before .awaited-item .result) (c .before .rank .result) (c .before .before .awaited-item .ensures) (c .before .rank .ensures) (waits (c .before .before .before)) (omega arith))
 
 returns-3 : tie.Need-returns-3
 returns-3 c = let a = c .before .before .before .before .before .before .before .before .before .args in
     let p = c .before .before .before .before .before .before .before .before .before .pre in
-    (λ e. absurd (true-is e), λ e. rank-high (a .txns .now) (a .locks .now) (a .marks .now) (a .slot .0) (p .2) (p .1) (c .before .before .before .awaited-item .result) (c .before .before .rank .result) (c .before .before .before .awaited-item .ensures) (c .before .before .rank .ensures) (waits (c .before .before .before .before)) (c .if3 .taken))
+    (λ e. absurd (true-is e), λ e. rank-high (a .txns .now) (a .locks .now) (a .marks .now) (a .slot .0) (p .2) (p .1) (c .before .before .before .awaited-item .result) (c .before .before .rank .result) (c .before .before .before .awaited-item .ensures) (c .before .before .rank .ensures) (waits (c .before .before .before .before)) (omega arith))
 
 mul-word : tie.Need-mul-word
 mul-word c = let k = known (c .before .before .before) in omega arith
@@ -56,8 +56,7 @@ shr-if4 c = search needs
 returns-4 : tie.Need-returns-4
 returns-4 c = let a = c .before .before .before .before .before .before .before .before .before .before .before .args in
     let p = c .before .before .before .before .before .before .before .before .before .before .before .pre in
-    let k = c .before .before .if3 .left in
-    (λ e. absurd (true-is e), λ e. rank-taken (a .txns .now) (a .locks .now) (a .marks .now) (a .slot .0) (p .2) (p .1) (c .before .before .before .before .before .awaited-item .result) (c .before .before .before .before .rank .result) (c .before .before .before .before .before .awaited-item .ensures) (c .before .before .before .before .rank .ensures) (waits (c .before .before .before .before .before .before)) (known (c .before .before .before .before .before)) (omega arith) (c .if4 .taken))
+    (λ e. absurd (true-is e), λ e. rank-taken (a .txns .now) (a .locks .now) (a .marks .now) (a .slot .0) (p .2) (p .1) (c .before .before .before .before .before .awaited-item .result) (c .before .before .before .before .rank .result) (c .before .before .before .before .before .awaited-item .ensures) (c .before .before .before .before .rank .ensures) (waits (c .before .before .before .before .before .before)) (known (c .before .before .before .before .before)) (omega arith) (omega arith))
 
 lock-at-requires : tie.Need-lock-at-requires
 lock-at-requires c κs = (c .before .before .before .before .before .before .before .before .before .before .before .pre .0 .locksExact, known (c .before .before .before .before .before))
@@ -86,8 +85,7 @@ same-length c = search needs
 returns-5 : tie.Need-returns-5
 returns-5 c = let a = c .before .before .before .before .before .before .before .before .before .before .before .before .before .before .args in
     let p = c .before .before .before .before .before .before .before .before .before .before .before .before .before .before .pre in
-    let k = c .before .before .before .before .before .if3 .left in
-    (λ e. marked-more (a .txns .now) (a .locks .now) (a .marks .now) (a .slot .0) (p .2) (p .1) (c .before .before .before .before .before .before .before .before .awaited-item .result) (c .before .before .before .before .before .before .before .rank .result) (c .before .before .before .before .before .before .before .before .awaited-item .ensures) (c .before .before .before .before .before .before .before .rank .ensures) (waits (c .before .before .before .before .before .before .before .before .before)) (known (c .before .before .before .before .before .before .before .before)) (omega arith) (c .before .before .before .before .before .before .if2 .left) (c .before .before .before .if4 .left) (c .before .before .lock-at .result .shared) (ap (λ (h : Lock). h .shared) (c .before .before .lock-at .ensures)) refl, λ e g. false-is e tt)
+    (λ e. marked-more (a .txns .now) (a .locks .now) (a .marks .now) (a .slot .0) (p .2) (p .1) (c .before .before .before .before .before .before .before .before .awaited-item .result) (c .before .before .before .before .before .before .before .rank .result) (c .before .before .before .before .before .before .before .before .awaited-item .ensures) (c .before .before .before .before .before .before .before .rank .ensures) (waits (c .before .before .before .before .before .before .before .before .before)) (known (c .before .before .before .before .before .before .before .before)) (omega arith) (λ z. omega arith) (λ z. omega arith) (c .before .before .lock-at .result .shared) (ap (λ (h : Lock). h .shared) (c .before .before .lock-at .ensures)) refl, λ e g. false-is e tt)
 
 pub mark-spec : {M : Type 1} → statement M
 mark-spec =
