@@ -78,7 +78,7 @@ regroup false true c = refl
 regroup false false true = refl
 regroup false false false = refl
 
-module _ (t l w : List ℕ) (n : ℕ) (i : n < base .slots) (m : Marked t l w n) where
+module _ {t l w : List ℕ} {n : ℕ} (i : n < base .slots) (m : Marked t l w n) where
   -- ---- slot n does not wait
   pub marked-still : (txn t n) .awaitedLock ≡ noLock → Marked t l w (n + 1)
   marked-still z =
@@ -99,7 +99,7 @@ module _ (t l w : List ℕ) (n : ℕ) (i : n < base .slots) (m : Marked t l w n)
       before s h a = ⊎-elim (λ e. absurd (idle s e a)) (λ (d : s ≢ n). omega arith) (same? s n)
 
   -- ---- slot n waits on item x at the rank p
-  module _ (x p : ℕ) (ex : x ≡ (txn t n) .awaitedItem) (ep : p ≡ (txn t n) .rank) (a : (txn t n) .awaitedLock ≢ noLock) where
+  module _ {x p : ℕ} (ex : x ≡ (txn t n) .awaitedItem) (ep : p ≡ (txn t n) .rank) (a : (txn t n) .awaitedLock ≢ noLock) where
     waits : T (awaits (txn t n))
     waits = →awaits (txn t n) a
 
@@ -134,7 +134,7 @@ module _ (t l w : List ℕ) (n : ℕ) (i : n < base .slots) (m : Marked t l w n)
               (u .1)
 
       -- it is free, and marked
-      module _ (least : p ≢ 0) (free : getD w x 0 / 2 ^ p % 2 ≢ 1) (h : ℕ) (eh : h ≡ (lock l x) .shared) where
+      module _ (least : p ≢ 0) (free : getD w x 0 / 2 ^ p % 2 ≢ 1) {h : ℕ} (eh : h ≡ (lock l x) .shared) where
         abbrev word : ℕ
         word = bitOr (bitOr (getD w x 0) (oneShifted p)) (h / 2 ^ n % 2 * 2 ^ (p + sharing) % 2 ^ 64)
 

@@ -2,7 +2,7 @@
 use Prim.Native.Nat.{ℕ, _+_, _-_, _/_, _^_, _≤_, _<_}
 use mathlib.Core.Path.{_≡_}
 use mathlib.Core.Logic.{_≢_}
-use mathlib.Core.Bool.{Bool, _&&_, _||_}
+use mathlib.Core.Bool.{Bool, true, false, _&&_, _||_}
 use mathlib.Core.List.{List}
 use lib.ListN.{getD, length}
 use lib.Dec.{T, eqb}
@@ -10,6 +10,7 @@ use Rattle.names.specs.Sizes.{base}
 use Rattle.rules.specs.Words.{bit, implies, someBelow}
 use Rattle.rules.specs.Tables.{txn, txnWords, lock, lockWords, holdsShared, noLock}
 use Rattle.rules.specs.Waits.{awaits, awaitsOn}
+use Rattle.rules.specs.Tested.{ranksGood}
 
 -- ---- what is known of the tables when the ranks are tested
 pub record Known (t l : List ℕ) : Type 0 where
@@ -37,6 +38,11 @@ pub record Marked (t l w : List ℕ) (n : ℕ) : Type 0 where
   pub apart :
       (x r s : ℕ) → r < n → s < n → r ≢ s → T (awaitsOn x (txn t r)) → T (awaitsOn x (txn t s))
       → (txn t r) .rank ≢ (txn t s) .rank
+
+-- the answer r to whether the first n slots can be marked: if so, w holds their marks; if not, the ranks are not good
+pub record Marking (t l w : List ℕ) (n : ℕ) (r : Bool) : Type 0 where
+  pub yes : r ≡ true → Marked t l w n
+  pub no : r ≡ false → T (ranksGood base t l) → ⊥
 
 -- slot s, if it waits, stands first or right behind a rank that is taken; and if it does not share the item, no second mark stands at
 -- its own rank or behind

@@ -4,14 +4,12 @@
 // Two passes over the slots, with a word for each item. The first marks each rank that is taken, and
 // marks it a second time, higher up, for one who shares the item. The second looks the marks up.
 ghost use mathlib.Core.Path.{_≡_};
-ghost use mathlib.Core.Bool.{true, false};
 ghost use Prim.Native.Nat.{_+_, _<_};
 ghost use lib.ListN.{replicate};
-ghost use lib.Dec.{T};
 ghost use Rattle.names.specs.Sizes.{base};
 ghost use Rattle.rules.specs.Words.{everyBelow};
 ghost use Rattle.rules.specs.Tested.{ranksGood};
-ghost use Rattle.ranked.specs.Marks.{Known, Marked, placed};
+ghost use Rattle.ranked.specs.Marks.{Known, Marked, Marking, placed};
 use names::Item;
 use names::NO_LOCK;
 use names::SLOTS;
@@ -25,7 +23,7 @@ const SHARING: u64 = 32;
 // One slot: if it waits, its rank is marked. False if that is no rank, or is taken already.
 fn mark(txns: &[u64], locks: &[u64], marks: &mut [u64], slot: Slot) -> bool
     requires { ⌜ Known (now txns) (now locks) × Marked (now txns) (now locks) (now marks) (slot .0) × (slot .0 < base .slots) ⌝ }
-    ensures { λ r. ⌜ (r ≡ true → Marked (now (txns .entry)) (now (locks .entry)) (now (marks .exit)) (slot .0 + 1)) × (r ≡ false → T (ranksGood base (now (txns .entry)) (now (locks .entry))) → ⊥) ⌝ }
+    ensures { λ r. ⌜ Marking (now (txns .entry)) (now (locks .entry)) (now (marks .exit)) (slot .0 + 1) r ⌝ }
 {
     let wanted = rows::awaited_lock(txns, slot);
     if wanted == NO_LOCK {
@@ -53,7 +51,7 @@ fn mark(txns: &[u64], locks: &[u64], marks: &mut [u64], slot: Slot) -> bool
 // The first pass.
 fn mark_all(txns: &[u64], locks: &[u64], marks: &mut [u64]) -> bool
     requires { ⌜ Known (now txns) (now locks) × (now marks ≡ replicate (base .items) 0) ⌝ }
-    ensures { λ r. ⌜ (r ≡ true → Marked (now (txns .entry)) (now (locks .entry)) (now (marks .exit)) (base .slots)) × (r ≡ false → T (ranksGood base (now (txns .entry)) (now (locks .entry))) → ⊥) ⌝ }
+    ensures { λ r. ⌜ Marking (now (txns .entry)) (now (locks .entry)) (now (marks .exit)) (base .slots) r ⌝ }
 {
     let mut slot: u64 = 0;
     while slot < SLOTS {

@@ -11,6 +11,10 @@ use borrow.Author.Needs.{needs}
 use Rattle.ranked.proofs.mark.Statement.{statement}
 use Rattle.ranked.proofs.mark.Tie as tie
 
+-- where the function began
+abbrev start : tie.After-rank → tie.Start
+start r = r .before .before .before .before .before .before .before
+
 -- it waits
 waits : (c : tie.Else1) → (txn (c .before .before .before .before .before .args .txns .now) (c .before .before .before .before .before .args .slot .0)) .awaitedLock ≢ noLock
 waits c e = c .if1 .left (c .before .awaited-lock .ensures ∙ e)
@@ -24,9 +28,8 @@ awaited-lock-requires : tie.Need-awaited-lock-requires
 awaited-lock-requires c κs = search needs
 
 returns : tie.Need-returns
-returns c = let a = c .before .before .before .before .before .args in
-    let p = c .before .before .before .before .before .pre in
-    (λ e. marked-still (a .txns .now) (a .locks .now) (a .marks .now) (a .slot .0) (p .2) (p .1) (sym (c .before .awaited-lock .ensures) ∙ c .if1 .taken), λ e g. false-is e tt)
+returns c = let p = c .before .before .before .before .before .pre in
+    record { yes = λ e. marked-still (p .2) (p .1) (sym (c .before .awaited-lock .ensures) ∙ c .if1 .taken); no = λ e g. false-is e tt }
 
 awaited-item-requires : tie.Need-awaited-item-requires
 awaited-item-requires c κs = search needs
@@ -35,31 +38,34 @@ rank-requires : tie.Need-rank-requires
 rank-requires c κs = search needs
 
 returns-2 : tie.Need-returns-2
-returns-2 c = let a = c .before .before .before .before .before .before .before .before .args in
-    let p = c .before .before .before .before .before .before .before .before .pre in
-    (λ e. absurd (true-is e), λ e. rank-0 (a .txns .now) (a .locks .now) (a .marks .now) (a .slot .0) (p .2) (p .1) (c .before .before .awaited-item .result) (c .before .rank .result) (c .before .before .awaited-item .ensures) (c .before .rank .ensures) (waits (c .before .before .before)) (omega arith))
+returns-2 c = let r = c .before in
+    let p = (start r) .pre in
+    record { yes = λ e. absurd (true-is e); no = λ e. rank-0 (p .2) (p .1) (r .before .awaited-item .ensures) (r .rank .ensures) (waits (r .before .before)) (omega arith) }
 
 returns-3 : tie.Need-returns-3
-returns-3 c = let a = c .before .before .before .before .before .before .before .before .before .args in
-    let p = c .before .before .before .before .before .before .before .before .before .pre in
-    (λ e. absurd (true-is e), λ e. rank-high (a .txns .now) (a .locks .now) (a .marks .now) (a .slot .0) (p .2) (p .1) (c .before .before .before .awaited-item .result) (c .before .before .rank .result) (c .before .before .before .awaited-item .ensures) (c .before .before .rank .ensures) (waits (c .before .before .before .before)) (omega arith))
+returns-3 c = let r = c .before .before in
+    let p = (start r) .pre in
+    record { yes = λ e. absurd (true-is e); no = λ e. rank-high (p .2) (p .1) (r .before .awaited-item .ensures) (r .rank .ensures) (waits (r .before .before)) (omega arith) }
 
 mul-word : tie.Need-mul-word
 mul-word c = let k = known (c .before .before .before) in omega arith
 
 slice-read-word : tie.Need-slice-read-word
-slice-read-word c = let k = known (c .before .before .before .before) in let z = c .before .before .before .before .before .before .before .before .before .before .pre .1 .size in omega arith
+slice-read-word c = let r = c .before .before .before in
+    let k = known (r .before) in
+    let z = (start r) .pre .1 .size in
+    omega arith
 
 shr-if4 : tie.Need-shr-if4
 shr-if4 c = search needs
 
 returns-4 : tie.Need-returns-4
-returns-4 c = let a = c .before .before .before .before .before .before .before .before .before .before .before .args in
-    let p = c .before .before .before .before .before .before .before .before .before .before .before .pre in
-    (λ e. absurd (true-is e), λ e. rank-taken (a .txns .now) (a .locks .now) (a .marks .now) (a .slot .0) (p .2) (p .1) (c .before .before .before .before .before .awaited-item .result) (c .before .before .before .before .rank .result) (c .before .before .before .before .before .awaited-item .ensures) (c .before .before .before .before .rank .ensures) (waits (c .before .before .before .before .before .before)) (known (c .before .before .before .before .before)) (omega arith) (omega arith))
+returns-4 c = let r = c .before .before .before .before in
+    let p = (start r) .pre in
+    record { yes = λ e. absurd (true-is e); no = λ e. rank-taken (p .2) (p .1) (r .before .awaited-item .ensures) (r .rank .ensures) (waits (r .before .before)) (known (r .before)) (omega arith) (omega arith) }
 
 lock-at-requires : tie.Need-lock-at-requires
-lock-at-requires c κs = (c .before .before .before .before .before .before .before .before .before .before .before .pre .0 .locksExact, known (c .before .before .before .before .before))
+lock-at-requires c κs = let r = c .before .before .before .before in ((start r) .pre .0 .locksExact, known (r .before))
 
 shr-share : tie.Need-shr-share
 shr-share c = search needs
@@ -77,15 +83,23 @@ mul-marks : tie.Need-mul-marks
 mul-marks c = let k = known (c .before .before .before .before .before .before .before .before) in omega arith
 
 slice-write-marks : tie.Need-slice-write-marks
-slice-write-marks c = let k = known (c .before .before .before .before .before .before .before .before) in let z = c .before .before .before .before .before .before .before .before .before .before .before .before .before .before .pre .1 .size in omega arith
+slice-write-marks c = let r = c .before .before .before .before .before .before .before in
+    let k = known (r .before) in
+    let z = (start r) .pre .1 .size in
+    omega arith
 
 same-length : tie.Need-same-length
 same-length c = search needs
 
 returns-5 : tie.Need-returns-5
-returns-5 c = let a = c .before .before .before .before .before .before .before .before .before .before .before .before .before .before .args in
-    let p = c .before .before .before .before .before .before .before .before .before .before .before .before .before .before .pre in
-    (λ e. marked-more (a .txns .now) (a .locks .now) (a .marks .now) (a .slot .0) (p .2) (p .1) (c .before .before .before .before .before .before .before .before .awaited-item .result) (c .before .before .before .before .before .before .before .rank .result) (c .before .before .before .before .before .before .before .before .awaited-item .ensures) (c .before .before .before .before .before .before .before .rank .ensures) (waits (c .before .before .before .before .before .before .before .before .before)) (known (c .before .before .before .before .before .before .before .before)) (omega arith) (λ z. omega arith) (λ z. omega arith) (c .before .before .lock-at .result .shared) (ap (λ (h : Lock). h .shared) (c .before .before .lock-at .ensures)) refl, λ e g. false-is e tt)
+returns-5 c = let r = c .before .before .before .before .before .before .before in
+    let p = (start r) .pre in
+    record {
+      yes = λ e.
+          marked-more (p .2) (p .1) (r .before .awaited-item .ensures) (r .rank .ensures) (waits (r .before .before)) (known (r .before)) (omega arith)
+          (λ z. omega arith) (λ z. omega arith) (ap (λ (h : Lock). h .shared) (c .before .before .lock-at .ensures)) refl;
+      no = λ e g. false-is e tt;
+    }
 
 pub mark-spec : {M : Type 1} → statement M
 mark-spec =

@@ -28,7 +28,7 @@ same-length : tie.Need-same-length Inv-loop μ-loop
 same-length c = search needs
 
 returns : tie.Need-returns Inv-loop μ-loop
-returns c = (λ e. absurd (true-is e), λ e. c .before .before .before .mark .ensures .1 (not-true _ (c .if1 .taken)))
+returns c = record { yes = λ e. absurd (true-is e); no = λ e. c .before .before .before .mark .ensures .no (not-true _ (c .if1 .taken)) }
 
 add-slot : tie.Need-add-slot Inv-loop μ-loop
 add-slot c = omega arith
@@ -37,7 +37,7 @@ loop-less : tie.Need-loop-less Inv-loop μ-loop
 loop-less c = omega arith
 
 loop-again : tie.Need-loop-again Inv-loop μ-loop
-loop-again c = (omega arith, c .before .before .before .mark .ensures .0 (not-false _ (c .if1 .left)))
+loop-again c = (omega arith, c .before .before .before .mark .ensures .yes (not-false _ (c .if1 .left)))
 
 same-length-2 : tie.Need-same-length-2 Inv-loop μ-loop
 same-length-2 c = c .before .loop .inv .1 .size ∙ sym (ap length (c .before .before .before .before .before .pre .1))
@@ -46,7 +46,7 @@ returns-2 : tie.Need-returns-2 Inv-loop μ-loop
 returns-2 c = let a = c .before .before .before .before .before .args in
     let l = c .before .loop in
     let e : l .slot ≡ base .slots = (let k = l .inv .0 in omega arith) in
-    (λ u. subst (λ (n : ℕ). Marked (a .txns .now) (a .locks .now) (l .marks) n) e (l .inv .1), λ u g. false-is u tt)
+    record { yes = λ u. subst (λ (n : ℕ). Marked (a .txns .now) (a .locks .now) (l .marks) n) e (l .inv .1); no = λ u g. false-is u tt }
 
 pub mark-all-spec : {M : Type 1} → statement M
 mark-all-spec =

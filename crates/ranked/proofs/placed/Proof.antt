@@ -69,7 +69,9 @@ shr-result-2 c = let k = ranked (c .before .before .before) in omega arith
 
 returns-2 : tie.Need-returns-2
 returns-2 c = let a = c .before .before .before .before .before .before .before .before .before .before .args in
-    placed-read (a .txns .now) (a .locks .now) (a .marks .now) (a .slot .0) (waits (c .before .before .before .before .before)) (c .before .before .before .before .awaited-item .ensures) (c .before .before .before .rank .ensures) (c .before .before .lock-at .ensures) (c .shares .ensures)
+    let r = c .before .before .before in
+    placed-read (a .txns .now) (a .locks .now) (a .marks .now) (a .slot .0)
+    (waits (r .before .before)) (r .before .awaited-item .ensures) (r .rank .ensures) (c .before .before .lock-at .ensures) (c .shares .ensures)
 
 pub placed-spec : {M : Type 1} → statement M
 placed-spec =

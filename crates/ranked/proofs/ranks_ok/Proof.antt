@@ -17,16 +17,16 @@ mark-all-requires c κs = search needs
 
 returns : tie.Need-returns
 returns c = let a = c .before .before .before .before .before .before .args in
-    sym (is-false (ranksGood base (a .txns .now) (a .locks .now)) (c .before .before .mark-all .ensures .1 (not-true _ (c .if1 .taken))))
+    sym (is-false (ranksGood base (a .txns .now) (a .locks .now)) (c .before .before .mark-all .ensures .no (not-true _ (c .if1 .taken))))
 
 slice-aggregate-all-placed : tie.Need-slice-aggregate-all-placed
 slice-aggregate-all-placed c = search needs
 
 all-placed-requires : tie.Need-all-placed-requires
-all-placed-requires c κs = (c .before .before .before .before .before .before .before .pre, c .before .before .before .mark-all .ensures .0 (not-false _ (c .before .if1 .left)))
+all-placed-requires c κs = (c .before .before .before .before .before .before .before .pre, c .before .before .before .mark-all .ensures .yes (not-false _ (c .before .if1 .left)))
 
 returns-2 : tie.Need-returns-2
-returns-2 c = c .all-placed .ensures ∙ placed-good _ _ _ (c .before .before .before .before .before .before .before .before .pre) (c .before .before .before .before .mark-all .ensures .0 (not-false _ (c .before .before .if1 .left)))
+returns-2 c = c .all-placed .ensures ∙ placed-good _ _ _ (c .before .before .before .before .before .before .before .before .pre) (c .before .before .before .before .mark-all .ensures .yes (not-false _ (c .before .before .if1 .left)))
 
 pub ranks-ok-spec : {M : Type 1} → statement M
 ranks-ok-spec =
