@@ -33,7 +33,7 @@ pub fn awaits_on(txns: &[u64], slot: Slot, item: Item) -> bool
 }
 
 // Whether a slot shares a lock.
-fn shares(row: LockRow, slot: Slot) -> bool
+pub fn shares(row: LockRow, slot: Slot) -> bool
     requires { ⌜ slot .0 < base .slots ⌝ }
     ensures { λ r. ⌜ r ≡ holdsShared (lockOf row) (slot .0) ⌝ }
 {

@@ -5,13 +5,13 @@ use mathlib.Core.Logic.{_≢_}
 use mathlib.Core.Bool.{Bool, _&&_, _||_, not}
 use mathlib.Core.List.{List}
 use lib.ListN.{getD, length}
-use lib.Dec.{T, eqb, ltb}
+use lib.Dec.{T, eqb}
 use Rattle.names.specs.declared.Sizes.{Sizes}
 use Rattle.names.specs.Sizes.{base}
-use Rattle.rules.specs.Words.{bit, implies, everyBelow}
+use Rattle.rules.specs.Words.{bit, everyBelow}
 use Rattle.rules.specs.Tables.{txn, txnWords, Lock, lock, lockWords, holds, noLock, sharedLock, exclusiveLock}
-use Rattle.rules.specs.Waits.{awaitsOn, conflicts, ahead, blocks, waitsFor}
-use Rattle.rules.specs.Tested.{awaiterGood, rankWithin, ranksApart}
+use Rattle.rules.specs.Waits.{conflicts, ahead, blocks, waitsFor}
+use Rattle.rules.specs.Tested.{awaiterGood}
 
 -- ---- what is known of the tables when the waits are read
 pub record Readable (t l : List ℕ) : Type 0 where
@@ -56,17 +56,3 @@ awaitersGood S t l = everyBelow (S .slots) (λ s. awaiterGood s (txn t s) (lock 
 abbrev pub awaiterOk : ℕ → ℕ → ℕ → ℕ → Bool
 awaiterOk shared exclusive wanted slot =
     not (eqb exclusive (slot + 1)) && (not (eqb wanted sharedLock) || eqb (shared / 2 ^ slot % 2) 0)
-
--- ---- request E4: the ranks, slot by slot
-unfoldable pub rankRight : Sizes → List ℕ → List ℕ → ℕ → Bool
-rankRight S t l s = rankWithin S t s && everyBelow (S .slots) (λ r. implies (not (eqb r s)) (ranksApart t l r s))
-
--- slot r against slot s, which waits on item x at the rank p; h is the word of the item's shared holders
-unfoldable pub standsApart : List ℕ → ℕ → ℕ → ℕ → ℕ → ℕ → Bool
-standsApart t h s x p r =
-    eqb r s
-    || not (awaitsOn x (txn t r))
-    || (not (eqb ((txn t r) .rank) p) && (not (bit h r && not (bit h s)) || ltb ((txn t r) .rank) p))
-
-unfoldable pub allApart : Sizes → List ℕ → ℕ → ℕ → ℕ → ℕ → Bool
-allApart S t h s x p = everyBelow (S .slots) (standsApart t h s x p)

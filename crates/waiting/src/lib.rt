@@ -22,8 +22,6 @@ use names::TXN_LOCK_AT;
 use names::TXN_RANK_AT;
 use names::TXN_ROW;
 
-mod lines;
-
 const SLOTS: usize = names::SLOTS as usize;
 
 // What one pass over the rows that await a lock sees: whether each may await it; whom each slot waits
@@ -135,5 +133,5 @@ pub fn waits_pass(txns: &[u64], locks: &[u64], waiting: u64) -> bool
     let ok = seen.ok;
     let links = seen.links;
     let free = circles::no_circle(&links, waiting);
-    ok & (lines::ranks_ok(txns, locks) & free)
+    ok & (ranked::ranks_ok(txns, locks) & free)
 }

@@ -18,7 +18,8 @@ no-circle-requires c κs = let a = c .before .before .before .before .before .ar
     (links-slots _ _ _ w, links-waiting _ _ _ w (c .before .before .before .before .before .pre .0) (a .waiting) (c .before .before .before .before .before .pre .1))
 
 ranks-ok-requires : tie.Need-ranks-ok-requires
-ranks-ok-requires c κs = search needs
+ranks-ok-requires c κs = let o = c .before .before .before .before .before .before .pre .0 in
+    record { txnsExact = o .txnsExact; locksExact = o .locksExact; itemKnown = o .itemKnown }
 
 returns : tie.Need-returns
 returns c = let w = c .before .before .before .before .waits .ensures in
