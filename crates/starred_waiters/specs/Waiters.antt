@@ -5,7 +5,7 @@ use mathlib.Core.List.{List, [], _∷_}
 use lib.Dec.{eqb}
 use Rattle.rules.specs.Tables.{Tables, txn}
 use Rattle.rules.specs.Answers.{BeginUpdate, Read, Write, Commit, Abort}
-use Rattle.starred.specs.Plays.{Line, _⇒_}
+use Rattle.plays.specs.Plays.{Line, _⇒_}
 
 -- slot s stands at rank p
 unfoldable pub stands : ℕ → ℕ → Tables → Bool
