@@ -19,7 +19,7 @@ pub record Known (t l : List ℕ) : Type 0 where
   pub itemKnown : (s : ℕ) → s < base .slots → (txn t s) .awaitedLock ≢ noLock → (txn t s) .awaitedItem < base .items
 
 -- ---- the marks
--- a rank's second mark stands so much higher in the word
+-- a rank's second mark stands so much higher in the word, above the marks of all ranks
 abbrev pub sharing : ℕ
 sharing = 32
 

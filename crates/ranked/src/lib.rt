@@ -17,7 +17,7 @@ use names::Slot;
 
 const ITEMS: usize = names::ITEMS as usize;
 
-// How much higher a rank's second mark stands.
+// How much higher a rank's second mark stands: above every rank.
 const SHARING: u64 = 32;
 
 // One slot: if it waits, its rank is marked. False if that is no rank, or is taken already.
