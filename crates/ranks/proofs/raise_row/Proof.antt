@@ -1,7 +1,10 @@
 -- The rank alone is stored, and only where it moves.
-use Prim.Native.Nat.{_+_}
-use mathlib.Core.Path.{sym}
+use Prim.Native.Nat.{ℕ, _+_}
+use mathlib.Core.Path.{sym, ap, _∙_}
+use mathlib.Core.Bool.{Bool, cond}
+use mathlib.Core.List.{List}
 use native.Mathlib.Omega.{arith}
+use lib.ListN.{set, getD}
 use lib.Seq.{set-getD}
 use borrow.Author.Tests.{ltb-true}
 use Rattle.rules.proofs.Tests.{is-true, true-is, and-right}
@@ -61,13 +64,22 @@ slice-write-txns c = search needs
 same-length : tie.Need-same-length
 same-length c = search needs
 
+-- what is stored, by the test
+abbrev stored : tie.Start → Bool → List ℕ
+stored p b =
+    let t = p .args .txns .now in
+    let at = txnAt (p .args .slot .0) + txnRankAt in
+    set t at (cond b (getD t at 0 + 1) (getD t at 0))
+
 returns : tie.Need-returns
 unfolding raised awaitsOn awaits txn
-returns c = rw (c .if1 .taken)
+returns c = ap (stored (c .before .before .before .before)) (sym (c .if1 .taken))
 
 returns-2 : tie.Need-returns-2
 unfolding raised awaitsOn awaits txn
-returns-2 c = rw (c .if1 .left) (sym (set-getD (c .before .before .before .before .args .txns .now) (txnAt (c .before .before .before .before .args .slot .0) + txnRankAt) 0))
+returns-2 c =
+    let a = c .before .before .before .before .args in
+    sym (set-getD (a .txns .now) (txnAt (a .slot .0) + txnRankAt) 0) ∙ ap (stored (c .before .before .before .before)) (sym (c .if1 .left))
 
 pub raise-row-spec : {M : Type 1} → statement M
 raise-row-spec =
