@@ -6,8 +6,6 @@ use mathlib.Core.List.{List}
 use native.Mathlib.Omega.{arith}
 use lib.ListN.{set, getD}
 use lib.Seq.{set-getD}
-use borrow.Author.Tests.{ltb-true}
-use Rattle.rules.proofs.Tests.{is-true, true-is, and-right}
 use Rattle.names.specs.Layout.{txnRankAt}
 use Rattle.rules.specs.Tables.{txnAt, txn}
 use Rattle.rules.specs.Waits.{raised, awaitsOn, awaits}
