@@ -14,10 +14,11 @@ use names::TXN_RANK_AT;
 use names::TXN_ROW;
 use names::TXN_START_AT;
 ghost use mathlib.Core.Path.{_≡_};
-ghost use Prim.Native.Nat.{_<_};
+ghost use Prim.Native.Nat.{_+_, _<_};
 ghost use lib.ListN.{length, set};
 ghost use Rattle.names.specs.Sizes.{base};
-ghost use Rattle.rules.specs.Tables.{txnWords, lastNumber, clock, txn, setTxn, setAwaited, noTxn, slotOf, freeSlot, newTxn};
+ghost use Rattle.names.specs.Layout.{txnRankAt};
+ghost use Rattle.rules.specs.Tables.{txnWords, lastNumber, clock, txnAt, txn, setTxn, setAwaited, noTxn, slotOf, freeSlot, newTxn};
 ghost use Rattle.rows.specs.Founds.{foundAt};
 
 // Where a search ended.
@@ -120,6 +121,15 @@ pub fn rank(txns: &[u64], slot: Slot) -> u64
 {
     let at = TXN_HEAD + TXN_ROW * (slot.0 as usize);
     txns[at + TXN_RANK_AT]
+}
+
+// The rank, written.
+pub fn set_rank(txns: &mut [u64], slot: Slot, rank: u64)
+    requires { ⌜ (length (now txns) ≡ txnWords base) × (slot .0 < base .slots) ⌝ }
+    ensures { λ _. ⌜ now (txns .exit) ≡ set (now (txns .entry)) (txnAt (slot .0) + txnRankAt) rank ⌝ }
+{
+    let at = TXN_HEAD + TXN_ROW * (slot.0 as usize);
+    txns[at + TXN_RANK_AT] = rank;
 }
 
 // The awaited lock and item of a slot, and its rank there; where nothing is awaited, the item 0 and
