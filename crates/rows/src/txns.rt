@@ -15,9 +15,9 @@ use names::TXN_ROW;
 use names::TXN_START_AT;
 ghost use mathlib.Core.Path.{_≡_};
 ghost use Prim.Native.Nat.{_+_, _<_};
-ghost use lib.ListN.{length, set};
+ghost use lib.ListN.{length, getD, set};
 ghost use Rattle.names.specs.Sizes.{base};
-ghost use Rattle.names.specs.Layout.{txnRankAt};
+ghost use Rattle.names.specs.Layout.{txnRow, txnRankAt};
 ghost use Rattle.rules.specs.Tables.{txnWords, lastNumber, clock, txnAt, txn, setTxn, setAwaited, noTxn, slotOf, freeSlot, newTxn};
 ghost use Rattle.rows.specs.Founds.{foundAt};
 
@@ -78,13 +78,21 @@ pub fn free_slot(txns: &[u64]) -> Found
     Found::Nobody
 }
 
+// One word of the row of a slot.
+fn row_word(txns: &[u64], slot: Slot, k: usize) -> u64
+    requires { ⌜ (length (now txns) ≡ txnWords base) × (slot .0 < base .slots) × (k < txnRow) ⌝ }
+    ensures { λ r. ⌜ r ≡ getD (now (txns .entry)) (txnAt (slot .0) + k) 0 ⌝ }
+{
+    let at = TXN_HEAD + TXN_ROW * (slot.0 as usize);
+    txns[at + k]
+}
+
 // Update or query.
 pub fn kind(txns: &[u64], slot: Slot) -> u64
     requires { ⌜ (length (now txns) ≡ txnWords base) × (slot .0 < base .slots) ⌝ }
     ensures { λ r. ⌜ r ≡ (txn (now (txns .entry)) (slot .0)) .kind ⌝ }
 {
-    let at = TXN_HEAD + TXN_ROW * (slot.0 as usize);
-    txns[at + TXN_KIND_AT]
+    row_word(txns, slot, TXN_KIND_AT)
 }
 
 // The start of a query.
@@ -92,8 +100,7 @@ pub fn start(txns: &[u64], slot: Slot) -> Stamp
     requires { ⌜ (length (now txns) ≡ txnWords base) × (slot .0 < base .slots) ⌝ }
     ensures { λ r. ⌜ r .0 ≡ (txn (now (txns .entry)) (slot .0)) .start ⌝ }
 {
-    let at = TXN_HEAD + TXN_ROW * (slot.0 as usize);
-    Stamp(txns[at + TXN_START_AT])
+    Stamp(row_word(txns, slot, TXN_START_AT))
 }
 
 // The lock that is awaited, or 0.
@@ -101,8 +108,7 @@ pub fn awaited_lock(txns: &[u64], slot: Slot) -> u64
     requires { ⌜ (length (now txns) ≡ txnWords base) × (slot .0 < base .slots) ⌝ }
     ensures { λ r. ⌜ r ≡ (txn (now (txns .entry)) (slot .0)) .awaitedLock ⌝ }
 {
-    let at = TXN_HEAD + TXN_ROW * (slot.0 as usize);
-    txns[at + TXN_LOCK_AT]
+    row_word(txns, slot, TXN_LOCK_AT)
 }
 
 // The word of the item that is awaited.
@@ -110,8 +116,7 @@ pub fn awaited_item(txns: &[u64], slot: Slot) -> u64
     requires { ⌜ (length (now txns) ≡ txnWords base) × (slot .0 < base .slots) ⌝ }
     ensures { λ r. ⌜ r ≡ (txn (now (txns .entry)) (slot .0)) .awaitedItem ⌝ }
 {
-    let at = TXN_HEAD + TXN_ROW * (slot.0 as usize);
-    txns[at + TXN_ITEM_AT]
+    row_word(txns, slot, TXN_ITEM_AT)
 }
 
 // The rank on the awaited item, or 0.
@@ -119,8 +124,7 @@ pub fn rank(txns: &[u64], slot: Slot) -> u64
     requires { ⌜ (length (now txns) ≡ txnWords base) × (slot .0 < base .slots) ⌝ }
     ensures { λ r. ⌜ r ≡ (txn (now (txns .entry)) (slot .0)) .rank ⌝ }
 {
-    let at = TXN_HEAD + TXN_ROW * (slot.0 as usize);
-    txns[at + TXN_RANK_AT]
+    row_word(txns, slot, TXN_RANK_AT)
 }
 
 // The rank, written.
