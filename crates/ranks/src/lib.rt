@@ -3,11 +3,6 @@ use names::Item;
 use names::NO_LOCK;
 use names::SLOTS;
 use names::Slot;
-use names::TXN_HEAD;
-use names::TXN_ITEM_AT;
-use names::TXN_LOCK_AT;
-use names::TXN_RANK_AT;
-use names::TXN_ROW;
 use rows::LockRow;
 ghost use mathlib.Core.Path.{_≡_};
 ghost use Prim.Native.Nat.{_+_, _<_, _≤_};
@@ -25,11 +20,9 @@ pub fn awaits_on(txns: &[u64], slot: Slot, item: Item) -> bool
     requires { ⌜ (length (now txns) ≡ txnWords base) × (slot .0 < base .slots) ⌝ }
     ensures { λ r. ⌜ r ≡ awaitsOn (item .0) (txn (now (txns .entry)) (slot .0)) ⌝ }
 {
-    let x = item.0;
-    let at = TXN_HEAD + TXN_ROW * (slot.0 as usize);
-    let wanted = txns[at + TXN_LOCK_AT];
-    let awaited = txns[at + TXN_ITEM_AT];
-    !(wanted == NO_LOCK) & (awaited == x)
+    let wanted = rows::awaited_lock(txns, slot);
+    let awaited = rows::awaited_item(txns, slot);
+    !(wanted == NO_LOCK) & (awaited == item.0)
 }
 
 // Whether a slot shares a lock.
@@ -109,13 +102,9 @@ fn raise_row(txns: &mut [u64], slot: Slot, item: Item, from: u64)
     requires { ⌜ (length (now txns) ≡ txnWords base) × (slot .0 < base .slots) × ((txn (now txns) (slot .0)) .rank ≤ base .slots) ⌝ }
     ensures { λ _. ⌜ now (txns .exit) ≡ set (now (txns .entry)) (txnAt (slot .0) + txnRankAt) (raised (item .0) from (txn (now (txns .entry)) (slot .0))) ⌝ }
 {
-    let x = item.0;
-    let at = TXN_HEAD + TXN_ROW * (slot.0 as usize);
-    let wanted = txns[at + TXN_LOCK_AT];
-    let awaited = txns[at + TXN_ITEM_AT];
-    let rank = txns[at + TXN_RANK_AT];
-    if !(wanted == NO_LOCK) & (awaited == x) & (from <= rank) {
-        txns[at + TXN_RANK_AT] = rank + 1;
+    let place = rows::rank(&txns[..], slot);
+    if awaits_on(&txns[..], slot, item) & (from <= place) {
+        rows::set_rank(txns, slot, place + 1);
     }
 }
 
@@ -124,13 +113,9 @@ fn lower_row(txns: &mut [u64], slot: Slot, item: Item, behind: u64)
     requires { ⌜ (length (now txns) ≡ txnWords base) × (slot .0 < base .slots) ⌝ }
     ensures { λ _. ⌜ now (txns .exit) ≡ set (now (txns .entry)) (txnAt (slot .0) + txnRankAt) (lowered (item .0) behind (txn (now (txns .entry)) (slot .0))) ⌝ }
 {
-    let x = item.0;
-    let at = TXN_HEAD + TXN_ROW * (slot.0 as usize);
-    let wanted = txns[at + TXN_LOCK_AT];
-    let awaited = txns[at + TXN_ITEM_AT];
-    let rank = txns[at + TXN_RANK_AT];
-    if !(wanted == NO_LOCK) & (awaited == x) & (behind < rank) {
-        txns[at + TXN_RANK_AT] = rank - 1;
+    let place = rows::rank(&txns[..], slot);
+    if awaits_on(&txns[..], slot, item) & (behind < place) {
+        rows::set_rank(txns, slot, place - 1);
     }
 }
 

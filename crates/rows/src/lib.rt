@@ -20,5 +20,6 @@ pub use txns::leave;
 pub use txns::rank;
 pub use txns::set_awaited;
 pub use txns::set_clock;
+pub use txns::set_rank;
 pub use txns::slot_of;
 pub use txns::start;

@@ -1,49 +1,25 @@
 -- Two words of a row say whether it waits on the item.
-use mathlib.Core.Path.{refl}
-use Rattle.rules.specs.Tables.{txn}
+use Prim.Native.Nat.{ℕ}
+use mathlib.Core.Path.{ap₂}
+use mathlib.Core.Bool.{_&&_, not}
+use lib.Dec.{eqb}
+use Rattle.rules.specs.Tables.{noLock}
 use Rattle.rules.specs.Waits.{awaitsOn, awaits}
 use borrow.Author.Needs.{needs}
 use Rattle.ranks.proofs.awaits_on.Statement.{statement}
 use Rattle.ranks.proofs.awaits_on.Tie as tie
 
-mul-at : tie.Need-mul-at
-mul-at c = search needs
+awaited-lock-requires : tie.Need-awaited-lock-requires
+awaited-lock-requires c κs = search needs
 
-add-at : tie.Need-add-at
-add-at c = search needs
-
-add-wanted : tie.Need-add-wanted
-add-wanted c = search needs
-
-mul-wanted : tie.Need-mul-wanted
-mul-wanted c = search needs
-
-shared-slice-read-wanted : tie.Need-shared-slice-read-wanted
-shared-slice-read-wanted c = search needs
-
-add-awaited : tie.Need-add-awaited
-add-awaited c = search needs
-
-mul-awaited : tie.Need-mul-awaited
-mul-awaited c = search needs
-
-shared-slice-read-awaited : tie.Need-shared-slice-read-awaited
-shared-slice-read-awaited c = search needs
+awaited-item-requires : tie.Need-awaited-item-requires
+awaited-item-requires c κs = search needs
 
 returns : tie.Need-returns
-unfolding awaitsOn awaits txn
-returns c = refl
+unfolding awaitsOn awaits
+returns c =
+    let x = c .before .before .before .before .args .item .0 in
+    ap₂ (λ (k y : ℕ). not (eqb k noLock) && eqb y x) (c .before .before .awaited-lock .ensures) (c .before .awaited-item .ensures)
 
 pub awaits-on-spec : {M : Type 1} → statement M
-awaits-on-spec =
-    tie.close
-    (tie.spec
-    mul-at
-    add-at
-    add-wanted
-    mul-wanted
-    shared-slice-read-wanted
-    add-awaited
-    mul-awaited
-    shared-slice-read-awaited
-    returns)
+awaits-on-spec = tie.close (tie.spec awaited-lock-requires awaited-item-requires returns)

@@ -20,7 +20,9 @@ same-length c = search needs
 returns : tie.Need-returns
 unfolding cleared
 returns c = let s = c .before .before .before .before .before .before .before .before .before .args .slot .0 in
-    c .before .before .set-awaited .ensures ∙ ap (λ (u : List ℕ). setAwaited u s noLock 0 0) (c .before .before .before .before .before .before .close-up .ensures)
+    let u = c .before .before .before .before .before .before .close-up .last .0 in
+    let e : c .before .before .set-awaited .last .0 ≡ setAwaited u s noLock 0 0 = c .before .before .set-awaited .ensures in
+    e ∙ ap (λ (w : List ℕ). setAwaited w s noLock 0 0) (c .before .before .before .before .before .before .close-up .ensures)
 
 pub clear-spec : {M : Type 1} → statement M
 clear-spec = tie.close (tie.spec close-up-requires set-awaited-requires same-length returns)

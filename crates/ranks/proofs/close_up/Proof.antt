@@ -1,8 +1,7 @@
 -- Where the slot stands in a line, those behind it are moved up.
 use Prim.Native.Nat.{ℕ}
-use mathlib.Core.Path.{_≡_, refl, sym, ap, ap₂, _∙_}
+use mathlib.Core.Path.{_≡_, refl, sym, ap₂, _∙_}
 use mathlib.Core.Logic.{_≢_}
-use mathlib.Core.List.{List}
 use borrow.Author.Tests.{eq-eqb, ne-eqb}
 use Rattle.names.specs.Sizes.{base}
 use Rattle.rules.specs.Tables.{noLock, txn, reranked}

@@ -1,6 +1,6 @@
 -- The ranks of the rows passed are rewritten, the others are as they were.
 use Prim.Native.Nat.{ℕ, _+_, _-_, _≤_}
-use mathlib.Core.Path.{_≡_, refl, sym, ap, _∙_, subst}
+use mathlib.Core.Path.{_≡_, refl, ap, _∙_}
 use mathlib.Core.List.{List}
 use native.Mathlib.Omega.{arith}
 use lib.ListN.{length, set}
@@ -8,7 +8,7 @@ use Rattle.names.specs.Sizes.{base}
 use Rattle.names.specs.Layout.{txnRankAt}
 use Rattle.rules.specs.Tables.{Txn, txnAt, txn, reranked}
 use Rattle.rules.specs.Waits.{lowered}
-use Rattle.rules.proofs.Views.{length-reranked, txn-reranked-out}
+use Rattle.rules.proofs.Views.{length-reranked}
 use Rattle.ranks.proofs.Ranks.{reranked-more}
 use Rattle.ranks.proofs.lower.Statement.{statement}
 use Rattle.ranks.proofs.lower.Tie as tie
@@ -39,9 +39,10 @@ loop-less c = omega arith
 loop-again : tie.Need-loop-again Inv-loop μ-loop
 loop-again c = let l = c .before .before .before .before .before .loop in
     let a = c .before .before .before .before .before .before .before .args in
-    let f : (Txn → ℕ) = lowered (a .item .0) (a .behind) in (
+    let f : (Txn → ℕ) = lowered (a .item .0) (a .behind) in
+    let e : c .before .before .lower-row .last .0 ≡ set (l .txns) (txnAt (l .slot) + txnRankAt) (f (txn (l .txns) (l .slot))) = c .before .before .lower-row .ensures in (
       omega arith,
-      c .before .before .lower-row .ensures
+      e
           ∙ ap (λ (u : List ℕ). set u (txnAt (l .slot) + txnRankAt) (f (txn u (l .slot)))) (l .inv .1)
           ∙ reranked-more (l .slot) f (a .txns .now),
     )

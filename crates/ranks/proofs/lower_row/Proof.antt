@@ -1,101 +1,82 @@
 -- The rank alone is stored, and only where it moves.
-use Prim.Native.Nat.{_+_, _<_, _≤_}
-use lib.ListN.{getD}
-use mathlib.Core.Bool.{_&&_, not}
-use lib.Dec.{eqb, ltb}
-use mathlib.Core.Path.{sym}
+use Prim.Native.Nat.{ℕ, _+_, _-_, _<_, _≤_}
+use mathlib.Core.Path.{_≡_, refl, sym, ap, ap₂, _∙_}
+use mathlib.Core.Bool.{Bool, true, false, _&&_}
 use native.Mathlib.Omega.{arith}
+use lib.ListN.{set, getD}
 use lib.Seq.{set-getD}
+use lib.Dec.{ltb}
 use borrow.Author.Tests.{ltb-true}
+use Rattle.names.specs.Layout.{txnRankAt}
+use Rattle.rules.specs.Tables.{txnAt, Txn, txn}
+use Rattle.rules.specs.Waits.{awaitsOn, lowered}
 use Rattle.rules.proofs.Tests.{is-true, true-is, and-right}
-use Rattle.names.specs.Layout.{txnLockAt, txnItemAt, txnRankAt}
-use Rattle.rules.specs.Tables.{txnAt, txn, noLock}
-use Rattle.rules.specs.Waits.{lowered, awaitsOn, awaits}
 use borrow.Author.Needs.{needs}
 use Rattle.ranks.proofs.lower_row.Statement.{statement}
 use Rattle.ranks.proofs.lower_row.Tie as tie
 
-mul-at : tie.Need-mul-at
-mul-at c = search needs
+-- where the function began, and the row as it was then
+abbrev start : tie.After-awaits-on → tie.Start
+start c = c .before .before .before .before .before
 
-add-at : tie.Need-add-at
-add-at c = search needs
+abbrev row : tie.After-awaits-on → Txn
+row c = txn (start c .args .txns .now) (start c .args .slot .0)
 
-add-wanted : tie.Need-add-wanted
-add-wanted c = search needs
+-- the test of what was read is the test of the row
+tested :
+    (c : tie.After-awaits-on) (b : Bool) → (c .awaits-on .result && ltb (start c .args .behind) (c .before .before .rank .result)) ≡ b
+    → (awaitsOn (start c .args .item .0) (row c) && ltb (start c .args .behind) (row c .rank)) ≡ b
+tested c b e = sym (ap₂ (λ (o : Bool) (k : ℕ). o && ltb (start c .args .behind) k) (c .awaits-on .ensures) (c .before .before .rank .ensures)) ∙ e
 
-mul-wanted : tie.Need-mul-wanted
-mul-wanted c = search needs
+rank-requires : tie.Need-rank-requires
+rank-requires c κs = search needs
 
-slice-read-wanted : tie.Need-slice-read-wanted
-slice-read-wanted c = search needs
+awaits-on-requires : tie.Need-awaits-on-requires
+awaits-on-requires c κs = search needs
 
-add-awaited : tie.Need-add-awaited
-add-awaited c = search needs
-
-mul-awaited : tie.Need-mul-awaited
-mul-awaited c = search needs
-
-slice-read-awaited : tie.Need-slice-read-awaited
-slice-read-awaited c = search needs
-
-add-rank : tie.Need-add-rank
-add-rank c = search needs
-
-mul-rank : tie.Need-mul-rank
-mul-rank c = search needs
-
-slice-read-rank : tie.Need-slice-read-rank
-slice-read-rank c = search needs
-
-sub-txns : tie.Need-sub-txns
-sub-txns c =
-    let a = c .before .before .before .before .args in
-    let r = getD (a .txns .now) (txnAt (a .slot .0) + txnRankAt) 0 in
-    let on = not (eqb (getD (a .txns .now) (txnAt (a .slot .0) + txnLockAt) 0) noLock) && eqb (getD (a .txns .now) (txnAt (a .slot .0) + txnItemAt) 0) (a .item .0) in
-    let h : a .behind < r = ltb-true (a .behind) r (is-true (ltb (a .behind) r) (and-right on (ltb (a .behind) r) (true-is (c .if1 .taken)))) in
-    let g : 1 ≤ r = omega arith in
+sub-set-rank : tie.Need-sub-set-rank
+sub-set-rank c =
+    let b = c .before .before .before .before .before .before .before .args .behind in
+    let k = c .before .before .before .before .rank .result in
+    let h : b < k = ltb-true b k (is-true (ltb b k) (and-right (c .before .before .awaits-on .result) (ltb b k) (true-is (c .before .if1 .taken)))) in
+    let g : 1 ≤ k = omega arith in
     g
 
-add-txns : tie.Need-add-txns
-add-txns c = search needs
-
-mul-txns : tie.Need-mul-txns
-mul-txns c = search needs
-
-slice-write-txns : tie.Need-slice-write-txns
-slice-write-txns c = search needs
+set-rank-requires : tie.Need-set-rank-requires
+set-rank-requires c κs = search needs
 
 same-length : tie.Need-same-length
 same-length c = search needs
 
 returns : tie.Need-returns
-unfolding lowered awaitsOn awaits txn
-returns c = rw (c .if1 .taken)
+unfolding lowered
+returns c =
+    let d = c .before .before .before .before .before in
+    let a = start d .args in
+    let e : d .before .before .rank .result - 1 ≡ lowered (a .item .0) (a .behind) (row d) = rw (tested d true (c .before .before .before .before .if1 .taken)) (ap (λ (k : ℕ). k - 1) (d .before .before .rank .ensures)) in
+    c .before .before .set-rank .ensures ∙ ap (set (a .txns .now) (txnAt (a .slot .0) + txnRankAt)) e
+
+same-length-2 : tie.Need-same-length-2
+same-length-2 c = search needs
 
 returns-2 : tie.Need-returns-2
-unfolding lowered awaitsOn awaits txn
-returns-2 c = rw (c .if1 .left) (sym (set-getD (c .before .before .before .before .args .txns .now) (txnAt (c .before .before .before .before .args .slot .0) + txnRankAt) 0))
+unfolding lowered txn
+returns-2 c =
+    let d = c .before in
+    let a = start d .args in
+    let at = txnAt (a .slot .0) + txnRankAt in
+    let e : getD (a .txns .now) at 0 ≡ lowered (a .item .0) (a .behind) (row d) = rw (tested d false (c .if1 .left)) refl in
+    sym (set-getD (a .txns .now) at 0) ∙ ap (set (a .txns .now) at) e
 
 pub lower-row-spec : {M : Type 1} → statement M
 lower-row-spec =
     tie.close
     (tie.spec
-    mul-at
-    add-at
-    add-wanted
-    mul-wanted
-    slice-read-wanted
-    add-awaited
-    mul-awaited
-    slice-read-awaited
-    add-rank
-    mul-rank
-    slice-read-rank
-    sub-txns
-    add-txns
-    mul-txns
-    slice-write-txns
+    rank-requires
+    awaits-on-requires
+    sub-set-rank
+    set-rank-requires
     same-length
     returns
+    same-length-2
     returns-2)

@@ -1,6 +1,6 @@
 -- Who comes into the line stands at its rank, with room made for it; who stands there already is noted.
 use Prim.Native.Nat.{ℕ}
-use mathlib.Core.Path.{_≡_, refl, sym, ap, ap₂, _∙_}
+use mathlib.Core.Path.{_≡_, refl, sym, ap, _∙_}
 use mathlib.Core.Bool.{true, false}
 use mathlib.Core.List.{List}
 use borrow.Author.Tests.{not-true, not-false}
@@ -37,10 +37,15 @@ returns c = let a = start c .args in
     let s = a .slot .0 in
     let x = a .item .0 in
     let e : awaitsOn x (txn t s) ≡ false = sym (c .before .before .before .before .before .before .before .before .before .before .before .awaits-on .ensures) ∙ not-true _ (c .before .before .before .before .before .before .before .before .before .before .if1 .taken) in
+    let p = c .before .before .before .before .before .before .before .before .rank-for .result in
+    let place : p ≡ rankFor base t (a .locks .now) s x = c .before .before .before .before .before .before .before .before .rank-for .ensures in
+    let u = c .before .before .before .before .before .before .raise .last .0 in
+    let stored : c .before .before .set-awaited .last .0 ≡ setAwaited u s (a .lock) x p = c .before .before .set-awaited .ensures in
+    let moved : u ≡ reranked (base .slots) (raised x p) t = c .before .before .before .before .before .before .raise .ensures in
     rw e
-    (c .before .before .set-awaited .ensures
-    ∙ ap (λ (u : List ℕ). setAwaited u s (a .lock) x (c .before .before .before .before .before .before .before .before .rank-for .result)) (c .before .before .before .before .before .before .raise .ensures)
-    ∙ ap (λ (p : ℕ). setAwaited (reranked (base .slots) (raised x p) t) s (a .lock) x p) (c .before .before .before .before .before .before .before .before .rank-for .ensures))
+    (stored
+    ∙ ap (λ (w : List ℕ). setAwaited w s (a .lock) x p) moved
+    ∙ ap (λ (q : ℕ). setAwaited (reranked (base .slots) (raised x q) t) s (a .lock) x q) place)
 
 same-length-2 : tie.Need-same-length-2
 same-length-2 c = search needs

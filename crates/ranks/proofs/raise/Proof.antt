@@ -39,9 +39,10 @@ loop-less c = omega arith
 loop-again : tie.Need-loop-again Inv-loop μ-loop
 loop-again c = let l = c .before .before .before .before .before .loop in
     let a = c .before .before .before .before .before .before .before .args in
-    let f : (Txn → ℕ) = raised (a .item .0) (a .from) in (
+    let f : (Txn → ℕ) = raised (a .item .0) (a .from) in
+    let e : c .before .before .raise-row .last .0 ≡ set (l .txns) (txnAt (l .slot) + txnRankAt) (f (txn (l .txns) (l .slot))) = c .before .before .raise-row .ensures in (
       omega arith,
-      c .before .before .raise-row .ensures
+      e
           ∙ ap (λ (u : List ℕ). set u (txnAt (l .slot) + txnRankAt) (f (txn u (l .slot)))) (l .inv .1)
           ∙ reranked-more (l .slot) f (a .txns .now),
     )

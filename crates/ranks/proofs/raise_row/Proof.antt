@@ -1,105 +1,74 @@
 -- The rank alone is stored, and only where it moves.
 use Prim.Native.Nat.{ℕ, _+_}
-use mathlib.Core.Path.{sym, ap, _∙_}
-use mathlib.Core.Bool.{Bool, cond}
-use mathlib.Core.List.{List}
-use native.Mathlib.Omega.{arith}
+use mathlib.Core.Path.{_≡_, refl, sym, ap, ap₂, _∙_}
+use mathlib.Core.Bool.{Bool, true, false, _&&_}
 use lib.ListN.{set, getD}
 use lib.Seq.{set-getD}
-use borrow.Author.Tests.{ltb-true}
-use Rattle.rules.proofs.Tests.{is-true, true-is, and-right}
+use lib.Dec.{leb}
 use Rattle.names.specs.Layout.{txnRankAt}
-use Rattle.rules.specs.Tables.{txnAt, txn}
-use Rattle.rules.specs.Waits.{raised, awaitsOn, awaits}
+use Rattle.rules.specs.Tables.{txnAt, Txn, txn}
+use Rattle.rules.specs.Waits.{awaitsOn, raised}
 use borrow.Author.Needs.{needs}
 use Rattle.ranks.proofs.raise_row.Statement.{statement}
 use Rattle.ranks.proofs.raise_row.Tie as tie
 
-mul-at : tie.Need-mul-at
-mul-at c = search needs
+-- where the function began, and the row as it was then
+abbrev start : tie.After-awaits-on → tie.Start
+start c = c .before .before .before .before .before
 
-add-at : tie.Need-add-at
-add-at c = search needs
+abbrev row : tie.After-awaits-on → Txn
+row c = txn (start c .args .txns .now) (start c .args .slot .0)
 
-add-wanted : tie.Need-add-wanted
-add-wanted c = search needs
+-- the test of what was read is the test of the row
+tested :
+    (c : tie.After-awaits-on) (b : Bool) → (c .awaits-on .result && leb (start c .args .from) (c .before .before .rank .result)) ≡ b
+    → (awaitsOn (start c .args .item .0) (row c) && leb (start c .args .from) (row c .rank)) ≡ b
+tested c b e = sym (ap₂ (λ (o : Bool) (k : ℕ). o && leb (start c .args .from) k) (c .awaits-on .ensures) (c .before .before .rank .ensures)) ∙ e
 
-mul-wanted : tie.Need-mul-wanted
-mul-wanted c = search needs
+rank-requires : tie.Need-rank-requires
+rank-requires c κs = search needs
 
-slice-read-wanted : tie.Need-slice-read-wanted
-slice-read-wanted c = search needs
+awaits-on-requires : tie.Need-awaits-on-requires
+awaits-on-requires c κs = search needs
 
-add-awaited : tie.Need-add-awaited
-add-awaited c = search needs
+add-set-rank : tie.Need-add-set-rank
+add-set-rank c = search needs
 
-mul-awaited : tie.Need-mul-awaited
-mul-awaited c = search needs
-
-slice-read-awaited : tie.Need-slice-read-awaited
-slice-read-awaited c = search needs
-
-add-rank : tie.Need-add-rank
-add-rank c = search needs
-
-mul-rank : tie.Need-mul-rank
-mul-rank c = search needs
-
-slice-read-rank : tie.Need-slice-read-rank
-slice-read-rank c = search needs
-
-add-txns : tie.Need-add-txns
-unfolding txn
-add-txns c = let p = c .before .before .before .before .pre in omega arith
-
-add-txns-2 : tie.Need-add-txns-2
-add-txns-2 c = search needs
-
-mul-txns : tie.Need-mul-txns
-mul-txns c = search needs
-
-slice-write-txns : tie.Need-slice-write-txns
-slice-write-txns c = search needs
+set-rank-requires : tie.Need-set-rank-requires
+set-rank-requires c κs = search needs
 
 same-length : tie.Need-same-length
 same-length c = search needs
 
--- what is stored, by the test
-abbrev stored : tie.Start → Bool → List ℕ
-stored p b =
-    let t = p .args .txns .now in
-    let at = txnAt (p .args .slot .0) + txnRankAt in
-    set t at (cond b (getD t at 0 + 1) (getD t at 0))
-
 returns : tie.Need-returns
-unfolding raised awaitsOn awaits txn
-returns c = ap (stored (c .before .before .before .before)) (sym (c .if1 .taken))
+unfolding raised
+returns c =
+    let d = c .before .before .before .before .before in
+    let a = start d .args in
+    let e : d .before .before .rank .result + 1 ≡ raised (a .item .0) (a .from) (row d) = rw (tested d true (c .before .before .before .before .if1 .taken)) (ap (λ (k : ℕ). k + 1) (d .before .before .rank .ensures)) in
+    c .before .before .set-rank .ensures ∙ ap (set (a .txns .now) (txnAt (a .slot .0) + txnRankAt)) e
+
+same-length-2 : tie.Need-same-length-2
+same-length-2 c = search needs
 
 returns-2 : tie.Need-returns-2
-unfolding raised awaitsOn awaits txn
+unfolding raised txn
 returns-2 c =
-    let a = c .before .before .before .before .args in
-    sym (set-getD (a .txns .now) (txnAt (a .slot .0) + txnRankAt) 0) ∙ ap (stored (c .before .before .before .before)) (sym (c .if1 .left))
+    let d = c .before in
+    let a = start d .args in
+    let at = txnAt (a .slot .0) + txnRankAt in
+    let e : getD (a .txns .now) at 0 ≡ raised (a .item .0) (a .from) (row d) = rw (tested d false (c .if1 .left)) refl in
+    sym (set-getD (a .txns .now) at 0) ∙ ap (set (a .txns .now) at) e
 
 pub raise-row-spec : {M : Type 1} → statement M
 raise-row-spec =
     tie.close
     (tie.spec
-    mul-at
-    add-at
-    add-wanted
-    mul-wanted
-    slice-read-wanted
-    add-awaited
-    mul-awaited
-    slice-read-awaited
-    add-rank
-    mul-rank
-    slice-read-rank
-    add-txns
-    add-txns-2
-    mul-txns
-    slice-write-txns
+    rank-requires
+    awaits-on-requires
+    add-set-rank
+    set-rank-requires
     same-length
     returns
+    same-length-2
     returns-2)

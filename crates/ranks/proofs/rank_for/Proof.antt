@@ -1,7 +1,7 @@
 -- By cases: it waits there already, it shares the item, or neither.
 use Prim.Native.Nat.{ℕ, _+_}
 use mathlib.Core.Path.{_≡_, sym, ap, _∙_}
-use mathlib.Core.Bool.{Bool, true, false}
+use mathlib.Core.Bool.{false}
 use native.Mathlib.Omega.{arith}
 use Rattle.rules.specs.Tables.{txn, Lock, lock, holdsShared}
 use Rattle.rules.specs.Waits.{awaitsOn}
