@@ -1,5 +1,6 @@
 -- Why who waits in line is served.
 pub mod Kept
+pub mod InOrder
 pub mod Outsiders
 pub mod Ends
 pub mod Turns

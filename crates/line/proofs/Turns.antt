@@ -28,21 +28,13 @@ use Rattle.rules.proofs.Grants.{conflicts-fewer, shared-others, replaced-others
 use Rattle.rules.proofs.Noting.{noted-known, noted-there, noted-here}
 use Rattle.rules.proofs.Waited.{only-this, cleared-here, cleared-there, cleared-idle}
 use Rattle.rules.proofs.Granted.{granted-exactly}
+use Rattle.rules.proofs.InOrder.{raised-before}
 use Rattle.rules.proofs.Ways.{Way, Waiter, refused, waited, beganUpdate, beganQuery, readOwn, readNewest, readShared, readQuery}
 use Rattle.rules.proofs.Ways.{wroteOwn, wroteTaken, committedUpdate, committedQuery, abortedUpdate, abortedQuery}
 use Rattle.line.specs.Served.{Exchange}
 use Rattle.line.proofs.Kept.{Kept, same-locks, set-other, left-kept, came-kept}
 use Rattle.line.proofs.Ends.{begins, commits, query-ends, aborts}
 use Rattle.line.proofs.Outsiders.{Outside, Harmless, Inv, waits-here, asks-behind, carried}
-
--- a rank before that of a newcomer does not rise
-raised-before : (y p : ℕ) (r : Txn) → r .rank < p → raised y p r ≡ r .rank
-unfolding raised
-raised-before y p r h = go (awaitsOn y r)
-  where
-    go : (b : Bool) → cond (b && leb p (r .rank)) (r .rank + 1) (r .rank) ≡ r .rank
-    go true = rw (lt-leb p (r .rank) h)
-    go false = refl
 
 -- a call for an exclusive lock is a write
 writes : (c : Call) (m k y : ℕ) → Names c m → Wants c k y → k ≡ exclusiveLock → (v : ℕ) × (c ≡ Write m y v)

@@ -48,6 +48,7 @@ pub mod Calls
 pub mod Granted
 pub mod Spent
 pub mod Waiting
+pub mod InOrder
 pub mod Ranked
 pub mod Queries
 pub mod Bounded

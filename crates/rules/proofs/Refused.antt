@@ -89,7 +89,7 @@ wait-is S c G e = go (step S c G) (step-ends S c G) e
     go o (waiting s k x C a f) e = (s, k, x, C, a, f, refl)
 
 -- a wait comes on good tables
-wait-good : (S : Sizes) (c : Call) (G : Tables) → (step S c G) .answer .code ≡ code Wait → Good S G
+pub wait-good : (S : Sizes) (c : Call) (G : Tables) → (step S c G) .answer .code ≡ code Wait → Good S G
 unfolding step
 wait-good S c G =
     cond-case (λ o. o .answer .code ≡ code Wait → Good S G) (good S G) (act S c G) (refuses BadTables G)

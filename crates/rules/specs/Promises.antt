@@ -154,6 +154,15 @@ RanksExactly S =
     → ((1 ≤ r) × (r ≤ waitersOn S (G .txns) x))
     ↔ ((s : ℕ) × (s < S .slots) × T (awaitsOn x (txn (G .txns) s)) × ((txn (G .txns) s) .rank ≡ r))
 
+-- "Waiters on an item now stand in the order of their first wait.": slot s, whose wait for item x is noted with the answer 1, and which
+-- does not share the item, stands behind all who waited there (InOrder). That whoever waits keeps its place is line/specs/InOrder
+abbrev pub NewcomerLast : Sizes → Type 0
+NewcomerLast S =
+    (c : Call) (G : Tables) (s k x r : ℕ) → codeOf S c G ≡ code Wait → CallerIn c S G s → Wants c k x
+    → (T (awaitsOn x (txn (G .txns) s)) → ⊥) → (T (holdsShared (lock (G .locks) x) s) → ⊥)
+    → r < S .slots → r ≢ s → T (awaitsOn x (txn (G .txns) r))
+    → (txn ((after S c G) .txns) r) .rank < (txn ((after S c G) .txns) s) .rank
+
 -- "A holder of shared that asks for exclusive stands ahead of all who hold nothing there.": of those who wait on an item one at most
 -- shares it, and that one is the first (Ranked)
 abbrev pub OneExchanger : Sizes → Type 0
