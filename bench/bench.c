@@ -3,8 +3,8 @@
  * An abort of transaction 0 pays the test of all tables alone; every other call pays it too. Each
  * call is timed on fresh tables, and on full ones: 15 live queries, and an item row with 16
  * versions for each item that was written between their begins (all 64). Then the test and a write
- * are timed where two updates hold 32 items each, and then the calls that rewrite rows: the end of
- * a query, and the commit of an update with 32 items. */
+ * are timed where two updates hold 32 items each, then calls where others wait for an item, and then
+ * the calls that rewrite rows: the end of a query, and the commit of an update with 32 items. */
 #define _POSIX_C_SOURCE 199309L
 #include "keeper.h"
 
@@ -142,6 +142,39 @@ static void measure_full_jobs(void)
     printf("  %-34s %8.0f ns\n", "write of a further item, refused", further);
 }
 
+/* A call that leaves the tables as they are, and is answered this code: the best of several runs. */
+static void measure_call(const char *what, struct keeper_answer (*call)(uint64_t), uint64_t number, uint64_t code)
+{
+    double best = 1e18;
+    for (int run = 0; run < RUNS; run++) {
+        double t0 = now();
+        for (int i = 0; i < CALLS; i++)
+            if (call(number).code != code)
+                exit(1);
+        best = better(best, now() - t0);
+    }
+    printf("  %-34s %8.0f ns\n", what, best);
+}
+
+static struct keeper_answer abort_of(uint64_t number) { return keeper_abort(TABLES, number); }
+static struct keeper_answer write_0(uint64_t number) { return keeper_write(TABLES, number, 0, 1); }
+
+/* One update holds item 0, and so many others wait to write it; the last of them asks again. */
+static void measure_waiters(int waiters)
+{
+    keeper_fresh(TABLES);
+    granted(keeper_write(TABLES, granted(keeper_begin_update(TABLES)).number, 0, 1));
+    uint64_t last = 0;
+    for (int i = 0; i < waiters; i++) {
+        last = granted(keeper_begin_update(TABLES)).number;
+        if (keeper_write(TABLES, last, 0, 1).code != KEEPER_WAIT)
+            exit(1);
+    }
+    printf("%d waiting for one item\n", waiters);
+    measure_call(names[TEST], abort_of, 0, KEEPER_UNKNOWN_TRANSACTION);
+    measure_call("an awaited write, asked again", write_0, last, KEEPER_WAIT);
+}
+
 /* The commit of this transaction on the tables as they are, which are put back after each: the
  * best of many short runs, as the twin's program times it. */
 static void measure_commit(const char *what, uint64_t number)
@@ -209,6 +242,8 @@ int main(void)
     measure("full tables: 15 live queries, 16 versions of each item", 1);
     keeper_fresh(TABLES);
     measure_full_jobs();
+    measure_waiters(1);
+    measure_waiters(KEEPER_SLOTS - 1);
     measure_rows();
     return 0;
 }

@@ -33,14 +33,14 @@ extern "C" {
 #define KEEPER_ITEMS 64
 #define KEEPER_SLOTS 16
 #define KEEPER_QUOTA 32
-#define KEEPER_TXN_WORDS 82
+#define KEEPER_TXN_WORDS 98
 #define KEEPER_LOCK_WORDS 192
 #define KEEPER_VERSION_WORDS 2112
 
 /* The codes of an answer. */
 enum keeper_code {
     KEEPER_GRANTED = 0,
-    KEEPER_WAIT = 1,                /* a conflict: make the same call again later, or abort */
+    KEEPER_WAIT = 1,                /* a conflict, or others wait ahead: make the same call again later, or abort */
     KEEPER_DEADLOCK = 2,            /* waiting would close a circle: nothing changed; abort one */
     KEEPER_UNKNOWN_TRANSACTION = 3, /* no live transaction has that number */
     KEEPER_UNKNOWN_ITEM = 4,        /* an item above 63 */
@@ -79,13 +79,15 @@ struct keeper_answer keeper_begin_query(uint64_t *txns, size_t txns_len, uint64_
                                         size_t versions_len);
 
 /* Reads an item; the answer's value is what it holds for this transaction. A query never waits.
- * Codes 0, 1, 2, 3, 4, 6, 10; 1 changes the caller's awaited words alone, the others but 0 none. */
+ * Codes 0, 1, 2, 3, 4, 6, 10; 1 changes the caller's awaited words and the
+ * ranks behind it alone, the others but 0 none. */
 struct keeper_answer keeper_read(uint64_t *txns, size_t txns_len, uint64_t *locks,
                                  size_t locks_len, uint64_t *versions, size_t versions_len,
                                  uint64_t number, uint64_t item);
 
 /* Writes an item; others read the value once the update has committed. Codes 0, 1, 2, 3, 4, 5, 6,
- * 10, 11; 1 changes the caller's awaited words alone, the others but 0 none. */
+ * 10, 11; 1 changes the caller's awaited words and the
+ * ranks behind it alone, the others but 0 none. */
 struct keeper_answer keeper_write(uint64_t *txns, size_t txns_len, uint64_t *locks,
                                   size_t locks_len, uint64_t *versions, size_t versions_len,
                                   uint64_t number, uint64_t item, uint64_t value);

@@ -159,15 +159,31 @@ impl View<'_> {
         Holders::of(self.lock(item)).held_by(slot) != Some(Lock::Exclusive)
     }
 
-    /// An update that may ask for this asks, and the locks decide.
+    /// An update that may ask for this asks; the locks and the line decide. A
+    /// call that needs no further lock asks neither.
     pub(crate) fn ask(&mut self, slot: Slot, item: Item, access: Access) -> Answer {
         let lock = access.wants();
-        let holders = Holders::of(self.lock(item));
-        let against = holders.against(slot, lock);
-        if !against.is_empty() {
-            return self.conflict(slot, item, lock, against);
+        if self.needs(slot, item, lock) && !self.against(slot, lock, item).is_empty() {
+            self.conflict(slot, item, lock)
+        } else {
+            self.grant(slot, item, access)
         }
-        self.clear_awaited(slot);
+    }
+
+    /// Whether what the slot holds is not enough for this.
+    pub(crate) fn needs(&self, slot: Slot, item: Item, lock: Lock) -> bool {
+        match Holders::of(self.lock(item)).held_by(slot) {
+            Some(Lock::Exclusive) => false,
+            Some(Lock::Shared) => lock == Lock::Exclusive,
+            None => true,
+        }
+    }
+
+    /// Nobody stands against it: the caller gets what it asks for, and leaves
+    /// the line if it stood there.
+    pub(crate) fn grant(&mut self, slot: Slot, item: Item, access: Access) -> Answer {
+        let holders = Holders::of(self.lock(item));
+        self.step_out(slot);
         match (access, holders.held_by(slot)) {
             (Access::Read, Some(Lock::Exclusive)) => Answer::found(self.lock(item)[WORKING], 0),
             (Access::Read, Some(Lock::Shared)) => Answer::found(row::newest(self.row(item)), 1),
@@ -189,13 +205,20 @@ impl View<'_> {
         }
     }
 
-    /// The caller would wait for the slots against it. If one of them waits,
-    /// over however many others, for the caller, a circle would close.
-    fn conflict(&mut self, slot: Slot, item: Item, lock: Lock, against: SlotSet) -> Answer {
-        if self.walk_reaches(against, slot) {
+    /// The caller steps into the line, unless it stands there already. If a
+    /// walk from it then comes back to it, a circle would have closed, and it
+    /// stands there no more.
+    fn conflict(&mut self, slot: Slot, item: Item, lock: Lock) -> Answer {
+        let is_new = self.awaited(slot).is_none();
+        if is_new {
+            self.step_in(slot, lock, item);
+        }
+        if self.walk_reaches(self.waits_for(slot), slot) {
+            if is_new {
+                self.step_out(slot);
+            }
             return Answer::bare(code::DEADLOCK);
         }
-        self.set_awaited(slot, lock, item);
         Answer::bare(code::WAIT)
     }
 
@@ -236,6 +259,7 @@ impl View<'_> {
         if self.is_query(slot) {
             self.end_query(slot);
         } else {
+            self.step_out(slot);
             self.txn_mut(slot).fill(0);
             for lock in self.locks.chunks_exact_mut(LOCK_ROW) {
                 release(lock, slot);

@@ -29,6 +29,11 @@ pub enum Clause {
     WorkingValue,
     Quota,
     FullAwaitsExclusive,
+    RankUnawaited,
+    RankMissing,
+    RankTwice,
+    RankGap,
+    ExchangerBehind,
     Count,
     UnusedPairs,
     StampsFall,
@@ -39,7 +44,7 @@ pub enum Clause {
 }
 
 impl Clause {
-    pub const ALL: [Clause; 28] = [
+    pub const ALL: [Clause; 33] = [
         Clause::Sizes,
         Clause::LastNumber,
         Clause::Clock,
@@ -61,6 +66,11 @@ impl Clause {
         Clause::WorkingValue,
         Clause::Quota,
         Clause::FullAwaitsExclusive,
+        Clause::RankUnawaited,
+        Clause::RankMissing,
+        Clause::RankTwice,
+        Clause::RankGap,
+        Clause::ExchangerBehind,
         Clause::Count,
         Clause::UnusedPairs,
         Clause::StampsFall,
@@ -94,6 +104,11 @@ impl Clause {
             Clause::WorkingValue => "working-value",
             Clause::Quota => "quota",
             Clause::FullAwaitsExclusive => "full-awaits-exclusive",
+            Clause::RankUnawaited => "rank-unawaited",
+            Clause::RankMissing => "rank-missing",
+            Clause::RankTwice => "rank-twice",
+            Clause::RankGap => "rank-gap",
+            Clause::ExchangerBehind => "exchanger-behind",
             Clause::Count => "count",
             Clause::UnusedPairs => "unused-pairs",
             Clause::StampsFall => "stamps-fall",
@@ -191,6 +206,32 @@ impl Tables<'_> {
                 Some((AWAITS_EXCLUSIVE, _)) => self.exclusives(slot) != QUOTA,
                 _ => true,
             }),
+            // "Its rank on the awaited item, .. 0 if it awaits nothing,
+            Clause::RankUnawaited => {
+                self.live(|row| row[AWAITED_LOCK] != AWAITS_NONE || row[RANK] == 0)
+            }
+            // from 1
+            Clause::RankMissing => self.in_line(|slot, _| self.rank(slot) != 0),
+            // (an order gives no two the same; of a rank 0 the last clause speaks)
+            Clause::RankTwice => self.in_line(|slot, line| {
+                let same = |other: &&usize| self.rank(**other) == self.rank(slot);
+                self.rank(slot) == 0 || line.iter().filter(same).count() == 1
+            }),
+            // without gaps",
+            Clause::RankGap => self.in_line(|slot, line| {
+                let next = |other: &usize| self.rank(*other) == self.rank(slot) - 1;
+                self.rank(slot) <= 1 || line.iter().any(next)
+            }),
+            // and a holder of shared "stands ahead of all who hold nothing there".
+            Clause::ExchangerBehind => self.in_line(|slot, line| {
+                let item = self.txns[slot][AWAITED_ITEM] as usize;
+                let passed = |other: &usize| {
+                    let holds =
+                        self.holds_shared(*other, item) || self.holds_exclusive(*other, item);
+                    !holds && self.rank(*other) < self.rank(slot)
+                };
+                !self.holds_shared(slot, item) || !line.iter().any(passed)
+            }),
             Clause::Count => self
                 .versions
                 .iter()
@@ -246,6 +287,24 @@ impl Tables<'_> {
         updates.all(holds)
     }
 
+    /// Asks something of everyone who awaits an item, and of the item's line.
+    fn in_line(&self, holds: impl Fn(usize, &[usize]) -> bool) -> bool {
+        (0..SLOTS).all(|slot| match self.awaited(slot) {
+            Some((_, item)) => {
+                let awaits = |other: &usize| {
+                    matches!(self.awaited(*other), Some((_, awaited)) if awaited == item)
+                };
+                let line: Vec<usize> = (0..SLOTS).filter(awaits).collect();
+                holds(slot, &line)
+            }
+            None => true,
+        })
+    }
+
+    fn rank(&self, slot: usize) -> u64 {
+        self.txns[slot][RANK]
+    }
+
     fn starts(&self) -> Vec<u64> {
         let queries = self
             .txns
@@ -286,14 +345,19 @@ impl Tables<'_> {
     }
 
     fn waits_for(&self, slot: usize, other: usize) -> bool {
-        match self.awaited(slot) {
-            Some((AWAITS_SHARED, item)) => other != slot && self.holds_exclusive(other, item),
-            Some((_, item)) => {
-                other != slot
-                    && (self.holds_exclusive(other, item) || self.holds_shared(other, item))
+        let (lock, item) = match self.awaited(slot) {
+            Some(awaited) if other != slot => awaited,
+            _ => return false,
+        };
+        let is_ahead = match self.awaited(other) {
+            Some((wanted, awaited)) => {
+                let conflicts = lock == AWAITS_EXCLUSIVE || wanted == AWAITS_EXCLUSIVE;
+                awaited == item && self.rank(other) < self.rank(slot) && conflicts
             }
             None => false,
-        }
+        };
+        let shares = lock == AWAITS_EXCLUSIVE && self.holds_shared(other, item);
+        is_ahead || shares || self.holds_exclusive(other, item)
     }
 
     /// Whether a walk of at most 16 steps leads from a slot back to it.

@@ -1,11 +1,13 @@
 //! The exact condition of code 10: a pass or two over the words of each table.
 
+use std::cmp::Ordering;
+
 use crate::ids::{Item, Number, Slot, SlotSet, Stamp};
 use crate::row::{self, Starts};
 use crate::sizes::*;
 use crate::view::{as_row, Holders, Lock};
 
-/// Whether the tables are good in the sense of document 01.
+/// Whether the tables are good in the sense of documents 01 and 02.
 pub fn good(txns: &[u64], locks: &[u64], versions: &[u64]) -> bool {
     match (txns.try_into(), locks.try_into(), versions.try_into()) {
         (Ok(txns), Ok(locks), Ok(versions)) => holds(txns, locks, versions),
@@ -37,6 +39,8 @@ struct Crowd {
     waiting: SlotSet,
     /// What each waiting slot awaits.
     awaited: [(Lock, usize); SLOTS],
+    /// Its place in that item's line.
+    ranks: [u64; SLOTS],
 }
 
 impl Crowd {
@@ -51,14 +55,15 @@ impl Crowd {
             starts: Starts::none(),
             waiting: SlotSet::EMPTY,
             awaited: [(Lock::Shared, 0); SLOTS],
+            ranks: [0; SLOTS],
         };
         let mut numbers = [0; SLOTS];
         let mut live = 0;
         for (slot, row) in Slot::all().zip(txns[TXN_HEAD..].chunks_exact(TXN_ROW)) {
             let (kind, start) = (row[KIND], row[START]);
-            let (lock, item) = (row[AWAITED_LOCK], row[AWAITED_ITEM]);
+            let (lock, item, rank) = (row[AWAITED_LOCK], row[AWAITED_ITEM], row[RANK]);
             if row[NUMBER] == 0 {
-                if kind | start | lock | item != 0 {
+                if kind | start | lock | item | rank != 0 {
                     return None;
                 }
                 continue;
@@ -80,8 +85,9 @@ impl Crowd {
                 Some(lock) => {
                     crowd.waiting = crowd.waiting.with(slot);
                     crowd.awaited[slot.index()] = (lock, Item::new(item)?.index());
+                    crowd.ranks[slot.index()] = rank;
                 }
-                None if lock == AWAITS_NONE && item == 0 => {}
+                None if lock == AWAITS_NONE && item == 0 && rank == 0 => {}
                 None => return None,
             }
         }
@@ -102,7 +108,8 @@ impl Crowd {
         })
     }
 
-    /// Nobody awaits what it holds, and no circle of waits exists.
+    /// Nobody awaits what it holds, the lines are in order, and no circle of
+    /// waits exists.
     fn waits_are_good(&self, locks: &[u64; LOCK_WORDS]) -> bool {
         let mut waits_for = [SlotSet::EMPTY; SLOTS];
         for slot in self.waiting {
@@ -112,7 +119,20 @@ impl Crowd {
                 (_, None) | (Lock::Exclusive, Some(Lock::Shared)) => {}
                 _ => return false,
             }
-            waits_for[slot.index()] = holders.against(slot, lock);
+            let ahead = match self.ahead_of(slot) {
+                Some(ahead) => ahead,
+                None => return false,
+            };
+            // Only who shares the item stands ahead of one that does.
+            if holders.shared.contains(slot) && !ahead.is_within(holders.shared) {
+                return false;
+            }
+            let earlier = ahead.into_iter().filter(|other| {
+                let (wanted, _) = self.awaited[other.index()];
+                lock.conflicts(wanted)
+            });
+            let held = holders.against(slot, lock);
+            waits_for[slot.index()] = earlier.fold(held, SlotSet::with);
         }
         // Who waits for nobody that still waits is on no circle. Letting go of
         // those again and again leaves nobody exactly if there is no circle.
@@ -127,6 +147,32 @@ impl Crowd {
             if left == before {
                 return left.is_empty();
             }
+        }
+    }
+
+    /// Those ahead of a waiting slot in its line; none if its rank is not one
+    /// more than their number, or another's too.
+    fn ahead_of(&self, slot: Slot) -> Option<SlotSet> {
+        let (item, rank) = (self.awaited[slot.index()].1, self.ranks[slot.index()]);
+        let mut ahead = SlotSet::EMPTY;
+        let mut count = 0;
+        for other in self.waiting.without(slot) {
+            if self.awaited[other.index()].1 != item {
+                continue;
+            }
+            match self.ranks[other.index()].cmp(&rank) {
+                Ordering::Less => {
+                    ahead = ahead.with(other);
+                    count += 1;
+                }
+                Ordering::Equal => return None,
+                Ordering::Greater => {}
+            }
+        }
+        if rank == count + 1 {
+            Some(ahead)
+        } else {
+            None
         }
     }
 }

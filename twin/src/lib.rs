@@ -1,5 +1,5 @@
 //! The twin: a second lock and version keeper, written in ordinary Rust from
-//! document 01 alone, to be held against the proved keeper.
+//! documents 01 and 02 alone, to be held against the proved keeper.
 //!
 //! The six calls work on three lent tables of 64-bit words, of any length and
 //! content. They need no heap.
@@ -11,6 +11,7 @@ mod calls;
 mod good;
 mod ids;
 mod keeper;
+mod line;
 mod row;
 mod view;
 

@@ -14,14 +14,15 @@ pub const LAST: u64 = 4_294_967_295;
 
 /// Words of the transaction table before its rows: last number given, clock.
 pub const TXN_HEAD: usize = 2;
-/// Words of one transaction row: number, kind, start, awaited lock, awaited item.
-pub const TXN_ROW: usize = 5;
+/// Words of one transaction row: number, kind, start, awaited lock, awaited item,
+/// rank (request E4).
+pub const TXN_ROW: usize = 6;
 /// Words of one lock row: shared holders, exclusive holder, working value.
 pub const LOCK_ROW: usize = 3;
 /// Words of one version row: a count, then pairs of stamp and value.
 pub const VERSION_ROW: usize = 1 + 2 * PLACES;
 
-/// Words of the transaction table: 82.
+/// Words of the transaction table: 98.
 pub const TXN_WORDS: usize = TXN_HEAD + SLOTS * TXN_ROW;
 /// Words of the lock table: 192.
 pub const LOCK_WORDS: usize = ITEMS * LOCK_ROW;
@@ -39,6 +40,7 @@ pub const KIND: usize = 1;
 pub const START: usize = 2;
 pub const AWAITED_LOCK: usize = 3;
 pub const AWAITED_ITEM: usize = 4;
+pub const RANK: usize = 5;
 
 /// Kinds of transaction.
 pub const UPDATE: u64 = 0;
@@ -57,4 +59,4 @@ pub const WORKING: usize = 2;
 /// Place of the count in a version row; the pairs follow.
 pub const COUNT: usize = 0;
 
-const _: () = assert!(TXN_WORDS == 82 && LOCK_WORDS == 192 && VERSION_WORDS == 2112);
+const _: () = assert!(TXN_WORDS == 98 && LOCK_WORDS == 192 && VERSION_WORDS == 2112);

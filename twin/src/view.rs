@@ -27,6 +27,11 @@ impl Lock {
             Lock::Exclusive => AWAITS_EXCLUSIVE,
         }
     }
+
+    /// Two shared locks go together, nothing else does.
+    pub fn conflicts(self, other: Lock) -> bool {
+        self == Lock::Exclusive || other == Lock::Exclusive
+    }
 }
 
 /// The slots that hold a lock row.
@@ -139,53 +144,10 @@ impl<'a> View<'a> {
         Stamp::of(self.txn(slot)[START])
     }
 
-    /// The awaited lock and item, if this slot awaits any.
-    pub fn awaited(&self, slot: Slot) -> Option<(Lock, Item)> {
-        let row = self.txn(slot);
-        Some((
-            Lock::of_awaited(row[AWAITED_LOCK])?,
-            Item::new(row[AWAITED_ITEM])?,
-        ))
-    }
-
-    pub fn set_awaited(&mut self, slot: Slot, lock: Lock, item: Item) {
-        let row = self.txn_mut(slot);
-        row[AWAITED_LOCK] = lock.as_awaited();
-        row[AWAITED_ITEM] = item.word();
-    }
-
-    pub fn clear_awaited(&mut self, slot: Slot) {
-        self.txn_mut(slot)[AWAITED_LOCK..].fill(0);
-    }
-
     /// How many items this slot holds exclusively.
     pub fn exclusives(&self, slot: Slot) -> usize {
         let is_held = |row: &&[u64]| row[EXCLUSIVE] == slot.as_holder();
         self.locks.chunks_exact(LOCK_ROW).filter(is_held).count()
-    }
-
-    /// Whom this slot waits for, read off the present holders.
-    pub fn waits_for(&self, slot: Slot) -> SlotSet {
-        match self.awaited(slot) {
-            Some((lock, item)) => Holders::of(self.lock(item)).against(slot, lock),
-            None => SlotSet::EMPTY,
-        }
-    }
-
-    /// Whether a walk from these slots, waiting transaction to holder, comes to
-    /// this one.
-    pub fn walk_reaches(&self, from: SlotSet, goal: Slot) -> bool {
-        let mut reached = from;
-        let mut ahead = from;
-        while let Some(slot) = ahead.into_iter().next() {
-            if slot == goal {
-                return true;
-            }
-            let news = self.waits_for(slot).minus(reached);
-            reached = reached.and(news);
-            ahead = ahead.without(slot).and(news);
-        }
-        false
     }
 
     /// The starts of the live queries.

@@ -1,89 +1,11 @@
 //! Each clause of good tables broken alone, and what barely keeps it.
 
+mod sample;
+
+use sample::*;
 use twin::clauses::{broken, Clause};
 use twin::sizes::*;
-use twin::{Answer, Call, Keeper};
-
-const LIVE_UPDATE: usize = 0;
-const HOLDER: usize = 1;
-const WAITER: usize = 2;
-const OLD_QUERY: usize = 3;
-const NEW_QUERY: usize = 4;
-const FREE: usize = 5;
-
-/// The row of item 9: the new query reads the newest, the old one the older.
-const OLD_ITEM: usize = 9;
-
-/// Good tables with something for every clause: an update that holds nothing,
-/// one that holds item 1 exclusively and items 2 and 3 shared, one that awaits
-/// item 1 shared and holds item 2 shared and item 4 exclusively, and queries at
-/// stamps 3 and 10, the latter the clock.
-fn sample() -> Keeper {
-    let mut keeper = Keeper::fresh();
-    keeper.txns[LAST_NUMBER] = 50;
-    keeper.txns[CLOCK] = 10;
-    set_txn(&mut keeper, LIVE_UPDATE, [11, UPDATE, 0, 0, 0]);
-    set_txn(&mut keeper, HOLDER, [12, UPDATE, 0, 0, 0]);
-    set_txn(&mut keeper, WAITER, [50, UPDATE, 0, AWAITS_SHARED, 1]);
-    set_txn(&mut keeper, OLD_QUERY, [14, QUERY, 3, 0, 0]);
-    set_txn(&mut keeper, NEW_QUERY, [15, QUERY, 10, 0, 0]);
-    set_lock(&mut keeper, 1, [0, HOLDER as u64 + 1, 77]);
-    set_lock(&mut keeper, 2, [1 << HOLDER | 1 << WAITER, 0, 0]);
-    set_lock(&mut keeper, 3, [1 << HOLDER, 0, 0]);
-    set_lock(&mut keeper, 4, [0, WAITER as u64 + 1, 0]);
-    set_versions(&mut keeper, OLD_ITEM, &[(9, 900), (2, 200)]);
-    keeper
-}
-
-fn set_txn(keeper: &mut Keeper, slot: usize, words: [u64; TXN_ROW]) {
-    keeper.txns[TXN_HEAD + slot * TXN_ROW..][..TXN_ROW].copy_from_slice(&words);
-}
-
-fn txn(keeper: &mut Keeper, slot: usize, place: usize) -> &mut u64 {
-    &mut keeper.txns[TXN_HEAD + slot * TXN_ROW + place]
-}
-
-fn set_lock(keeper: &mut Keeper, item: usize, words: [u64; LOCK_ROW]) {
-    keeper.locks[item * LOCK_ROW..][..LOCK_ROW].copy_from_slice(&words);
-}
-
-fn set_versions(keeper: &mut Keeper, item: usize, pairs: &[(u64, u64)]) {
-    let row = &mut keeper.versions[item * VERSION_ROW..][..VERSION_ROW];
-    row.fill(0);
-    row[COUNT] = pairs.len() as u64;
-    for (words, pair) in row[1..].chunks_mut(2).zip(pairs) {
-        words[0] = pair.0;
-        words[1] = pair.1;
-    }
-}
-
-/// Only this clause is broken: every call answers 10 and changes nothing.
-fn breaks(clause: Clause, damage: impl Fn(&mut Keeper)) {
-    let mut keeper = sample();
-    damage(&mut keeper);
-    let list = broken(&keeper.txns, &keeper.locks, &keeper.versions);
-    assert_eq!(list, [clause]);
-    assert!(!keeper.is_good(), "{:?}", clause);
-    let number = 11;
-    let others = [Call::Abort { number: 99 }, Call::Read { number, item: 64 }];
-    for call in Call::each(number, 0, 1).into_iter().chain(others) {
-        let before = keeper.clone();
-        let bad = Answer {
-            code: 10,
-            ..Answer::default()
-        };
-        assert_eq!(keeper.call(call), bad);
-        assert_eq!(keeper, before);
-    }
-}
-
-fn keeps(change: impl Fn(&mut Keeper)) {
-    let mut keeper = sample();
-    change(&mut keeper);
-    let list = broken(&keeper.txns, &keeper.locks, &keeper.versions);
-    assert_eq!(list, []);
-    assert!(keeper.is_good());
-}
+use twin::Keeper;
 
 #[test]
 fn the_sample_and_fresh_tables_are_good() {
@@ -97,7 +19,7 @@ fn sizes() {
     let (txns, locks, versions) = (&keeper.txns[..], &keeper.locks[..], &keeper.versions[..]);
     let longer = |table: &[u64]| [table, &[0]].concat();
     assert!(twin::good(txns, locks, versions));
-    assert!(!twin::good(&txns[..81], locks, versions));
+    assert!(!twin::good(&txns[..97], locks, versions));
     assert!(!twin::good(&longer(txns), locks, versions));
     assert!(!twin::good(txns, &locks[..191], versions));
     assert!(!twin::good(txns, &longer(locks), versions));
@@ -105,7 +27,7 @@ fn sizes() {
     assert!(!twin::good(txns, locks, &longer(versions)));
     assert!(!twin::good(&[], &[], &[]));
     assert!(!twin::good(locks, txns, versions));
-    assert_eq!(broken(&txns[..81], locks, versions), [Clause::Sizes]);
+    assert_eq!(broken(&txns[..97], locks, versions), [Clause::Sizes]);
 }
 
 #[test]
@@ -157,10 +79,10 @@ fn awaited() {
         *txn(k, LIVE_UPDATE, AWAITED_LOCK) = u64::MAX
     });
     breaks(Clause::QueryAwaits, |k| {
-        *txn(k, NEW_QUERY, AWAITED_LOCK) = 1
+        set_txn(k, NEW_QUERY, [15, QUERY, 10, 1, 0, 1])
     });
     breaks(Clause::QueryAwaits, |k| {
-        *txn(k, NEW_QUERY, AWAITED_LOCK) = 2
+        set_txn(k, NEW_QUERY, [15, QUERY, 10, 2, 0, 1])
     });
     breaks(Clause::AwaitedItem, |k| *txn(k, WAITER, AWAITED_ITEM) = 64);
     breaks(Clause::AwaitedItem, |k| {
@@ -174,7 +96,7 @@ fn awaited() {
         *txn(k, NEW_QUERY, AWAITED_ITEM) = 63
     });
     breaks(Clause::NothingAwaited, |k| {
-        *txn(k, WAITER, AWAITED_LOCK) = 0
+        set_txn(k, WAITER, [50, UPDATE, 0, 0, 1, 0])
     });
 }
 
@@ -341,30 +263,8 @@ fn stamps() {
     keeps(old(&[(3, 1)]));
     // One more query reads what lies between.
     keeps(|k| {
-        set_txn(k, FREE, [16, QUERY, 8, 0, 0]);
+        set_txn(k, FREE, [16, QUERY, 8, 0, 0, 0]);
         set_versions(k, OLD_ITEM, &[(9, 1), (8, 2), (2, 3)]);
-    });
-}
-
-#[test]
-fn circles() {
-    breaks(Clause::Circle, |k| {
-        set_txn(k, HOLDER, [12, UPDATE, 0, AWAITS_SHARED, 4])
-    });
-    breaks(Clause::Circle, |k| {
-        set_txn(k, HOLDER, [12, UPDATE, 0, AWAITS_EXCLUSIVE, 2])
-    });
-    // A circle of three: the waiter, the holder, the update.
-    breaks(Clause::Circle, |k| {
-        set_txn(k, HOLDER, [12, UPDATE, 0, AWAITS_SHARED, 5]);
-        set_lock(k, 5, [0, LIVE_UPDATE as u64 + 1, 0]);
-        set_txn(k, LIVE_UPDATE, [11, UPDATE, 0, AWAITS_EXCLUSIVE, 4]);
-    });
-    // A circle nobody outside it waits for, and one that others wait for.
-    keeps(|k| set_txn(k, LIVE_UPDATE, [11, UPDATE, 0, AWAITS_EXCLUSIVE, 2]));
-    keeps(|k| {
-        set_txn(k, HOLDER, [12, UPDATE, 0, AWAITS_SHARED, 5]);
-        set_lock(k, 5, [0, LIVE_UPDATE as u64 + 1, 0]);
     });
 }
 

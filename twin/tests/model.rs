@@ -1,5 +1,5 @@
 //! The twin against a model that forgets nothing: every version ever written,
-//! locks as sets, the tables built anew from them after each call.
+//! locks as sets, lines as lists, the tables built anew from them after each call.
 
 use std::collections::{BTreeMap, BTreeSet};
 
@@ -22,6 +22,8 @@ struct Model {
     clock: u64,
     live: BTreeMap<u64, Txn>,
     history: BTreeMap<u64, Vec<(u64, u64)>>,
+    /// Who awaits an item, first come first.
+    lines: BTreeMap<u64, Vec<u64>>,
 }
 
 impl Model {
@@ -76,6 +78,7 @@ impl Model {
 
     fn end(&mut self, number: u64) -> [u64; 4] {
         self.live.remove(&number);
+        self.leave(number);
         [0, 0, 0, 0]
     }
 
@@ -102,15 +105,22 @@ impl Model {
         if is_write && written.insert(item) && written.len() > 32 {
             return [11, 0, 0, 0];
         }
-        if !self.against(number, is_write, item).is_empty() {
-            let txn = self.live.get_mut(&number).unwrap();
-            let before = txn.awaits.replace((is_write, item));
+        let has_enough = txn.written.contains_key(&item) || !is_write && txn.shared.contains(&item);
+        if !has_enough && !self.against(number, is_write, item).is_empty() {
+            if txn.awaits.is_some() {
+                return [1, 0, 0, 0];
+            }
+            let place = self.ahead(number, item).len();
+            self.lines.entry(item).or_default().insert(place, number);
+            self.live.get_mut(&number).unwrap().awaits = Some((is_write, item));
             if self.comes_to(number, number, &mut BTreeSet::new()) {
-                self.live.get_mut(&number).unwrap().awaits = before;
+                self.leave(number);
+                self.live.get_mut(&number).unwrap().awaits = None;
                 return [2, 0, 0, 0];
             }
             return [1, 0, 0, 0];
         }
+        self.leave(number);
         let newest = self.at(item, u64::MAX).1;
         let txn = self.live.get_mut(&number).unwrap();
         txn.awaits = None;
@@ -132,10 +142,33 @@ impl Model {
         let conflicts =
             |txn: &Txn| txn.written.contains_key(&item) || is_write && txn.shared.contains(&item);
         let others = self.live.iter().filter(|(other, _)| **other != number);
-        others
-            .filter(|(_, txn)| conflicts(txn))
-            .map(|(other, _)| *other)
-            .collect()
+        let holders = others.filter(|(_, txn)| conflicts(txn));
+        let mut against: Vec<u64> = holders.map(|(other, _)| *other).collect();
+        for &other in self.ahead(number, item) {
+            if is_write || self.live[&other].awaits == Some((true, item)) {
+                against.push(other);
+            }
+        }
+        against
+    }
+
+    /// The part of an item's line that is, or would be, ahead of this one.
+    fn ahead(&self, number: u64, item: u64) -> &[u64] {
+        let line = self.lines.get(&item).map_or(&[][..], |line| line);
+        let shares = |number: &u64| self.live[number].shared.contains(&item);
+        if let Some(at) = line.iter().position(|other| *other == number) {
+            &line[..at]
+        } else if shares(&number) {
+            &line[..line.iter().take_while(|other| shares(other)).count()]
+        } else {
+            line
+        }
+    }
+
+    fn leave(&mut self, number: u64) {
+        for line in self.lines.values_mut() {
+            line.retain(|other| *other != number);
+        }
     }
 
     fn comes_to(&self, from: u64, goal: u64, seen: &mut BTreeSet<u64>) -> bool {
@@ -172,13 +205,16 @@ impl Model {
         keeper.txns[0] = self.last;
         keeper.txns[1] = self.clock;
         for (&number, txn) in &self.live {
-            let (lock, item) = match txn.awaits {
-                None => (0, 0),
-                Some((is_write, item)) => (1 + u64::from(is_write), item),
+            let (lock, item, rank) = match txn.awaits {
+                None => (0, 0, 0),
+                Some((is_write, item)) => {
+                    let rank = 1 + self.ahead(number, item).len() as u64;
+                    (1 + u64::from(is_write), item, rank)
+                }
             };
             let kind = u64::from(txn.start.is_some());
-            let row = [number, kind, txn.start.unwrap_or(0), lock, item];
-            keeper.txns[2 + 5 * txn.slot..][..5].copy_from_slice(&row);
+            let row = [number, kind, txn.start.unwrap_or(0), lock, item, rank];
+            keeper.txns[2 + 6 * txn.slot..][..6].copy_from_slice(&row);
             for &item in &txn.shared {
                 keeper.locks[3 * item as usize] |= 1 << txn.slot;
             }

@@ -94,8 +94,12 @@ fn two_full_updates_hold_everything() {
     assert_eq!(t.read(2, 0), DEADLOCK);
     assert_eq!(t.write(2, 0, 5), QUOTA_SPENT);
     assert_eq!(t.commit(2), [0, 0, 1, 0]);
-    assert_eq!(t.read(1, 63), [0, 63, 0, 1]);
-    assert_eq!(t.write(3, 63, 5), WAIT);
+    // The third one asked first.
+    assert_eq!(t.read(1, 63), WAIT);
+    assert_eq!(t.write(3, 63, 5), GRANTED);
+    assert_eq!(t.read(1, 63), WAIT);
+    assert_eq!(t.commit(3), [0, 0, 2, 0]);
+    assert_eq!(t.read(1, 63), [0, 5, 0, 1]);
 }
 
 #[test]

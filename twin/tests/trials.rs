@@ -39,8 +39,10 @@ fn c_a_reader_waits_for_a_writer() {
     assert_eq!(t.write(1, X, 5), GRANTED);
     assert_eq!(t.read(2, X), WAIT);
     assert_eq!(t.read(2, X), WAIT);
+    assert_eq!(t.ranks(2), [0, 1]);
     assert_eq!(t.commit(1), [0, 0, 1, 0]);
     assert_eq!(t.read(2, X), [0, 5, 0, 1]);
+    assert_eq!(t.ranks(2), [0, 0]);
 }
 
 #[test]
@@ -61,6 +63,7 @@ fn e_two_readers_both_want_to_write() {
     assert_eq!(t.read(2, X), [0, 0, 0, 1]);
     assert_eq!(t.write(1, X, 1), WAIT);
     assert_eq!(t.write(2, X, 2), DEADLOCK);
+    assert_eq!(t.ranks(2), [1, 0]);
     assert_eq!(t.read(2, X), [0, 0, 0, 1]);
     assert_eq!(t.abort(2), GRANTED);
     assert_eq!(t.write(1, X, 3), GRANTED);
@@ -75,6 +78,7 @@ fn f_who_waits_may_only_repeat_or_abort() {
     assert_eq!(t.commit(2), STILL_WAITING);
     assert_eq!(t.read(2, Y), STILL_WAITING);
     assert_eq!(t.write(2, X, 5), STILL_WAITING);
+    assert_eq!(t.ranks(2), [0, 1]);
     assert_eq!(t.read(2, 64), UNKNOWN_ITEM);
     assert_eq!(t.read(2, X), WAIT);
     assert_eq!(t.abort(2), GRANTED);
@@ -222,7 +226,7 @@ fn m_the_numbers_are_spent() {
 #[test]
 fn n_tables_of_other_sizes() {
     let good = Trial::with_updates(1).0;
-    for (short, long, table) in [(81, 83, 0), (191, 193, 1), (2111, 2113, 2)] {
+    for (short, long, table) in [(97, 99, 0), (191, 193, 1), (2111, 2113, 2)] {
         for len in [0, 1, short, long, 2 * long] {
             for call in Call::each(1, 0, 1) {
                 let mut tables = [
@@ -253,31 +257,12 @@ fn o_circles_of_every_length() {
         }
         assert_eq!(t.read(length, 1), DEADLOCK);
         assert_eq!(t.write(length, 1, 1), DEADLOCK);
+        let waiting = length as usize - 1;
+        assert_eq!(t.ranks(length), [&vec![1; waiting][..], &[0]].concat());
         assert_eq!(t.read(length, 0), [0, 0, 0, 1]);
         assert_eq!(t.abort(1), GRANTED);
         assert_eq!(t.read(length, 1), [0, 0, 0, 1]);
     }
-}
-
-#[test]
-fn nobody_queues_and_waits_follow_the_holders() {
-    let mut t = Trial::with_updates(4);
-    assert_eq!(t.read(1, X), [0, 0, 0, 1]);
-    assert_eq!(t.write(2, X, 2), WAIT);
-    // A later reader passes the waiting writer and is waited for as well.
-    assert_eq!(t.write(3, Y, 3), GRANTED);
-    assert_eq!(t.read(3, X), [0, 0, 0, 1]);
-    assert_eq!(t.commit(1), [0, 0, 1, 0]);
-    assert_eq!(t.write(2, X, 2), WAIT);
-    // Now 2 waits for 3, so 3 may not wait for 2.
-    assert_eq!(t.abort(4), GRANTED);
-    assert_eq!(t.call(Call::Update), [0, 0, 5, 0]);
-    assert_eq!(t.read(5, Y), WAIT);
-    assert_eq!(t.commit(3), [0, 0, 2, 0]);
-    assert_eq!(t.read(5, Y), [0, 3, 0, 1]);
-    assert_eq!(t.write(2, X, 22), GRANTED);
-    assert_eq!(t.commit(2), [0, 0, 3, 0]);
-    assert_eq!(t.read(5, X), [0, 22, 0, 1]);
 }
 
 #[test]

@@ -2,29 +2,30 @@
 use Prim.Native.Nat.{ℕ, zero, suc, _+_, _-_, _*_, _/_, _%_, _^_, _<_}
 use mathlib.Core.Path.{_≡_, refl, sym, ap, _∙_, subst}
 use mathlib.Core.Logic.{_≢_}
-use mathlib.Core.Bool.{Bool, true, false, _&&_, not, cond}
+use mathlib.Core.Bool.{Bool, true, false, _&&_, _||_, not, cond}
 use mathlib.Core.List.{List}
 use native.Mathlib.Omega.{arith}
 use native.Mathlib.Nat.{one-mul, zero-mul}
-use lib.Bits.{bitAnd, bitOr, or-add-and, and-high}
+use lib.Bits.{bitAnd, bitOr, bitXor, or-add-and, and-high}
 use lib.Pow.{pow-add}
 use lib.Dec.{T, eqb, eqb→eq}
 use borrow.Author.Tests.{eqb-true, eqb-false}
 use Rattle.names.specs.Sizes.{base}
-use Rattle.rules.specs.Words.{bit, withBit, withoutBit}
-use Rattle.rules.specs.Tables.{tables, Lock, lock, holdsShared, holdsExclusive}
+use Rattle.rules.specs.Words.{bit, someBelow, withBit, withoutBit}
+use Rattle.rules.specs.Tables.{tables, txn, Lock, lock, holdsShared, holdsExclusive}
 use Rattle.rules.specs.Good.{Good}
-use Rattle.rules.specs.Locks.{Asked, wanted, Cell, decision, anotherShares, anotherExcludes}
-use Rattle.rules.proofs.Tests.{and-left, and-right, and-both, ne-make, ne-use, eq-make, false-is}
+use Rattle.rules.specs.Waits.{awaitsOn, ahead, rankFor}
+use Rattle.rules.specs.Locks.{Asked, toRead, toWrite, Held, exclusively, sharing, nothing, wanted, decide, anotherShares, anotherExcludes, anotherAhead}
+use Rattle.rules.proofs.Tests.{and-left, and-right, and-both, ne-make, ne-use, eq-make, is-false, false-is}
 use Rattle.rules.proofs.Counts.{someBelow→, →someBelow}
-use Rattle.rules.proofs.Bits.{bit-none, bit-below, below-power, withoutBit-here, withoutBit-there}
-use Rattle.rows.specs.Founds.{lockOf}
-use Rattle.rows.specs.declared.locks.LockRow.{LockRow}
-use Rattle.words.proofs.SlotWords.{has-bit}
+use Rattle.rules.proofs.Bits.{bit-none, bit-below, below-power, one-bit-at, withoutBit-here, withoutBit-there}
+use Rattle.words.proofs.SlotWords.{has-bit, sans-at, shifted, oneShifted}
 use Rattle.words.proofs.Turns.{iff-eq}
+use Rattle.ranks.specs.Lines.{somebodyOn}
+use Rattle.waiting.specs.Waiting.{Ahead}
 use Rattle.waiting.proofs.Handed.{good-readable}
 use Rattle.waiting.proofs.Linking.{shared-small, exclusive-small}
-use Rattle.cells.specs.Cells.{askedOf, SlotsOnly}
+use Rattle.cells.specs.Cells.{askedOf, heldOf, needsLock, SlotsOnly}
 
 -- ---- the tests on the others
 module _ (h : Lock) (s : ℕ) (k : SlotsOnly h) where
@@ -82,6 +83,70 @@ module _ (h : Lock) (s : ℕ) (k : SlotsOnly h) where
           let e : h .exclusive ≡ suc b = eqb→eq (h .exclusive) (suc b) (and-right (not (eqb s b)) _ (r .2)) in
           and-both (not (eqb (h .exclusive) 0)) _ (ne-make (h .exclusive) 0 (λ z. omega arith)) (ne-make (h .exclusive) (s + 1) (λ z. d (omega arith)))
 
+-- an earlier waiter besides s
+pub ahead-is :
+    (t l : List ℕ) (k x s w : ℕ) → s < base .slots → Ahead t k x (rankFor base t l s x) w
+    → not (eqb (bitXor w (bitAnd w (oneShifted s))) 0) ≡ anotherAhead base t l k x s
+unfolding anotherAhead
+ahead-is t l k x s w i h = rw (shifted s (omega arith)) (iff-eq (not (eqb v 0)) (someBelow (base .slots) p) forth back)
+  where
+    v : ℕ
+    v = bitXor w (bitAnd w (2 ^ s))
+
+    p : ℕ → Bool
+    p b = not (eqb s b) && ahead x k (rankFor base t l s x) (txn t b)
+
+    forth : T (not (eqb v 0)) → T (someBelow (base .slots) p)
+    forth u =
+        let r = has-bit v v (below-power v) (ne-use v 0 u) in
+        let b : ℕ = r .0 in
+        let f = subst T (sans-at w (2 ^ s) b) (r .2) in
+        let g = and-left (bit w b) _ f in
+        →someBelow (base .slots) p b (bit-below w b (base .slots) (h .small) g)
+        (and-both (not (eqb s b)) _ (subst (λ (c : Bool). T (not c)) (one-bit-at s b) (and-right (bit w b) _ f)) (subst T (h .at b) g))
+
+    back : T (someBelow (base .slots) p) → T (not (eqb v 0))
+    back u =
+        let r = someBelow→ (base .slots) p u in
+        let b : ℕ = r .0 in
+        let f : T (bit v b) =
+        subst T (sym (sans-at w (2 ^ s) b))
+        (and-both (bit w b) _ (subst T (sym (h .at b)) (and-right (not (eqb s b)) _ (r .2))) (subst (λ (c : Bool). T (not c)) (sym (one-bit-at s b)) (and-left (not (eqb s b)) _ (r .2)))) in
+        ne-make v 0 (λ e. false-is (ap (λ (m : ℕ). bit m b) e ∙ bit-none b) f)
+
+-- where nobody waits on the item, nobody is ahead
+pub none-ahead : (t l : List ℕ) (k x s : ℕ) → somebodyOn base t x ≡ false → anotherAhead base t l k x s ≡ false
+unfolding somebodyOn anotherAhead ahead
+none-ahead t l k x s e =
+    is-false (anotherAhead base t l k x s)
+    (λ u.
+    let r = someBelow→ (base .slots) (λ b. not (eqb s b) && ahead x k (rankFor base t l s x) (txn t b)) u in
+    let b : ℕ = r .0 in
+    false-is e
+    (→someBelow (base .slots) (λ b. awaitsOn x (txn t b)) b (r .1) (and-left (awaitsOn x (txn t b)) _ (and-right (not (eqb s b)) _ (r .2)))))
+
+-- ---- who needs no further lock
+pub needs-is : (a h : ℕ) → a < 2 → h < 3 → (not (eqb h 0) && (not (eqb h 1) || eqb a 1)) ≡ needsLock (askedOf a) (heldOf h)
+needs-is zero zero i j = refl
+needs-is zero (suc zero) i j = refl
+needs-is zero (suc (suc zero)) i j = refl
+needs-is (suc zero) zero i j = refl
+needs-is (suc zero) (suc zero) i j = refl
+needs-is (suc zero) (suc (suc zero)) i j = refl
+needs-is zero (suc (suc (suc h))) i j = absurd (omega arith)
+needs-is (suc zero) (suc (suc (suc h))) i j = absurd (omega arith)
+needs-is (suc (suc a)) h i j = absurd (omega arith)
+
+-- its cell is the same, whoever waits
+pub no-line : (a : Asked) (h : Held) (s e r : Bool) → needsLock a h ≡ false → decide a h s e false ≡ decide a h s e r
+unfolding decide
+no-line toRead exclusively s e r n = refl
+no-line toWrite exclusively s e r n = refl
+no-line toRead sharing s e r n = refl
+no-line toWrite sharing s e r n = absurd (false-is n tt)
+no-line toRead nothing s e r n = absurd (false-is n tt)
+no-line toWrite nothing s e r n = absurd (false-is n tt)
+
 -- ---- a bit set, as the code sets it
 pub set-is : (h s : ℕ) → bitOr h (2 ^ s) ≡ withBit h s
 unfolding withBit bit
@@ -103,12 +168,6 @@ set-is h s = go (eqb (h / 2 ^ s % 2) 1) refl
         let q : bitAnd h (2 ^ s) ≡ 0 = both ∙ ap (λ (n : ℕ). n * 2 ^ s) z ∙ zero-mul (2 ^ s) in
         let o = or-add-and h (2 ^ s) in
         omega arith
-
--- ---- the cell that the code found
-pub cell-told :
-    (a : Asked) (h : Lock) (s : ℕ) (row : LockRow) → lockOf row ≡ h → {r q : Cell} → r ≡ decision base a (lockOf row) s → r ≡ q
-    → decision base a h s ≡ q
-cell-told a h s row e {r} {q} f g = ap (λ (m : Lock). decision base a m s) (sym e) ∙ (sym f ∙ g)
 
 -- ---- on good tables
 pub lock-slots : (t l v : List ℕ) → Good base (tables t l v) → (x : ℕ) → x < base .items → SlotsOnly (lock l x)

@@ -10,11 +10,14 @@ use Rattle.names.specs.declared.Answer.{Answer}
 use Rattle.names.specs.declared.Slot.{Slot}
 use Rattle.names.specs.declared.Item.{Item}
 use Rattle.names.specs.declared.Stamp.{Stamp}
-use Rattle.rules.specs.Tables.{Tables, tables, lastNumber, clock, txn, setTxn, setAwaited, noTxn, newTxn, starts, Lock, lock, release, noLock}
+use Rattle.rules.specs.Tables.{Tables, tables, lastNumber, clock, txn, setTxn, noTxn, newTxn, starts, Lock, lock, release}
+use Rattle.rules.specs.Waits.{noted, closedUp}
 use Rattle.rules.specs.Versions.{versionsOf, newest, place, choice, rewritten}
 use Rattle.rules.specs.Good.{Good}
 use Rattle.rules.specs.Answers.{Outcome, outcome, Wait, Deed, Waits, Begins, ReadsByStart, ReadsOwn, ReadsNewest, TakesShared, Replaces, TakesExclusive, Commits, Ends, Aborts}
 use Rattle.rules.specs.Step.{done, begun, cleared, locked, replaced, sharedToo, taken, queryRead, withNew, committed, ended, aborted}
+use Rattle.ranks.specs.Lines.{RanksSmall}
+use Rattle.ranks.proofs.Ranks.{ranks-small}
 use Rattle.choices.proofs.Handed.{good-least}
 use Rattle.deeds.specs.Asked.{Lockable, HasNewest, GrantedTo}
 
@@ -25,6 +28,9 @@ told G {d} {e} {o} p q = q ∙ ap (λ (d : Deed). done base d G) (sym p)
 -- on good tables
 pub lockable : (G : Tables) → Good base G → (s x : ℕ) → s < base .slots → x < base .items → Lockable (G .txns) (G .locks) s x
 lockable G g s x i k = record { txnsExact = g .txnsExact; locksExact = g .locksExact; inside = i; known = k }
+
+pub waitable : (G : Tables) → Good base G → (s x : ℕ) → s < base .slots → x < base .items → Lockable (G .txns) (G .locks) s x × RanksSmall (G .txns)
+waitable G g s x i k = (lockable G g s x i k, ranks-small G g)
 
 pub has-newest : (G : Tables) → Good base G → (x : ℕ) → x < base .items → HasNewest (G .versions) x
 has-newest G g x k = record { versionsExact = g .versionsExact; known = k; some = good-least G g x k }
@@ -37,7 +43,7 @@ module _ (t l v : List ℕ) where
   begins-done s k q en et er = rw (er, et, en)
 
   pub waits-done :
-      (s : Slot) (k : ℕ) (x : Item) {r : Answer} {t′ : List ℕ} → t′ ≡ setAwaited t (s .0) k (x .0) → r ≡ refusal Wait
+      (s : Slot) (k : ℕ) (x : Item) {r : Answer} {t′ : List ℕ} → t′ ≡ noted base t l (s .0) k (x .0) → r ≡ refusal Wait
       → outcome r t′ l v ≡ done base (Waits s k x) (tables t l v)
   unfolding done
   waits-done s k x et er = rw (er, et)
@@ -49,15 +55,15 @@ module _ (t l v : List ℕ) where
   start-done s x eq ew ej er = rw (er, ew, ej, eq)
 
   pub own-done :
-      (s : Slot) (x : Item) {w : ℕ} {r : Answer} {t′ : List ℕ} → t′ ≡ setAwaited t (s .0) noLock 0 → w ≡ (lock l (x .0)) .working → r ≡ found w 0
+      (s : Slot) (x : Item) {w : ℕ} {r : Answer} {t′ : List ℕ} → t′ ≡ cleared base t (s .0) → w ≡ (lock l (x .0)) .working → r ≡ found w 0
       → outcome r t′ l v ≡ done base (ReadsOwn s x) (tables t l v)
-  unfolding done cleared
+  unfolding done
   own-done s x et ew er = rw (er, et, ew)
 
   pub newest-done :
-      (s : Slot) (x : Item) {w : ℕ} {r : Answer} {t′ : List ℕ} → t′ ≡ setAwaited t (s .0) noLock 0 → w ≡ newest base v (x .0) → r ≡ found w 1
+      (s : Slot) (x : Item) {w : ℕ} {r : Answer} {t′ : List ℕ} → t′ ≡ cleared base t (s .0) → w ≡ newest base v (x .0) → r ≡ found w 1
       → outcome r t′ l v ≡ done base (ReadsNewest s x) (tables t l v)
-  unfolding done cleared
+  unfolding done
   newest-done s x et ew er = rw (er, et, ew)
 
   module _ (s : Slot) (x : Item) {h : Lock} {t′ l′ : List ℕ} (g : GrantedTo (s .0) (x .0) h t l t′ l′) where
@@ -92,7 +98,7 @@ module _ (t l v : List ℕ) where
   commits-done s ec et el ev er = rw (er, et, el, ev, ec)
 
   pub aborts-done :
-      (s : Slot) {r : Answer} {t′ l′ : List ℕ} → t′ ≡ setTxn t (s .0) noTxn → l′ ≡ release base (s .0) l → r ≡ plain
+      (s : Slot) {r : Answer} {t′ l′ : List ℕ} → t′ ≡ setTxn (closedUp base t (s .0)) (s .0) noTxn → l′ ≡ release base (s .0) l → r ≡ plain
       → outcome r t′ l′ v ≡ done base (Aborts s) (tables t l v)
   unfolding done aborted
   aborts-done s et el er = rw (er, et, el)

@@ -29,5 +29,5 @@ pub record Trimmed (t v : List ℕ) : Type 0 where
 
 -- slot s awaits nothing, and the item x has the lock h
 pub record GrantedTo (s x : ℕ) (h : Lock) (t l t′ l′ : List ℕ) : Type 0 where
-  pub txns : t′ ≡ cleared t s
+  pub txns : t′ ≡ cleared base t s
   pub locks : l′ ≡ setLock l x h

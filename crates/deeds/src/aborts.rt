@@ -10,11 +10,12 @@ ghost use Rattle.rules.specs.Tables.{tables, txnWords, lockWords};
 ghost use Rattle.rules.specs.Answers.{outcome, Aborts};
 ghost use Rattle.rules.specs.Step.{done};
 
-// An update is aborted: its locks and its row go.
+// An update is aborted: its locks, its row and its place in a line go.
 pub fn aborts(txns: &mut [u64], locks: &mut [u64], slot: Slot) -> Answer
     requires { ⌜ (length (now txns) ≡ txnWords base) × (length (now locks) ≡ lockWords base) × (slot .0 < base .slots) ⌝ }
     ensures { λ r. ⌜ ((v : List ℕ) → outcome r (now (txns .exit)) (now (locks .exit)) v ≡ done base (Aborts slot) (tables (now (txns .entry)) (now (locks .entry)) v)) ⌝ }
 {
+    ranks::close_up(txns, slot);
     rows::leave(txns, slot);
     rows::release(locks, slot);
     Answer::granted()

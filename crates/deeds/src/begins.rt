@@ -13,6 +13,8 @@ ghost use Rattle.names.specs.Sizes.{base, lastWord};
 ghost use Rattle.rules.specs.Tables.{tables, txnWords, lastNumber};
 ghost use Rattle.rules.specs.Answers.{outcome, Waits, Begins};
 ghost use Rattle.rules.specs.Step.{done};
+ghost use Rattle.ranks.specs.Lines.{RanksSmall};
+ghost use Rattle.deeds.specs.Asked.{Lockable};
 
 // The slot gets the next number, and a row of this kind with this start.
 pub fn begins(txns: &mut [u64], slot: Slot, kind: u64, start: Stamp) -> Answer
@@ -24,11 +26,11 @@ pub fn begins(txns: &mut [u64], slot: Slot, kind: u64, start: Stamp) -> Answer
     Answer::numbered(number)
 }
 
-// The slot awaits a lock of this kind on this item.
-pub fn waits(txns: &mut [u64], slot: Slot, lock: u64, item: Item) -> Answer
-    requires { ⌜ (length (now txns) ≡ txnWords base) × (slot .0 < base .slots) ⌝ }
-    ensures { λ r. ⌜ ((l v : List ℕ) → outcome r (now (txns .exit)) l v ≡ done base (Waits slot lock item) (tables (now (txns .entry)) l v)) ⌝ }
+// The slot awaits a lock of this kind on this item: it takes its place in the line.
+pub fn waits(txns: &mut [u64], locks: &[u64], slot: Slot, lock: u64, item: Item) -> Answer
+    requires { ⌜ Lockable (now txns) (now locks) (slot .0) (item .0) × RanksSmall (now txns) ⌝ }
+    ensures { λ r. ⌜ ((v : List ℕ) → outcome r (now (txns .exit)) (now (locks .entry)) v ≡ done base (Waits slot lock item) (tables (now (txns .entry)) (now (locks .entry)) v)) ⌝ }
 {
-    rows::set_awaited(txns, slot, lock, item);
+    ranks::note(txns, locks, slot, lock, item);
     Answer::refused(Refusal::Wait)
 }

@@ -2,7 +2,6 @@
 // exclusively. A grant clears the awaited fields.
 use names::Answer;
 use names::Item;
-use names::NO_LOCK;
 use names::Slot;
 use rows::LockRow;
 ghost use mathlib.Core.Path.{_≡_};
@@ -20,7 +19,7 @@ fn granted(txns: &mut [u64], locks: &mut [u64], slot: Slot, item: Item, row: Loc
     requires { ⌜ Lockable (now txns) (now locks) (slot .0) (item .0) ⌝ }
     ensures { λ _. ⌜ GrantedTo (slot .0) (item .0) (lockOf row) (now (txns .entry)) (now (locks .entry)) (now (txns .exit)) (now (locks .exit)) ⌝ }
 {
-    rows::set_awaited(txns, slot, NO_LOCK, Item(0));
+    ranks::clear(txns, slot);
     rows::set_lock(locks, item, row);
 }
 

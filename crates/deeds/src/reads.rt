@@ -1,7 +1,6 @@
 // A read that needs no new lock.
 use names::Answer;
 use names::Item;
-use names::NO_LOCK;
 use names::Slot;
 ghost use mathlib.Core.Path.{_≡_};
 ghost use mathlib.Core.List.{List};
@@ -29,7 +28,7 @@ pub fn own(txns: &mut [u64], locks: &[u64], slot: Slot, item: Item) -> Answer
     requires { ⌜ (length (now txns) ≡ txnWords base) × (length (now locks) ≡ lockWords base) × (slot .0 < base .slots) × (item .0 < base .items) ⌝ }
     ensures { λ r. ⌜ ((v : List ℕ) → outcome r (now (txns .exit)) (now (locks .entry)) v ≡ done base (ReadsOwn slot item) (tables (now (txns .entry)) (now (locks .entry)) v)) ⌝ }
 {
-    rows::set_awaited(txns, slot, NO_LOCK, Item(0));
+    ranks::clear(txns, slot);
     let row = rows::lock_at(locks, item);
     Answer::found(row.working, 0)
 }
@@ -39,6 +38,6 @@ pub fn newest(txns: &mut [u64], versions: &[u64], slot: Slot, item: Item) -> Ans
     requires { ⌜ (length (now txns) ≡ txnWords base) × (slot .0 < base .slots) × HasNewest (now versions) (item .0) ⌝ }
     ensures { λ r. ⌜ ((l : List ℕ) → outcome r (now (txns .exit)) l (now (versions .entry)) ≡ done base (ReadsNewest slot item) (tables (now (txns .entry)) l (now (versions .entry)))) ⌝ }
 {
-    rows::set_awaited(txns, slot, NO_LOCK, Item(0));
+    ranks::clear(txns, slot);
     Answer::found(choices::newest(versions, item), 1)
 }

@@ -9,7 +9,7 @@ use Rattle.rules.specs.Answers.{Replaces, TakesExclusive, Commits, Ends, Aborts
 
 abbrev pub Able : Tables → Deed → Type 0
 Able G (Refused r) = T true
-Able G (Waits s k x) = s .0 < base .slots
+Able G (Waits s k x) = (s .0 < base .slots) × (x .0 < base .items)
 Able G (Begins s k q) = s .0 < base .slots
 Able G (ReadsByStart s x) = (s .0 < base .slots) × (x .0 < base .items) × T (liveQuery (txn (G .txns) (s .0)))
 Able G (ReadsOwn s x) = (s .0 < base .slots) × (x .0 < base .items)

@@ -9,11 +9,11 @@ use lib.ListN.{replicate}
 use Rattle.names.specs.declared.Answer.{Answer}
 use Rattle.names.specs.Sizes.{base}
 use Rattle.rules.specs.Words.{implies, everyBelow, someBelow, countBelow, firstFrom, every, some, tabulateFrom, row, everyRow, mapRows, bit, withBit, withoutBit}
-use Rattle.rules.specs.Tables.{txn, setTxn, setAwaited, live, liveUpdate, liveQuery, slotOf, freeSlot, startsFrom, starts, lock, setLock, holdsShared, holdsExclusive, holds, exclusivesOf, released, release, fresh}
+use Rattle.rules.specs.Tables.{txn, setTxn, setAwaited, reranked, live, liveUpdate, liveQuery, slotOf, freeSlot, startsFrom, starts, lock, setLock, holdsShared, holdsExclusive, holds, exclusivesOf, released, release, fresh}
 use Rattle.rules.specs.Versions.{pairs, versionsIn, versionsOf, pairWords, rowOf, stampAt, newest, place, choice, readBySome, keptFrom, kept, rewritten}
-use Rattle.rules.specs.Waits.{conflicts, blocks, blocked, waitsFor, marked, spread, rounds, reached, circleAt, noCircle}
-use Rattle.rules.specs.Tested.{sizesExact, topsMost, freeZero, listed, startGood, awaitedGood, awaiterGood, txnGood, distinct, holdersLive, lockGood, quotaMost, fullIdle, quotaGood, falls, lastOld, allRead, versionsGood, good}
-use Rattle.rules.specs.Locks.{heldBy, decide, anotherShares, anotherExcludes, decision}
+use Rattle.rules.specs.Waits.{awaits, awaitsOn, waitersOn, exchangersOn, rankFor, raised, lowered, noted, closedUp, conflicts, ahead, blocks, blocked, waitsFor, marked, spread, rounds, reached, circleAt, noCircle}
+use Rattle.rules.specs.Tested.{sizesExact, topsMost, freeZero, listed, startGood, awaitedGood, awaiterGood, txnGood, distinct, holdersLive, lockGood, quotaMost, fullIdle, quotaGood, rankWithin, ranksApart, ranksGood, falls, lastOld, allRead, versionsGood, good}
+use Rattle.rules.specs.Locks.{heldBy, decide, anotherShares, anotherExcludes, anotherAhead, decision}
 use Rattle.rules.specs.Step.{begun, beginBy, conflicted, cleared, locked, cellDeed, access, awaitsOther, writesFurther, queryRead, readBy, writeBy, withNew, committed, ended, commitBy, aborted, abortBy, judged, done, act, step}
 use Rattle.rules.specs.Tables.{Tables, tables, lastNumber, txnWords, lockWords, aQuery}
 use Rattle.rules.specs.Answers.{Call, BeginUpdate, BeginQuery, Read, Write, Commit, Outcome}
@@ -37,7 +37,7 @@ right i = step base (i .call) (i .before)
 
 -- whoever unfolds this computes with all the rules
 unfoldable computed : Input → Outcome
-unfolding right isRead isBegin isWord callOfWords tablesOfWords withoutVersions tablesAfter leave implies everyBelow someBelow countBelow firstFrom every some tabulateFrom row everyRow mapRows bit withBit withoutBit txn setTxn setAwaited live liveUpdate liveQuery slotOf freeSlot startsFrom starts lock setLock holdsShared holdsExclusive holds exclusivesOf released release fresh pairs versionsIn versionsOf pairWords rowOf stampAt newest place choice readBySome keptFrom kept rewritten conflicts blocks blocked waitsFor marked spread rounds reached circleAt noCircle sizesExact topsMost freeZero listed startGood awaitedGood awaiterGood txnGood distinct holdersLive lockGood quotaMost fullIdle quotaGood falls lastOld allRead versionsGood good heldBy decide anotherShares anotherExcludes decision begun beginBy conflicted cleared locked cellDeed access awaitsOther writesFurther queryRead readBy writeBy withNew committed ended commitBy aborted abortBy judged done act step
+unfolding right isRead isBegin isWord callOfWords tablesOfWords withoutVersions tablesAfter leave implies everyBelow someBelow countBelow firstFrom every some tabulateFrom row everyRow mapRows bit withBit withoutBit txn setTxn setAwaited reranked live liveUpdate liveQuery slotOf freeSlot startsFrom starts lock setLock holdsShared holdsExclusive holds exclusivesOf released release fresh pairs versionsIn versionsOf pairWords rowOf stampAt newest place choice readBySome keptFrom kept rewritten awaits awaitsOn waitersOn exchangersOn rankFor raised lowered noted closedUp conflicts ahead blocks blocked waitsFor marked spread rounds reached circleAt noCircle sizesExact topsMost freeZero listed startGood awaitedGood awaiterGood txnGood distinct holdersLive lockGood quotaMost fullIdle quotaGood rankWithin ranksApart ranksGood falls lastOld allRead versionsGood good heldBy decide anotherShares anotherExcludes anotherAhead decision begun beginBy conflicted cleared locked cellDeed access awaitsOther writesFurther queryRead readBy writeBy withNew committed ended commitBy aborted abortBy judged done act step
 computed i = right i
 
 -- the call c after the calls cs

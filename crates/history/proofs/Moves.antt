@@ -9,9 +9,10 @@ use lib.Dec.{T, eqb, eqb→eq, eqb·zero-suc}
 use borrow.Author.Tests.{eq-eqb}
 use Rattle.names.specs.declared.Sizes.{Sizes}
 use Rattle.rules.specs.Words.{bit, withBit}
-use Rattle.rules.specs.Tables.{Tables, tables, lastNumber, clock, Txn, txn, setAwaited, noTxn, liveUpdate, liveQuery}
+use Rattle.rules.specs.Tables.{Tables, tables, lastNumber, clock, Txn, txn, noTxn, liveUpdate, liveQuery}
 use Rattle.rules.specs.Tables.{anUpdate, aQuery, Lock, lock, setLock, holds, holdsShared, holdsExclusive}
 use Rattle.rules.specs.Versions.{newest}
+use Rattle.rules.specs.Waits.{noted}
 use Rattle.rules.specs.Good.{Good}
 use Rattle.rules.specs.Answers.{Call}
 use Rattle.rules.specs.Step.{withTxns, begun, cleared, locked, replaced, sharedToo, taken, committed, ended, aborted}
@@ -25,7 +26,7 @@ use Rattle.rules.proofs.Ways.{Updater}
 use Rattle.history.specs.Happened.{got, put, Happening, updateBegan, queryBegan, accessed, updateCommitted, onlyEnded, nothing, names}
 use Rattle.history.proofs.Invariant.{Kept}
 use Rattle.history.proofs.Turns.{Same, New, byLock, byStart, Left, Turn, quiet, updateBegins, queryBegins, reads, writes, commits, ends}
-use Rattle.history.proofs.Tables.{same-row, awaited-row, awaited-last, awaited-clock, begun-here, begun-there, begun-last, begun-clock}
+use Rattle.history.proofs.Tables.{same-row, Quiet, noted-quiet, cleared-quiet, begun-here, begun-there, begun-last, begun-clock}
 use Rattle.history.proofs.Tables.{SameHold, same-hold, shared-hold, replaced-hold, taken-hold, release-hold, readAt, reads-newest}
 use Rattle.history.proofs.Tables.{aborted-here, aborted-there, aborted-last, aborted-clock, ended-here, ended-there, ended-last, ended-clock}
 use Rattle.history.proofs.Tables.{ended-newest, ended-reads, committed-here, committed-there, committed-last, committed-clock, committed-newest, committed-reads}
@@ -59,19 +60,18 @@ module _ (S : Sizes) (G : Tables) (g : Good S G) where
 
   -- ---- the awaited fields are not seen
   awaited-kept :
-      (s k x : ℕ) → s < S .slots → (l′ : List ℕ) (r : ℕ) → ((y : ℕ) → y < S .items → SameHold (lock l y) (lock l′ y) r)
-      → Kept (S .items) (seen S G) (seen S (tables (setAwaited t s k x) l′ v)) r
-  awaited-kept s k x i l′ r L =
-      kept-by S G (tables (setAwaited t s k x) l′ v) r (awaited-row S t (g .txnsExact) s k x i r) L (λ y b q. refl)
+      (t′ : List ℕ) → Quiet t t′ → (l′ : List ℕ) (r : ℕ) → ((y : ℕ) → y < S .items → SameHold (lock l y) (lock l′ y) r)
+      → Kept (S .items) (seen S G) (seen S (tables t′ l′ v)) r
+  awaited-kept t′ q l′ r L = kept-by S G (tables t′ l′ v) r (q .rows r) L (λ y b q. refl)
 
   awaited-same :
-      (s k x : ℕ) → s < S .slots → (l′ : List ℕ) → ((r y : ℕ) → y < S .items → SameHold (lock l y) (lock l′ y) r)
-      → SameIn (tables (setAwaited t s k x) l′ v)
-  awaited-same s k x i l′ L =
-      record { kept = λ r. awaited-kept s k x i l′ r (L r); current = λ y b. refl; last = awaited-last t s k x; clock = awaited-clock t s k x }
+      (t′ : List ℕ) → Quiet t t′ → (l′ : List ℕ) → ((r y : ℕ) → y < S .items → SameHold (lock l y) (lock l′ y) r)
+      → SameIn (tables t′ l′ v)
+  awaited-same t′ q l′ L =
+      record { kept = λ r. awaited-kept t′ q l′ r (L r); current = λ y b. refl; last = q .last; clock = q .clock-is }
 
-  pub wait-turn : {c : Call} (s k x : ℕ) → s < S .slots → TurnTo (withTxns G (setAwaited t s k x)) c nothing
-  wait-turn s k x i = quiet (awaited-same s k x i l still)
+  pub wait-turn : {c : Call} (s k x : ℕ) → s < S .slots → TurnTo (withTxns G (noted S t l s k x)) c nothing
+  wait-turn s k x i = quiet (awaited-same (noted S t l s k x) (noted-quiet S t (g .txnsExact) s i l k x) l still)
 
   -- ---- a query's read
   pub query-read-turn :
@@ -87,6 +87,9 @@ module _ (S : Sizes) (G : Tables) (g : Good S G) where
     abbrev inside : s < S .slots
     inside = U .caller .inside
 
+    cleared-is : Quiet t (cleared S t s)
+    cleared-is = cleared-quiet S t (g .txnsExact) s inside
+
     abbrev Gives : ℕ → Tables → Call → Type 0
     Gives w G′ c = TurnTo G′ c (accessed n (got x w))
 
@@ -94,15 +97,14 @@ module _ (S : Sizes) (G : Tables) (g : Good S G) where
     Takes w G′ c = TurnTo G′ c (accessed n (put x w))
 
     -- a read under a lock that is there: only the awaited fields are cleared
-    held-turn : {c : Call} (w : ℕ) → T (holds h s) → w ≡ cond (holdsExclusive h s) (h .working) (newest S v x) → Gives w (withTxns G (cleared t s)) c
-    unfolding cleared
-    held-turn w a e = reads n s x w (U .caller .name) (U .known) (awaited-same s 0 0 inside l still) (byLock (inside, U .update) a e)
+    held-turn : {c : Call} (w : ℕ) → T (holds h s) → w ≡ cond (holdsExclusive h s) (h .working) (newest S v x) → Gives w (withTxns G (cleared S t s)) c
+    held-turn w a e = reads n s x w (U .caller .name) (U .known) (awaited-same (cleared S t s) cleared-is l still) (byLock (inside, U .update) a e)
 
-    pub own-turn : {c : Call} → T (holdsExclusive h s) → Gives (h .working) (withTxns G (cleared t s)) c
+    pub own-turn : {c : Call} → T (holdsExclusive h s) → Gives (h .working) (withTxns G (cleared S t s)) c
     unfolding holds
     own-turn a = held-turn (h .working) (or-right (holdsShared h s) _ a) (rw (is-true (holdsExclusive h s) a))
 
-    pub newest-turn : {c : Call} → T (holdsShared h s) → Gives (newest S v x) (withTxns G (cleared t s)) c
+    pub newest-turn : {c : Call} → T (holdsShared h s) → Gives (newest S v x) (withTxns G (cleared S t s)) c
     unfolding holds
     newest-turn a =
         held-turn (newest S v x) (or-left (holdsShared h s) _ a)
@@ -128,18 +130,18 @@ module _ (S : Sizes) (G : Tables) (g : Good S G) where
 
       -- a lock taken exclusively, or held so and given another working value
       write-turn :
-          {c : Call} (w : ℕ) → h′ .exclusive ≡ suc s → h′ .working ≡ w → ((r : ℕ) → r ≢ s → SameHold h h′ r) → Takes w (locked s x h′ G) c
-      unfolding locked cleared holds holdsExclusive
+          {c : Call} (w : ℕ) → h′ .exclusive ≡ suc s → h′ .working ≡ w → ((r : ℕ) → r ≢ s → SameHold h h′ r) → Takes w (locked S s x h′ G) c
+      unfolding locked holds holdsExclusive
       write-turn w own is others =
           writes n s x w (U .caller .name) (U .known)
           (record {
             update = (inside, U .update);
-            others = λ r d. awaited-kept s 0 0 inside l′ r (relocked r (others r d));
+            others = λ r d. awaited-kept (cleared S t s) cleared-is l′ r (relocked r (others r d));
             current = λ y b. refl;
-            last = awaited-last t s 0 0;
-            clock = awaited-clock t s 0 0;
+            last = cleared-is .last;
+            clock = cleared-is .clock-is;
             no-query = not-query;
-            number = awaited-row S t (g .txnsExact) s 0 0 inside s .number-is;
+            number = cleared-is .rows s .number-is;
             held = λ y b a. mine y (same? y x) a;
             holds-it = rw here held;
             writes-it = rw here mine-here;
@@ -158,27 +160,27 @@ module _ (S : Sizes) (G : Tables) (g : Good S G) where
           mine y (inl e) a = rw (e, here) held
           mine y (inr d) a = subst (λ (o : Lock). T (holds o s)) (sym (there y d)) a
 
-          not-query : (s < S .slots) × T (liveQuery (txn (setAwaited t s 0 0) s)) → ⊥
+          not-query : (s < S .slots) × T (liveQuery (txn (cleared S t s) s)) → ⊥
           not-query q =
-              let a = query-kind (setAwaited t s 0 0) s (q .1) in
+              let a = query-kind (cleared S t s) s (q .1) in
               let b = update-kind t s (U .update) in
-              let c = awaited-row S t (g .txnsExact) s 0 0 inside s .kind-is in
+              let c = cleared-is .rows s .kind-is in
               omega arith
 
-    pub shared-turn : {c : Call} → h .exclusive ≡ 0 → Gives (newest S v x) (locked s x (sharedToo h s) G) c
-    unfolding locked cleared holds holdsShared holdsExclusive
+    pub shared-turn : {c : Call} → h .exclusive ≡ 0 → Gives (newest S v x) (locked S s x (sharedToo h s) G) c
+    unfolding locked holds holdsShared holdsExclusive
     shared-turn none =
         reads n s x (newest S v x) (U .caller .name) (U .known)
-        (awaited-same s 0 0 inside (setLock l x (sharedToo h s)) (λ r. relocked (sharedToo h s) r (shared-hold h s r)))
+        (awaited-same (cleared S t s) cleared-is (setLock l x (sharedToo h s)) (λ r. relocked (sharedToo h s) r (shared-hold h s r)))
         (byLock (inside, U .update)
         (rw (here (sharedToo h s)) (or-left (bit (withBit (h .shared) s) s) _ (true-is (withBit-here (h .shared) s))))
         (rw (here (sharedToo h s), none, eqb·zero-suc s)))
 
-    pub own-write-turn : {c : Call} (w : ℕ) → T (holdsExclusive h s) → Takes w (locked s x (replaced h w) G) c
+    pub own-write-turn : {c : Call} (w : ℕ) → T (holdsExclusive h s) → Takes w (locked S s x (replaced h w) G) c
     unfolding holdsExclusive
     own-write-turn w a = write-turn (replaced h w) w (eqb→eq (h .exclusive) (suc s) a) refl (λ r d. replaced-hold h s w r a d)
 
-    pub taken-turn : {c : Call} (w : ℕ) → ((r : ℕ) → r ≢ s → T (holds h r) → ⊥) → Takes w (locked s x (taken h s w) G) c
+    pub taken-turn : {c : Call} (w : ℕ) → ((r : ℕ) → r ≢ s → T (holds h r) → ⊥) → Takes w (locked S s x (taken h s w) G) c
     taken-turn w alone = write-turn (taken h s w) w refl refl (λ r d. taken-hold h s w r alone d)
 
   -- ---- begin
@@ -244,7 +246,7 @@ module _ (S : Sizes) (G : Tables) (g : Good S G) where
     abort-turn a u =
         ends n s (C .name) a (inl (i, u))
         (left-by (aborted S s G) (aborted-here S G g s i)
-        (λ r d. kept-by S G (aborted S s G) r (same-row (aborted-there S G g s i r d)) (λ x b. unfold aborted in release-hold S G g s r x b d) (λ x b q. unfold aborted in refl))
+        (λ r d. kept-by S G (aborted S s G) r (aborted-there S G g s i r d) (λ x b. unfold aborted in release-hold S G g s r x b d) (λ x b q. unfold aborted in refl))
         (aborted-last S G g s i))
         (λ x b. unfold aborted in refl) (aborted-clock S G g s i)
 

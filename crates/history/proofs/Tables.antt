@@ -7,24 +7,27 @@ use mathlib.Core.List.{List, [], _∷_, List·Memᴰ}
 use native.Mathlib.Omega.{arith}
 use lib.ListN.{length, getD, set, length-set}
 use lib.Seq.{getD-set-same, getD-set-other}
-use lib.Dec.{T, eqb, eqb→eq, eqb·zero-suc}
-use borrow.Author.Tests.{ne-eqb, lt-leb, eqb-true}
+use lib.Dec.{T, eqb, ltb, eqb→eq, eqb·zero-suc}
+use borrow.Author.Tests.{ne-eqb, lt-leb, eqb-true, ltb-true, ltb-false}
 use Rattle.names.specs.declared.Sizes.{Sizes}
 use Rattle.rules.specs.Words.{row, bit, withBit, withoutBit}
-use Rattle.rules.specs.Tables.{Tables, txnWords, versionRow, lastNumber, clock, Txn, txn, setTxn, setAwaited, noTxn, liveQuery, starts}
+use Rattle.rules.specs.Tables.{Tables, txnWords, versionRow, lastNumber, clock, Txn, txn, setTxn, noTxn, newTxn, withRank, liveQuery, starts}
 use Rattle.rules.specs.Tables.{Lock, lock, holds, holdsShared, holdsExclusive, released, release, fresh}
 use Rattle.rules.specs.Versions.{Version, noVersion, pairs, versionsIn, versionsOf, newest, choice, kept, keptFrom, rewritten}
+use Rattle.rules.specs.Waits.{awaitsOn, rankFor, raised, noted, closedUp}
 use Rattle.rules.specs.Good.{Good}
-use Rattle.rules.specs.Step.{sharedToo, replaced, taken, begun, withNew, committed, ended, aborted}
-use Rattle.rules.proofs.Tests.{or-cases, or-left, or-right, is-false, true-is, same?}
+use Rattle.rules.specs.Changed.{leaving}
+use Rattle.rules.specs.Step.{sharedToo, replaced, taken, begun, cleared, withNew, committed, ended, aborted}
+use Rattle.rules.proofs.Tests.{or-cases, or-left, or-right, is-false, true-is, false-is, same?}
 use Rattle.rules.proofs.Bits.{withBit-here, withBit-there, withoutBit-there}
-use Rattle.rules.proofs.Views.{awaiting, setAwaited-row, lastNumber-setTxn, clock-setTxn, txn-setTxn, txn-setTxn-other, txn-top, lock-release}
+use Rattle.rules.proofs.Views.{awaiting, lastNumber-setTxn, clock-setTxn, txn-setTxn, txn-setTxn-other, txn-top, lock-release}
 use Rattle.rules.proofs.Choice.{choice-miss}
 use Rattle.rules.proofs.Trim.{kept-choice}
 use Rattle.rules.proofs.Starts.{start-in}
 use Rattle.rules.proofs.Rewrites.{versions-rewritten}
 use Rattle.rules.proofs.Carried.{reads-first}
-use Rattle.rules.proofs.Awaits.{awaiting-same}
+use Rattle.rules.proofs.Noting.{noted-known, noted-last, noted-clock, noted-there, noted-out, noted-here, closed-length, closed-last, closed-clock, closed-row, closed-out}
+use Rattle.rules.proofs.Waited.{cleared-last, cleared-clock, cleared-here, cleared-as-closed}
 use Rattle.rules.proofs.Ends.{gone-here, gone-there, gone-lives, gone-room}
 use Rattle.rules.proofs.Decisions.{exclusive-one}
 use Rattle.rules.proofs.Fresh.{zeros, fresh-row, fresh-row-zero}
@@ -38,21 +41,68 @@ pub record SameRow (t t′ : List ℕ) (r : ℕ) : Type 0 where
 pub same-row : {t t′ : List ℕ} {r : ℕ} → txn t′ r ≡ txn t r → SameRow t t′ r
 same-row e = record { number-is = ap (λ (o : Txn). o .number) e; kind-is = ap (λ (o : Txn). o .kind) e; start-is = ap (λ (o : Txn). o .start) e }
 
--- the awaited fields are none of these
-pub awaited-row : (S : Sizes) (t : List ℕ) → length t ≡ txnWords S → (s k x : ℕ) → s < S .slots → (r : ℕ) → SameRow t (setAwaited t s k x) r
-awaited-row S t size s k x inside r =
-    record {
-      number-is = awaiting-same S t size s k x inside (λ r. r .number) (λ w k x. refl) r;
-      kind-is = awaiting-same S t size s k x inside (λ r. r .kind) (λ w k x. refl) r;
-      start-is = awaiting-same S t size s k x inside (λ r. r .start) (λ w k x. refl) r;
-    }
+pub same-but-rank : {t t′ : List ℕ} {r : ℕ} (p : ℕ) → txn t′ r ≡ withRank (txn t r) p → SameRow t t′ r
+same-but-rank p e = record { number-is = ap (λ (o : Txn). o .number) e; kind-is = ap (λ (o : Txn). o .kind) e; start-is = ap (λ (o : Txn). o .start) e }
 
-pub awaited-last : (t : List ℕ) (s k x : ℕ) → lastNumber (setAwaited t s k x) ≡ lastNumber t
-awaited-last t s k x =
-    ap (λ (u : List ℕ). lastNumber u) (setAwaited-row t s k x) ∙ lastNumber-setTxn t s (awaiting (txn t s) k x)
+same-but-wait : {t t′ : List ℕ} {r : ℕ} (k x p : ℕ) → txn t′ r ≡ awaiting (txn t r) k x p → SameRow t t′ r
+same-but-wait k x p e = record { number-is = ap (λ (o : Txn). o .number) e; kind-is = ap (λ (o : Txn). o .kind) e; start-is = ap (λ (o : Txn). o .start) e }
 
-pub awaited-clock : (t : List ℕ) (s k x : ℕ) → clock (setAwaited t s k x) ≡ clock t
-awaited-clock t s k x = ap (λ (u : List ℕ). clock u) (setAwaited-row t s k x) ∙ clock-setTxn t s (awaiting (txn t s) k x)
+-- ---- a wait is noted or cleared: nothing of this is seen
+pub record Quiet (t t′ : List ℕ) : Type 0 where
+  pub rows : (r : ℕ) → SameRow t t′ r
+  pub last : lastNumber t′ ≡ lastNumber t
+  pub clock-is : clock t′ ≡ clock t
+
+inside? : (r n : ℕ) → (r < n) ⊎ (n ≤ r)
+inside? r n = go (ltb r n) refl
+  where
+    go : (b : Bool) → ltb r n ≡ b → (r < n) ⊎ (n ≤ r)
+    go true e = inl (ltb-true r n e)
+    go false e = inr (ltb-false r n e)
+
+module _ (S : Sizes) (t : List ℕ) (size : length t ≡ txnWords S) (s : ℕ) (inside : s < S .slots) where
+  pub noted-quiet : (l : List ℕ) (k x : ℕ) → Quiet t (noted S t l s k x)
+  noted-quiet l k x = go (awaitsOn x (txn t s)) refl
+    where
+      new : (T (awaitsOn x (txn t s)) → ⊥) → (r : ℕ) → (r ≡ s) ⊎ (r ≢ s) → (r < S .slots) ⊎ (S .slots ≤ r) → SameRow t (noted S t l s k x) r
+      new n r (inl e) o = subst (λ (m : ℕ). SameRow t (noted S t l s k x) m) (sym e) (same-but-wait k x (rankFor S t l s x) (noted-here S t l s k x n size inside))
+      new n r (inr d) (inl i) = same-but-rank (raised x (rankFor S t l s x) (txn t r)) (noted-there S t l s k x n size r i d)
+      new n r (inr d) (inr h) = same-row (noted-out S t l s k x n size r h d)
+
+      go : (b : Bool) → awaitsOn x (txn t s) ≡ b → Quiet t (noted S t l s k x)
+      go true e = subst (Quiet t) (sym (noted-known S t l s k x (true-is e))) (record { rows = λ r. same-row refl; last = refl; clock-is = refl })
+      go false e =
+          record {
+            rows = λ r. new (false-is e) r (same? r s) (inside? r (S .slots));
+            last = noted-last S t l s k x (false-is e);
+            clock-is = noted-clock S t l s k x (false-is e);
+          }
+
+  closed-same : (r : ℕ) → (r < S .slots) ⊎ (S .slots ≤ r) → SameRow t (closedUp S t s) r
+  closed-same r (inl i) = same-but-rank (leaving t s (txn t r)) (closed-row S t s size r i)
+  closed-same r (inr h) = same-row (closed-out S t s r h)
+
+  pub closed-there : (r : ℕ) → SameRow t (closedUp S t s) r
+  closed-there r = closed-same r (inside? r (S .slots))
+
+  pub cleared-quiet : Quiet t (cleared S t s)
+  cleared-quiet =
+      record {
+        rows = λ r. go r (same? r s);
+        last = cleared-last S t size s inside;
+        clock-is = cleared-clock S t size s inside;
+      }
+    where
+      go : (r : ℕ) → (r ≡ s) ⊎ (r ≢ s) → SameRow t (cleared S t s) r
+      go r (inl e) = subst (λ (m : ℕ). SameRow t (cleared S t s) m) (sym e) (same-but-wait 0 0 0 (cleared-here S t size s inside))
+      go r (inr d) =
+          let c = closed-there r in
+          let e = cleared-as-closed S t size s inside r d in
+          record {
+            number-is = ap (λ (o : Txn). o .number) e ∙ c .number-is;
+            kind-is = ap (λ (o : Txn). o .kind) e ∙ c .kind-is;
+            start-is = ap (λ (o : Txn). o .start) e ∙ c .start-is;
+          }
 
 -- a row begun in slot s
 module _ (S : Sizes) (G : Tables) (g : Good S G) (k q s : ℕ) (inside : s < S .slots) where
@@ -60,7 +110,7 @@ module _ (S : Sizes) (G : Tables) (g : Good S G) (k q s : ℕ) (inside : s < S .
   n = lastNumber (G .txns) + 1
 
   abbrev R : Txn
-  R = record { number = n; kind = k; start = q; awaitedLock = 0; awaitedItem = 0 }
+  R = newTxn n k q
 
   pub begun-here : txn ((begun k q s G) .txns) s ≡ R
   unfolding begun
@@ -177,7 +227,7 @@ kept-newest qs (v ∷ vs) = refl
 -- ---- the row of slot s goes, and the versions are rewritten for the queries that are left. u has the rows of before
 module _
     (S : Sizes) (enough : S .slots ≤ S .places) (G : Tables) (g : Good S G) (s : ℕ) (inside : s < S .slots)
-    (u : List ℕ) (size : length u ≡ txnWords S) (same : (r : ℕ) → txn u r ≡ txn (G .txns) r) (f : ℕ → List Version → List Version)
+    (u : List ℕ) (size : length u ≡ txnWords S) (same : (r : ℕ) → r ≢ s → txn u r ≡ txn (G .txns) r) (f : ℕ → List Version → List Version)
   where
     abbrev t′ : List ℕ
     t′ = setTxn u s noTxn
@@ -212,29 +262,36 @@ module _
 module _ (S : Sizes) (G : Tables) (g : Good S G) (s : ℕ) (inside : s < S .slots) where
   pub aborted-here : txn ((aborted S s G) .txns) s ≡ noTxn
   unfolding aborted
-  aborted-here = gone-here S (G .txns) (G .txns) s inside (g .txnsExact) (λ r. refl)
+  aborted-here = txn-setTxn (closedUp S (G .txns) s) s noTxn S (closed-length S (G .txns) s ∙ g .txnsExact) inside
 
-  pub aborted-there : (r : ℕ) → r ≢ s → txn ((aborted S s G) .txns) r ≡ txn (G .txns) r
+  pub aborted-there : (r : ℕ) → r ≢ s → SameRow (G .txns) ((aborted S s G) .txns) r
   unfolding aborted
-  aborted-there = gone-there S (G .txns) (G .txns) s inside (g .txnsExact) (λ r. refl)
+  aborted-there r d =
+      let c = closed-there S (G .txns) (g .txnsExact) s inside r in
+      let e = txn-setTxn-other (closedUp S (G .txns) s) s noTxn r d in
+      record {
+        number-is = ap (λ (o : Txn). o .number) e ∙ c .number-is;
+        kind-is = ap (λ (o : Txn). o .kind) e ∙ c .kind-is;
+        start-is = ap (λ (o : Txn). o .start) e ∙ c .start-is;
+      }
 
   pub aborted-last : lastNumber ((aborted S s G) .txns) ≡ lastNumber (G .txns)
   unfolding aborted
-  aborted-last = lastNumber-setTxn (G .txns) s noTxn
+  aborted-last = lastNumber-setTxn (closedUp S (G .txns) s) s noTxn ∙ closed-last S (G .txns) s
 
   pub aborted-clock : clock ((aborted S s G) .txns) ≡ clock (G .txns)
   unfolding aborted
-  aborted-clock = clock-setTxn (G .txns) s noTxn
+  aborted-clock = clock-setTxn (closedUp S (G .txns) s) s noTxn ∙ closed-clock S (G .txns) s
 
 -- ---- a query's end and an update's commit
 module _ (S : Sizes) (enough : S .slots ≤ S .places) (G : Tables) (g : Good S G) (s : ℕ) (inside : s < S .slots) where
   pub ended-here : txn ((ended S s G) .txns) s ≡ noTxn
   unfolding ended
-  ended-here = gone-here S (G .txns) (G .txns) s inside (g .txnsExact) (λ r. refl)
+  ended-here = gone-here S (G .txns) (G .txns) s inside (g .txnsExact) (λ r d. refl)
 
   pub ended-there : (r : ℕ) → r ≢ s → txn ((ended S s G) .txns) r ≡ txn (G .txns) r
   unfolding ended
-  ended-there = gone-there S (G .txns) (G .txns) s inside (g .txnsExact) (λ r. refl)
+  ended-there = gone-there S (G .txns) (G .txns) s inside (g .txnsExact) (λ r d. refl)
 
   pub ended-last : lastNumber ((ended S s G) .txns) ≡ lastNumber (G .txns)
   unfolding ended
@@ -246,13 +303,13 @@ module _ (S : Sizes) (enough : S .slots ≤ S .places) (G : Tables) (g : Good S 
 
   pub ended-newest : (x : ℕ) → x < S .items → newest S ((ended S s G) .versions) x ≡ newest S (G .versions) x
   unfolding ended newest
-  ended-newest x i = left-newest S enough G g s inside (G .txns) (g .txnsExact) (λ r. refl) (λ x vs. vs) x i
+  ended-newest x i = left-newest S enough G g s inside (G .txns) (g .txnsExact) (λ r d. refl) (λ x vs. vs) x i
 
   pub ended-reads :
       (r : ℕ) → r < S .slots → T (liveQuery (txn ((ended S s G) .txns) r)) → (x : ℕ) → x < S .items
       → readAt S ((ended S s G) .versions) ((txn (G .txns) r) .start) x ≡ readAt S (G .versions) ((txn (G .txns) r) .start) x
   unfolding ended
-  ended-reads = left-reads S enough G g s inside (G .txns) (g .txnsExact) (λ r. refl) (λ x vs. vs) (λ q x b. refl)
+  ended-reads = left-reads S enough G g s inside (G .txns) (g .txnsExact) (λ r d. refl) (λ x vs. vs) (λ q x b. refl)
 
   abbrev c : ℕ
   c = clock (G .txns) + 1
@@ -263,8 +320,8 @@ module _ (S : Sizes) (enough : S .slots ≤ S .places) (G : Tables) (g : Good S 
   u-size : length u ≡ txnWords S
   u-size = length-set (G .txns) 1 c ∙ g .txnsExact
 
-  u-rows : (r : ℕ) → txn u r ≡ txn (G .txns) r
-  u-rows r = txn-top (G .txns) 1 c r (omega arith)
+  u-rows : (r : ℕ) → r ≢ s → txn u r ≡ txn (G .txns) r
+  u-rows r d = txn-top (G .txns) 1 c r (omega arith)
 
   pub committed-here : txn ((committed S s G) .txns) s ≡ noTxn
   unfolding committed

@@ -5,11 +5,11 @@ use mathlib.Core.Path.{_≡_, refl}
 use lib.Dec.{T}
 use Rattle.names.specs.Sizes.{base}
 use Rattle.rules.specs.Words.{implies, everyBelow, someBelow, countBelow, firstFrom, every, some, tabulateFrom, row, everyRow, mapRows, bit, withBit, withoutBit}
-use Rattle.rules.specs.Tables.{txn, setTxn, setAwaited, live, liveUpdate, liveQuery, slotOf, freeSlot, startsFrom, starts, lock, setLock, holdsShared, holdsExclusive, holds, exclusivesOf, released, release, fresh}
+use Rattle.rules.specs.Tables.{txn, setTxn, setAwaited, reranked, live, liveUpdate, liveQuery, slotOf, freeSlot, startsFrom, starts, lock, setLock, holdsShared, holdsExclusive, holds, exclusivesOf, released, release, fresh}
 use Rattle.rules.specs.Versions.{pairs, versionsIn, versionsOf, pairWords, rowOf, stampAt, newest, place, choice, readBySome, keptFrom, kept, rewritten}
-use Rattle.rules.specs.Waits.{conflicts, blocks, blocked, waitsFor, marked, spread, rounds, reached, circleAt, noCircle}
-use Rattle.rules.specs.Tested.{sizesExact, topsMost, freeZero, listed, startGood, awaitedGood, awaiterGood, txnGood, distinct, holdersLive, lockGood, quotaMost, fullIdle, quotaGood, falls, lastOld, allRead, versionsGood, good}
-use Rattle.rules.specs.Locks.{heldBy, decide, anotherShares, anotherExcludes, decision}
+use Rattle.rules.specs.Waits.{awaits, awaitsOn, waitersOn, exchangersOn, rankFor, raised, lowered, noted, closedUp, conflicts, ahead, blocks, blocked, waitsFor, marked, spread, rounds, reached, circleAt, noCircle}
+use Rattle.rules.specs.Tested.{sizesExact, topsMost, freeZero, listed, startGood, awaitedGood, awaiterGood, txnGood, distinct, holdersLive, lockGood, quotaMost, fullIdle, quotaGood, rankWithin, ranksApart, ranksGood, falls, lastOld, allRead, versionsGood, good}
+use Rattle.rules.specs.Locks.{heldBy, decide, anotherShares, anotherExcludes, anotherAhead, decision}
 use Rattle.rules.specs.Step.{begun, beginBy, conflicted, cleared, locked, cellDeed, access, awaitsOther, writesFurther, queryRead, readBy, writeBy, withNew, committed, ended, commitBy, aborted, abortBy, judged, done, act, step}
 use Rattle.rules.specs.Answers.{Call, BeginQuery}
 use Rattle.history.specs.Runs.{run, endOf}
@@ -21,7 +21,7 @@ use Rattle.history_samples.specs.Samples.{quietly, among, undisturbed, u
 
 -- the happenings of a run from fresh tables, as they are computed: whoever unfolds this computes with all the rules and with the definitions of demand 3
 unfoldable computed : List Call → List Happening
-unfolding run endOf names did told happened begunWith happeningsAfter happenings allOf agrees final accessOf grantedTo placeOf order oneByOne serial callsOf heard serializes runPasses implies everyBelow someBelow countBelow firstFrom every some tabulateFrom row everyRow mapRows bit withBit withoutBit txn setTxn setAwaited live liveUpdate liveQuery slotOf freeSlot startsFrom starts lock setLock holdsShared holdsExclusive holds exclusivesOf released release fresh pairs versionsIn versionsOf pairWords rowOf stampAt newest place choice readBySome keptFrom kept rewritten conflicts blocks blocked waitsFor marked spread rounds reached circleAt noCircle sizesExact topsMost freeZero listed startGood awaitedGood awaiterGood txnGood distinct holdersLive lockGood quotaMost fullIdle quotaGood falls lastOld allRead versionsGood good heldBy decide anotherShares anotherExcludes decision begun beginBy conflicted cleared locked cellDeed access awaitsOther writesFurther queryRead readBy writeBy withNew committed ended commitBy aborted abortBy judged done act step
+unfolding run endOf names did told happened begunWith happeningsAfter happenings allOf agrees final accessOf grantedTo placeOf order oneByOne serial callsOf heard serializes runPasses implies everyBelow someBelow countBelow firstFrom every some tabulateFrom row everyRow mapRows bit withBit withoutBit txn setTxn setAwaited reranked live liveUpdate liveQuery slotOf freeSlot startsFrom starts lock setLock holdsShared holdsExclusive holds exclusivesOf released release fresh pairs versionsIn versionsOf pairWords rowOf stampAt newest place choice readBySome keptFrom kept rewritten awaits awaitsOn waitersOn exchangersOn rankFor raised lowered noted closedUp conflicts ahead blocks blocked waitsFor marked spread rounds reached circleAt noCircle sizesExact topsMost freeZero listed startGood awaitedGood awaiterGood txnGood distinct holdersLive lockGood quotaMost fullIdle quotaGood rankWithin ranksApart ranksGood falls lastOld allRead versionsGood good heldBy decide anotherShares anotherExcludes anotherAhead decision begun beginBy conflicted cleared locked cellDeed access awaitsOther writesFurther queryRead readBy writeBy withNew committed ended commitBy aborted abortBy judged done act step
 computed cs = happenings base cs
 
 -- ---- right runs

@@ -13,8 +13,9 @@ use names::Slot;
 use rows::Found;
 ghost use mathlib.Core.Path.{_≡_};
 ghost use Prim.Native.Nat.{_<_};
+ghost use lib.ListN.{length};
 ghost use Rattle.names.specs.Sizes.{base};
-ghost use Rattle.rules.specs.Tables.{tables};
+ghost use Rattle.rules.specs.Tables.{tables, txnWords};
 ghost use Rattle.rules.specs.Good.{Good};
 ghost use Rattle.rules.specs.Step.{access, conflicted, readBy, writeBy};
 ghost use Rattle.cells.specs.Cells.{askedOf};
@@ -23,15 +24,37 @@ use callers::awaits_other;
 use callers::find;
 use callers::writes_further;
 
-// A wait, or a deadlock where the wait would close a circle.
+const WORDS: usize = names::TXN_WORDS;
+
+// The transactions, copied.
+fn copied(txns: &[u64]) -> [u64; WORDS]
+    requires { ⌜ length (now txns) ≡ txnWords base ⌝ }
+    ensures { λ r. ⌜ r ≡ now (txns .entry) ⌝ }
+{
+    let mut words = [0u64; WORDS];
+    let mut k: usize = 0;
+    while k < WORDS {
+        words[k] = txns[k];
+        k += 1;
+    }
+    words
+}
+
+// A wait, or a deadlock where the wait would close a circle: it is noted in a copy, and the slot is
+// searched for from those whom it waits for there. A wait that is noted already closes none.
 fn conflict(txns: &[u64], locks: &[u64], slot: Slot, lock: u64, item: Item) -> Deed
     requires { ⌜ Asks (now txns) (now locks) (slot .0) lock (item .0) ⌝ }
     ensures { λ r. ⌜ r ≡ conflicted base (slot .0) lock (item .0) (ofLocks (now (txns .entry)) (now (locks .entry))) ⌝ }
 {
-    let row = rows::lock_at(locks, item);
-    let from = waiting::blockers(row.shared, row.exclusive, lock, slot);
-    let waiters = waiting::waits(txns, locks);
+    if ranks::awaits_on(txns, slot, item) {
+        return Deed::Waits(slot, lock, item);
+    }
+    let mut after = copied(txns);
+    ranks::note(&mut after, locks, slot, lock, item);
+    let waiters = waiting::waits(&after, locks);
     let links = waiters.links;
+    let at = slot.0 as usize;
+    let from = links[at];
     if circles::reaches(&links, from, slot) {
         return Deed::Refused(Refusal::Deadlock);
     }
@@ -51,8 +74,7 @@ fn access(
     requires { ⌜ Good base (tables (now txns) (now locks) (now versions)) × (slot .0 < base .slots) × (item .0 < base .items) × (asked < 2) ⌝ }
     ensures { λ r. ⌜ r ≡ access base (askedOf asked) (slot .0) (item .0) value (tables (now (txns .entry)) (now (locks .entry)) (now (versions .entry))) ⌝ }
 {
-    let row = rows::lock_at(locks, item);
-    let cell = cells::decision(asked, row, slot);
+    let cell = cells::decision(asked, txns, locks, item, slot);
     match cell {
         Cell::OwnValue => Deed::ReadsOwn(slot, item),
         Cell::NewestValue => Deed::ReadsNewest(slot, item),

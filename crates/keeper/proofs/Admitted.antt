@@ -26,7 +26,7 @@ turned-away G r e h = sym e ∙ not-true r h
 -- every way leads to a deed that can be done
 way-able : (G : Tables) (c : Call) (d : Deed) → Way base G c d → Able G d
 way-able G c d (refused r m) = tt
-way-able G c d (waited s k x w) = w .caller .inside
+way-able G c d (waited s k x w) = (w .caller .inside, w .may .known (w .some))
 way-able G c d (beganUpdate s f l) = f .inside
 way-able G c d (beganQuery s f l) = f .inside
 way-able G c d (readOwn n s x U h) = (U .caller .inside, U .known)

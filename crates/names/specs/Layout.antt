@@ -2,7 +2,7 @@
 -- words of a kind and of an awaited lock mean. names/src/layout.rt has the same for the code.
 use Prim.Native.Nat.{ℕ}
 
--- ---- "Transactions, 82 words: last number given; clock (stamp of the latest update commit); then 16 rows of 5"
+-- ---- "Transactions ..: last number given; clock (stamp of the latest update commit); then 16 rows", of six words since request E4
 abbrev pub lastNumberAt : ℕ
 lastNumberAt = 0
 
@@ -29,8 +29,12 @@ txnLockAt = 3
 abbrev pub txnItemAt : ℕ
 txnItemAt = 4
 
+-- request E4: "its rank on the awaited item, from 1 without gaps, 0 if it awaits nothing"
+abbrev pub txnRankAt : ℕ
+txnRankAt = 5
+
 abbrev pub txnRow : ℕ
-txnRow = 5
+txnRow = 6
 
 -- the kinds
 abbrev pub anUpdate : ℕ

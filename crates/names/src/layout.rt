@@ -21,7 +21,9 @@ pub const TXN_LOCK_AT: usize = 3;
 
 pub const TXN_ITEM_AT: usize = 4;
 
-pub const TXN_ROW: usize = 5;
+pub const TXN_RANK_AT: usize = 5;
+
+pub const TXN_ROW: usize = 6;
 
 pub const TXN_WORDS: usize = TXN_HEAD + TXN_ROW * (SLOTS as usize);
 

@@ -25,6 +25,7 @@ pub use layout::TXN_HEAD;
 pub use layout::TXN_ITEM_AT;
 pub use layout::TXN_KIND_AT;
 pub use layout::TXN_LOCK_AT;
+pub use layout::TXN_RANK_AT;
 pub use layout::TXN_ROW;
 pub use layout::TXN_START_AT;
 pub use layout::TXN_WORDS;

@@ -52,7 +52,7 @@ module _ (G : Tables) (g : Good base G) where
     good-staying b =
         record {
           beside = b;
-          few = gone-room base t t s inside (g .txnsExact) (λ r. refl);
+          few = gone-room base t t s inside (g .txnsExact) (λ r d. refl);
           read = λ x k h z l.
               let m = (g .versionsGood x h .reads k z) .0 l in
               who x k (m .0) (m .1) (m .2) (m .3) (same? (m .0) s);
@@ -63,7 +63,7 @@ module _ (G : Tables) (g : Good base G) where
             → (place q (versionsOf base v x) ≡ k) ⊎ T (readBySome (starts base left) (versionsOf base v x) k)
         who x k r i a e (inl d) = inl (ap (λ (n : ℕ). place ((txn t n) .start) (versionsOf base v x)) (sym d) ∙ e)
         who x k r i a e (inr d) =
-            let there : txn left r ≡ txn t r = gone-there base t t s inside (g .txnsExact) (λ r. refl) r d in
+            let there : txn left r ≡ txn t r = gone-there base t t s inside (g .txnsExact) (λ r d. refl) r d in
             let same : place ((txn left r) .start) (versionsOf base v x) ≡ k = ap (λ (u : Txn). place (u .start) (versionsOf base v x)) there ∙ e in
             inr
             (some-mem (λ q. eqb (place q (versionsOf base v x)) k) (start-in base left r i (subst (λ (u : Txn). T (liveQuery u)) (sym there) a))

@@ -10,13 +10,15 @@ use names::TXN_HEAD;
 use names::TXN_ITEM_AT;
 use names::TXN_KIND_AT;
 use names::TXN_LOCK_AT;
+use names::TXN_RANK_AT;
 use names::TXN_ROW;
 use names::TXN_START_AT;
 ghost use mathlib.Core.Path.{_≡_};
-ghost use Prim.Native.Nat.{_<_};
-ghost use lib.ListN.{length, set};
+ghost use Prim.Native.Nat.{_+_, _<_};
+ghost use lib.ListN.{length, getD, set};
 ghost use Rattle.names.specs.Sizes.{base};
-ghost use Rattle.rules.specs.Tables.{txnWords, lastNumber, clock, txn, setTxn, setAwaited, noTxn, slotOf, freeSlot, newTxn};
+ghost use Rattle.names.specs.Layout.{txnRow, txnRankAt};
+ghost use Rattle.rules.specs.Tables.{txnWords, lastNumber, clock, txnAt, txn, setTxn, setAwaited, noTxn, slotOf, freeSlot, newTxn};
 ghost use Rattle.rows.specs.Founds.{foundAt};
 
 // Where a search ended.
@@ -76,13 +78,21 @@ pub fn free_slot(txns: &[u64]) -> Found
     Found::Nobody
 }
 
+// One word of the row of a slot.
+fn row_word(txns: &[u64], slot: Slot, k: usize) -> u64
+    requires { ⌜ (length (now txns) ≡ txnWords base) × (slot .0 < base .slots) × (k < txnRow) ⌝ }
+    ensures { λ r. ⌜ r ≡ getD (now (txns .entry)) (txnAt (slot .0) + k) 0 ⌝ }
+{
+    let at = TXN_HEAD + TXN_ROW * (slot.0 as usize);
+    txns[at + k]
+}
+
 // Update or query.
 pub fn kind(txns: &[u64], slot: Slot) -> u64
     requires { ⌜ (length (now txns) ≡ txnWords base) × (slot .0 < base .slots) ⌝ }
     ensures { λ r. ⌜ r ≡ (txn (now (txns .entry)) (slot .0)) .kind ⌝ }
 {
-    let at = TXN_HEAD + TXN_ROW * (slot.0 as usize);
-    txns[at + TXN_KIND_AT]
+    row_word(txns, slot, TXN_KIND_AT)
 }
 
 // The start of a query.
@@ -90,8 +100,7 @@ pub fn start(txns: &[u64], slot: Slot) -> Stamp
     requires { ⌜ (length (now txns) ≡ txnWords base) × (slot .0 < base .slots) ⌝ }
     ensures { λ r. ⌜ r .0 ≡ (txn (now (txns .entry)) (slot .0)) .start ⌝ }
 {
-    let at = TXN_HEAD + TXN_ROW * (slot.0 as usize);
-    Stamp(txns[at + TXN_START_AT])
+    Stamp(row_word(txns, slot, TXN_START_AT))
 }
 
 // The lock that is awaited, or 0.
@@ -99,8 +108,7 @@ pub fn awaited_lock(txns: &[u64], slot: Slot) -> u64
     requires { ⌜ (length (now txns) ≡ txnWords base) × (slot .0 < base .slots) ⌝ }
     ensures { λ r. ⌜ r ≡ (txn (now (txns .entry)) (slot .0)) .awaitedLock ⌝ }
 {
-    let at = TXN_HEAD + TXN_ROW * (slot.0 as usize);
-    txns[at + TXN_LOCK_AT]
+    row_word(txns, slot, TXN_LOCK_AT)
 }
 
 // The word of the item that is awaited.
@@ -108,18 +116,36 @@ pub fn awaited_item(txns: &[u64], slot: Slot) -> u64
     requires { ⌜ (length (now txns) ≡ txnWords base) × (slot .0 < base .slots) ⌝ }
     ensures { λ r. ⌜ r ≡ (txn (now (txns .entry)) (slot .0)) .awaitedItem ⌝ }
 {
-    let at = TXN_HEAD + TXN_ROW * (slot.0 as usize);
-    txns[at + TXN_ITEM_AT]
+    row_word(txns, slot, TXN_ITEM_AT)
 }
 
-// The awaited lock and item of a slot; where nothing is awaited, the item 0.
-pub fn set_awaited(txns: &mut [u64], slot: Slot, lock: u64, item: Item)
+// The rank on the awaited item, or 0.
+pub fn rank(txns: &[u64], slot: Slot) -> u64
     requires { ⌜ (length (now txns) ≡ txnWords base) × (slot .0 < base .slots) ⌝ }
-    ensures { λ _. ⌜ now (txns .exit) ≡ setAwaited (now (txns .entry)) (slot .0) lock (item .0) ⌝ }
+    ensures { λ r. ⌜ r ≡ (txn (now (txns .entry)) (slot .0)) .rank ⌝ }
+{
+    row_word(txns, slot, TXN_RANK_AT)
+}
+
+// The rank, written.
+pub fn set_rank(txns: &mut [u64], slot: Slot, rank: u64)
+    requires { ⌜ (length (now txns) ≡ txnWords base) × (slot .0 < base .slots) ⌝ }
+    ensures { λ _. ⌜ now (txns .exit) ≡ set (now (txns .entry)) (txnAt (slot .0) + txnRankAt) rank ⌝ }
+{
+    let at = TXN_HEAD + TXN_ROW * (slot.0 as usize);
+    txns[at + TXN_RANK_AT] = rank;
+}
+
+// The awaited lock and item of a slot, and its rank there; where nothing is awaited, the item 0 and
+// the rank 0.
+pub fn set_awaited(txns: &mut [u64], slot: Slot, lock: u64, item: Item, rank: u64)
+    requires { ⌜ (length (now txns) ≡ txnWords base) × (slot .0 < base .slots) ⌝ }
+    ensures { λ _. ⌜ now (txns .exit) ≡ setAwaited (now (txns .entry)) (slot .0) lock (item .0) rank ⌝ }
 {
     let at = TXN_HEAD + TXN_ROW * (slot.0 as usize);
     txns[at + TXN_LOCK_AT] = lock;
     txns[at + TXN_ITEM_AT] = item.0;
+    txns[at + TXN_RANK_AT] = rank;
 }
 
 // The row of a slot goes: each of its words becomes 0.

@@ -9,17 +9,19 @@ use lib.Seq.{getD-set-same, getD-set-other}
 use lib.Dec.{T}
 use Rattle.names.specs.declared.Sizes.{Sizes}
 use Rattle.names.specs.Sizes.{lastWord}
-use Rattle.rules.specs.Tables.{newTxn, Tables, txnWords, lastNumber, clock, Txn, txn, setTxn, live, liveQuery}
+use Rattle.rules.specs.Tables.{newTxn, Tables, txnWords, lastNumber, clock, Txn, txn, setTxn, withRank, live, liveQuery}
 use Rattle.rules.specs.Tables.{anUpdate, aQuery, lock}
-use Rattle.rules.specs.Waits.{waitsFor}
+use Rattle.rules.specs.Waits.{awaits, waitsFor}
+use Rattle.rules.specs.Changed.{leaving}
 use Rattle.rules.specs.Good.{Good, GoodTxn, GoodQuota}
 use Rattle.rules.specs.Step.{begun}
 use Rattle.rules.proofs.Tests.{same?}
 use Rattle.rules.proofs.Views.{length-setTxn, lastNumber-setTxn, clock-setTxn, txn-setTxn, txn-setTxn-other, txn-top}
-use Rattle.rules.proofs.EqualRows.{update-live, query-live}
+use Rattle.rules.proofs.EqualRows.{update-live, query-live, free-number}
 use Rattle.rules.proofs.Quotas.{exclusives-none, quotas-but}
 use Rattle.rules.proofs.Carried.{no-more-same, txn-carried, lock-carried, versions-carried}
-use Rattle.rules.proofs.Walks.{waits-for→}
+use Rattle.rules.proofs.EqualRanks.{awaits→}
+use Rattle.rules.proofs.Lines.{same-leaving, left-ranks, left-links}
 use Rattle.rules.proofs.Deadlock.{fewer-no-circle}
 
 -- a row of the kind k with the start q in the free slot s: an update, or a query that starts at the clock
@@ -76,6 +78,7 @@ module _ (S : Sizes) (G : Tables) (g : Good S G) (k q s : ℕ) (inside : s < S .
         queryIdle = λ h. refl;
         itemKnown = λ d. absurd (d refl);
         itemUnused = λ e. refl;
+        rankUnused = λ e. refl;
         awaitsShared = λ e. absurd (omega arith);
         awaitsExclusive = λ e. absurd (omega arith);
       }
@@ -134,13 +137,18 @@ module _ (S : Sizes) (G : Tables) (g : Good S G) (k q s : ℕ) (inside : s < S .
       go (inr d) = inl (there r d)
 
   -- the newcomer waits for nobody, and nobody waits for it
+  no-wait : T (awaits (txn t s)) → ⊥
+  no-wait h = awaits→ (txn t s) h (ap (λ (w : Txn). w .awaitedLock) (g .txnGood s inside .free (free-number (txn t s) unused)))
+
+  rows′ : (r : ℕ) → r < S .slots → r ≢ s → txn t′ r ≡ withRank (txn t r) (leaving t s (txn t r))
+  rows′ r i d = same-leaving t t′ s r no-wait (there r d)
+
+  idle : T (awaits (txn t′ s)) → ⊥
+  idle h = awaits→ (txn t′ s) h (ap (λ (w : Txn). w .awaitedLock) here)
+
   links : (a b : ℕ) → T (waitsFor t′ (G .locks) a b) → T (waitsFor t (G .locks) a b)
-  unfolding waitsFor
-  links a b h = go (same? a s)
-    where
-      go : (a ≡ s) ⊎ (a ≢ s) → T (waitsFor t (G .locks) a b)
-      go (inl e) = absurd (waits-for→ t′ (G .locks) a b h .0 (ap (λ (m : ℕ). (txn t′ m) .awaitedLock) e ∙ ap (λ (w : Txn). w .awaitedLock) here))
-      go (inr d) = rw (there a d) at h
+  links a b h =
+      left-links S t t′ (G .locks) s inside rows′ idle (g .ranksGood) (G .locks) (length-setTxn (set t 0 n) s R ∙ size) a b (λ w k c. c) h
 
   pub begun-good : Good S (begun k q s G)
   unfolding begun
@@ -156,5 +164,6 @@ module _ (S : Sizes) (G : Tables) (g : Good S G) (k q s : ℕ) (inside : s < S .
         lockGood = λ x i. lock-carried S t t′ (lock (G .locks) x) (λ r h u. rw (alive r (update-live (txn t r) u .0)) u) (g .lockGood x i);
         quotaGood = quotas;
         versionsGood = λ x i. versions-carried S t t′ _ (let a = clock′ in omega arith) (λ r j h. alive r (query-live (txn t r) h .0)) (λ r j h. fresh-start r h) (g .versionsGood x i);
+        ranksGood = left-ranks S t t′ (G .locks) s inside rows′ idle (g .ranksGood) (G .locks) (λ x r d. refl);
         noCircle = fewer-no-circle S G g t′ (G .locks) links;
       }

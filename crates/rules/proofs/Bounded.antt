@@ -18,7 +18,7 @@ use Rattle.rules.specs.Good.{Good}
 use Rattle.rules.specs.Tested.{good}
 use Rattle.rules.specs.Answers.{Call, BeginUpdate, BeginQuery, Read, Write, Commit, Abort, Outcome, Refusal, code, Deed}
 use Rattle.rules.specs.Answers.{Wait}
-use Rattle.rules.specs.Step.{locked, replaced, sharedToo, taken, withNew, committed, ended, aborted, begun, queryRead, judged, done, act, step}
+use Rattle.rules.specs.Step.{locked, replaced, taken, withNew, committed, ended, aborted, begun, queryRead, judged, done, act, step}
 use Rattle.rules.proofs.Tests.{is-true, same?}
 use Rattle.rules.proofs.Choice.{length-versionsIn, place-le}
 use Rattle.rules.proofs.Views.{lock-setLock, lock-setLock-other, lock-release}
@@ -82,7 +82,7 @@ module _ (B : ℕ) where
   released-working s h b = cond-case (λ (k : Lock). k .working ≤ B) (holdsExclusive h s) _ _ (λ e. omega arith) (λ e. b)
 
   module _ (S : Sizes) (G : Tables) (g : Good S G) (b : Bounded B S G) where
-    locked-bounded : (s x : ℕ) → x < S .items → (h : Lock) → h .working ≤ B → Bounded B S (locked s x h G)
+    locked-bounded : (s x : ℕ) → x < S .items → (h : Lock) → h .working ≤ B → Bounded B S (locked S s x h G)
     unfolding locked
     locked-bounded s x i h w =
         record {
@@ -155,7 +155,7 @@ module _ (B : ℕ) where
         way-bounded c d a (readOwn n s x u h) = (found _ 0 (b .working x (u .known)) (omega arith), record { working = b .working; values = b .values })
         way-bounded c d a (readNewest n s x u h) = (found _ 1 (newest-bound x (u .known)) (omega arith), record { working = b .working; values = b .values })
         way-bounded c d a (readShared n s x u h f) =
-            (found _ 1 (newest-bound x (u .known)) (omega arith), locked-bounded s x (u .known) (sharedToo (lock (G .locks) x) s) (b .working x (u .known)))
+            (found _ 1 (newest-bound x (u .known)) (omega arith), locked-bounded s x (u .known) _ (b .working x (u .known)))
         way-bounded c d a (readQuery n s x C q i) =
             let start = (txn (G .txns) s) .start in
             let vs = versionsOf S (G .versions) x in

@@ -1,6 +1,6 @@
 -- What a clause of good tables needs of other tables, to hold there too.
 use Prim.Native.Nat.{ℕ, zero, suc, _-_, _≤_, _<_}
-use mathlib.Core.Path.{_≡_, refl, subst}
+use mathlib.Core.Path.{_≡_, refl, ap, subst}
 use mathlib.Core.Logic.{_≢_, _⊎_, inl, inr}
 use mathlib.Core.List.{List, [], _∷_}
 use native.Mathlib.Omega.{arith}
@@ -8,7 +8,7 @@ use lib.ListN.{length}
 use lib.Dec.{T}
 use borrow.Author.Tests.{le-leb}
 use Rattle.names.specs.declared.Sizes.{Sizes}
-use Rattle.rules.specs.Tables.{lastNumber, clock, Txn, txn, noTxn, live, liveUpdate, liveQuery, Lock, lock}
+use Rattle.rules.specs.Tables.{lastNumber, clock, Txn, txn, noTxn, withRank, live, liveUpdate, liveQuery, Lock, lock}
 use Rattle.rules.specs.Tables.{holdsShared, holdsExclusive, holds, noLock}
 use Rattle.rules.specs.Versions.{Version, versionsIn, stampAt, place}
 use Rattle.rules.specs.Good.{GoodTxn, GoodLock, GoodVersions}
@@ -28,8 +28,28 @@ free-row S t l s =
       queryIdle = λ h. refl;
       itemKnown = λ d. absurd (d refl);
       itemUnused = λ e. refl;
+      rankUnused = λ e. refl;
       awaitsShared = λ e. absurd (omega arith);
       awaitsExclusive = λ e. absurd (omega arith);
+    }
+
+-- a good row with another rank is a good one, if it is 0 where nothing is awaited
+pub row-reranked : (S : Sizes) (t l : List ℕ) (s p : ℕ) (r : Txn) → (r .awaitedLock ≡ noLock → p ≡ 0) → GoodTxn S t l s r → GoodTxn S t l s (withRank r p)
+unfolding liveQuery liveUpdate live
+row-reranked S t l s p r z g =
+    record {
+      free = λ e. let f = g .free e in λ i. record { number = (f i) .number; kind = (f i) .kind; start = (f i) .start; awaitedLock = (f i) .awaitedLock; awaitedItem = (f i) .awaitedItem; rank = z (ap (λ (w : Txn). w .awaitedLock) f) i };
+      given = g .given;
+      kindListed = g .kindListed;
+      lockListed = g .lockListed;
+      updateStart = g .updateStart;
+      queryStart = g .queryStart;
+      queryIdle = g .queryIdle;
+      itemKnown = g .itemKnown;
+      itemUnused = g .itemUnused;
+      rankUnused = z;
+      awaitsShared = g .awaitsShared;
+      awaitsExclusive = g .awaitsExclusive;
     }
 
 -- slot s holds no more of the lock h′ than of the lock h
@@ -72,6 +92,7 @@ module _ (S : Sizes) (t t′ : List ℕ) where
         queryIdle = g .queryIdle;
         itemKnown = g .itemKnown;
         itemUnused = g .itemUnused;
+        rankUnused = g .rankUnused;
         awaitsShared = λ e h. g .awaitsShared e (no-more-holds s _ _ (n (λ z. absurd (omega arith))) h);
         awaitsExclusive = λ e h. g .awaitsExclusive e (n (λ z. absurd (omega arith)) .exclusive h);
       }

@@ -2,22 +2,26 @@
 use Prim.Native.Nat.{ℕ, zero, suc, _+_, _*_, _≤_, _<_}
 use mathlib.Core.Path.{_≡_, refl, sym, ap, _∙_, subst}
 use mathlib.Core.Logic.{_≢_, _⊎_, inl, inr}
-use mathlib.Core.Bool.{false, _&&_, not}
+use mathlib.Core.Bool.{Bool, true, false, _&&_, not}
 use mathlib.Core.List.{List}
 use native.Mathlib.Omega.{arith}
 use native.Mathlib.Nat.{add-zero}
 use lib.ListN.{length, getD, set, length-set}
 use lib.Seq.{getD-set-same, getD-set-other}
-use lib.Dec.{T, eqb, eqb→eq}
+use lib.Dec.{T, eqb, ltb, eqb→eq}
+use borrow.Author.Tests.{ltb-true, ltb-false}
 use Rattle.names.specs.declared.Sizes.{Sizes}
-use Rattle.names.specs.Layout.{lastNumberAt, txnHead, txnLockAt, txnItemAt}
+use Rattle.names.specs.Layout.{lastNumberAt, txnHead, txnLockAt, txnItemAt, txnRankAt, txnRow}
 use Rattle.rules.specs.Words.{bit, withoutBit}
 use Rattle.rules.specs.Tables.{Tables, txnAt, txnWords, lockRow, lockWords, lastNumber, Txn, txn, setTxn, setAwaited, noTxn, newTxn}
 use Rattle.rules.specs.Tables.{noLock, sharedLock, exclusiveLock, Lock, lock, setLock, holds, holdsShared, holdsExclusive, released, release}
+use Rattle.rules.specs.Waits.{closedUp}
 use Rattle.rules.specs.Good.{Good}
-use Rattle.rules.specs.Changed.{Elsewhere, RowChanged, WordAndRowChanged, AwaitedChanged, LockChanged, LocksReleased, newcomer, Begun, Locked, Aborted}
+use Rattle.rules.specs.Changed.{Elsewhere, RowChanged, WordAndRowChanged, AwaitedChanged, RowAndRanksChanged, NoRank, leaving, LockChanged, LocksReleased, newcomer, Begun, Locked, Aborted}
 use Rattle.rules.specs.Step.{begun, cleared, locked, aborted, awaitsOther, replaced, withTxns, withLocks}
 use Rattle.rules.proofs.Tests.{and-left, and-right, and-both, or-left, or-right, is-false, false-is, not-make, ne-make, same?}
+use Rattle.rules.proofs.EqualRanks.{awaits→}
+use Rattle.rules.proofs.Noting.{closed-length, closed-row, closed-word, closed-none}
 use Rattle.rules.proofs.Views.{length-setTxn, outside-setTxn, txn-setTxn, setAwaited-same, lock-setLock, length-setLock, lock-release, length-release}
 
 -- ---- rows of the transactions
@@ -38,26 +42,71 @@ module _ (S : Sizes) (t : List ℕ) (exact : length t ≡ txnWords S) (s : ℕ) 
         others = λ j d e. elsewhere (set t w v) r j e ∙ getD-set-other t w j v 0 d;
       }
 
-  pub setAwaited-changes : (k x : ℕ) → AwaitedChanged s k x t (setAwaited t s k x)
-  unfolding setAwaited
-  setAwaited-changes k x =
-      record {
-        size = simp length-set;
-        awaitedLock = rw (getD-set-other _ (txnAt s + txnItemAt) (txnAt s + txnLockAt) x 0 (omega arith)) (getD-set-same t (txnAt s + txnLockAt) k 0 (omega arith));
-        awaitedItem = getD-set-same (set t (txnAt s + txnLockAt) k) (txnAt s + txnItemAt) x 0 (simp length-set (omega arith));
-        others = λ j m n. getD-set-other (set t (txnAt s + txnLockAt) k) (txnAt s + txnItemAt) j x 0 n ∙ getD-set-other t (txnAt s + txnLockAt) j k 0 m;
-      }
+  -- ---- the awaited fields written in u, which is t but for its ranks
+  module _ (u : List ℕ) (f : Txn → ℕ) (size : length u ≡ length t)
+      (ranks : (r : ℕ) → r < S .slots → (txn u r) .rank ≡ f (txn t r)) (others : (j : ℕ) → NoRank (S .slots) j → getD u j 0 ≡ getD t j 0)
+    where
+      pub awaited-changes : (k x p : ℕ) → AwaitedChanged S s k x p f t (setAwaited u s k x p)
+      unfolding setAwaited txn
+      awaited-changes k x p =
+          record {
+            size = simp length-set size;
+            awaitedLock =
+                rw (getD-set-other _ (txnAt s + txnRankAt) (txnAt s + txnLockAt) p 0 (omega arith), getD-set-other _ (txnAt s + txnItemAt) (txnAt s + txnLockAt) x 0 (omega arith))
+                (getD-set-same u (txnAt s + txnLockAt) k 0 (omega arith));
+            awaitedItem =
+                rw (getD-set-other _ (txnAt s + txnRankAt) (txnAt s + txnItemAt) p 0 (omega arith))
+                (getD-set-same (set u (txnAt s + txnLockAt) k) (txnAt s + txnItemAt) x 0 (simp length-set (omega arith)));
+            rank = getD-set-same (set (set u (txnAt s + txnLockAt) k) (txnAt s + txnItemAt) x) (txnAt s + txnRankAt) p 0 (simp length-set (omega arith));
+            ranks = λ r i d.
+                rw (
+                  getD-set-other _ (txnAt s + txnRankAt) (txnAt r + txnRankAt) p 0 (omega arith),
+                  getD-set-other _ (txnAt s + txnItemAt) (txnAt r + txnRankAt) x 0 (omega arith),
+                  getD-set-other _ (txnAt s + txnLockAt) (txnAt r + txnRankAt) k 0 (omega arith),
+                )
+                (ranks r i);
+            others = λ j m n o.
+                getD-set-other (set (set u (txnAt s + txnLockAt) k) (txnAt s + txnItemAt) x) (txnAt s + txnRankAt) j p 0 (o s inside)
+                ∙ getD-set-other (set u (txnAt s + txnLockAt) k) (txnAt s + txnItemAt) j x 0 n
+                ∙ getD-set-other u (txnAt s + txnLockAt) j k 0 m
+                ∙ others j o;
+          }
 
-  pub cleared-changes : AwaitedChanged s noLock 0 t (cleared t s)
+      -- the row written
+      pub row-changes : (r : Txn) → RowAndRanksChanged S s r f t (setTxn u s r)
+      unfolding txn
+      row-changes r =
+          record {
+            size = length-setTxn u s r ∙ size;
+            here = unfold txn in (txn-setTxn u s r S (size ∙ exact) inside);
+            ranks = λ q i d. outside-setTxn u s r (txnAt q + txnRankAt) (beside q d) ∙ ranks q i;
+            others = λ j e o. outside-setTxn u s r j e ∙ others j o;
+          }
+        where
+          beside : (q : ℕ) → q ≢ s → (txnAt q + txnRankAt < txnAt s) ⊎ (txnAt s + txnRow ≤ txnAt q + txnRankAt)
+          beside q d = go (ltb q s) refl
+            where
+              go : (b : Bool) → ltb q s ≡ b → (txnAt q + txnRankAt < txnAt s) ⊎ (txnAt s + txnRow ≤ txnAt q + txnRankAt)
+              go true e = let l = ltb-true q s e in inl (omega arith)
+              go false e = let l = ltb-false q s e in inr (omega arith)
+
+  pub cleared-changes : AwaitedChanged S s noLock 0 0 (leaving t s) t (cleared S t s)
   unfolding cleared
-  cleared-changes = setAwaited-changes noLock 0
+  cleared-changes =
+      awaited-changes (closedUp S t s) (leaving t s) (closed-length S t s) (λ r i. ap (λ (w : Txn). w .rank) (closed-row S t s exact r i)) (closed-word S t s) noLock 0 0
+
+  pub closed-changes : (r : Txn) → RowAndRanksChanged S s r (leaving t s) t (setTxn (closedUp S t s) s r)
+  closed-changes r =
+      row-changes (closedUp S t s) (leaving t s) (closed-length S t s) (λ r i. ap (λ (w : Txn). w .rank) (closed-row S t s exact r i)) (closed-word S t s) r
 
 -- where nothing is awaited there is nothing to clear
-pub cleared-same : (t : List ℕ) (s : ℕ) → (txn t s) .awaitedLock ≡ noLock → (txn t s) .awaitedItem ≡ 0 → cleared t s ≡ t
+pub cleared-same : (S : Sizes) (t : List ℕ) (s : ℕ) → (txn t s) .awaitedLock ≡ noLock → (txn t s) .awaitedItem ≡ 0 → (txn t s) .rank ≡ 0 → cleared S t s ≡ t
 unfolding cleared
-cleared-same t s e f =
-    ap (λ (k : ℕ). setAwaited t s k 0) (sym e)
-    ∙ ap (λ (x : ℕ). setAwaited t s ((txn t s) .awaitedLock) x) (sym f)
+cleared-same S t s e f p =
+    ap (λ (u : List ℕ). setAwaited u s noLock 0 0) (closed-none S t s (λ h. awaits→ (txn t s) h e))
+    ∙ ap (λ (k : ℕ). setAwaited t s k 0 0) (sym e)
+    ∙ ap (λ (x : ℕ). setAwaited t s ((txn t s) .awaitedLock) x 0) (sym f)
+    ∙ ap (λ (q : ℕ). setAwaited t s ((txn t s) .awaitedLock) ((txn t s) .awaitedItem) q) (sym p)
     ∙ setAwaited-same t s
 
 -- ---- locks
@@ -109,7 +158,7 @@ module _ (S : Sizes) (G : Tables) (g : Good S G) (s : ℕ) (inside : s < S .slot
         versions = refl;
       }
 
-  pub locked-changes : (x : ℕ) → x < S .items → (h : Lock) → Locked s x h G (locked s x h G)
+  pub locked-changes : (x : ℕ) → x < S .items → (h : Lock) → Locked S s x h G (locked S s x h G)
   unfolding locked
   locked-changes x known h =
       record {
@@ -122,7 +171,7 @@ module _ (S : Sizes) (G : Tables) (g : Good S G) (s : ℕ) (inside : s < S .slot
   unfolding aborted
   aborted-changes =
       record {
-        txns = setTxn-changes S (G .txns) (g .txnsExact) s inside noTxn;
+        txns = closed-changes S (G .txns) (g .txnsExact) s inside noTxn;
         locks = release-changes S s (G .locks) (g .locksExact);
         versions = refl;
       }
@@ -133,7 +182,7 @@ module _ (S : Sizes) (G : Tables) (g : Good S G) (s : ℕ) (inside : s < S .slot
     awaits-this :
         (k : ℕ) → awaitsOther (G .txns) s k x ≡ false
         → ((txn (G .txns) s) .awaitedLock ≢ noLock → (txn (G .txns) s) .awaitedLock ≡ k → (txn (G .txns) s) .awaitedItem ≡ x → ⊥)
-        → cleared (G .txns) s ≡ G .txns
+        → cleared S (G .txns) s ≡ G .txns
     unfolding awaitsOther
     awaits-this k e n = go (same? m noLock)
       where
@@ -148,32 +197,32 @@ module _ (S : Sizes) (G : Tables) (g : Good S G) (s : ℕ) (inside : s < S .slot
             n d (eqb→eq m k (and-left (eqb m k) (eqb y x) t))
             (eqb→eq y x (and-right (eqb m k) (eqb y x) t))
 
-        go : (m ≡ noLock) ⊎ (m ≢ noLock) → cleared (G .txns) s ≡ G .txns
-        go (inl z) = cleared-same (G .txns) s z (g .txnGood s inside .itemUnused z)
+        go : (m ≡ noLock) ⊎ (m ≢ noLock) → cleared S (G .txns) s ≡ G .txns
+        go (inl z) = cleared-same S (G .txns) s z (g .txnGood s inside .itemUnused z) (g .txnGood s inside .rankUnused z)
         go (inr d) =
             absurd (false-is e (and-both (not (eqb m noLock)) _ (ne-make m noLock d) (not-make (eqb m k && eqb y x) (other d))))
 
     abbrev h : Lock
     h = lock (G .locks) x
 
-    read-idle : T (holds (lock (G .locks) x) s) → awaitsOther (G .txns) s sharedLock x ≡ false → cleared (G .txns) s ≡ G .txns
+    read-idle : T (holds (lock (G .locks) x) s) → awaitsOther (G .txns) s sharedLock x ≡ false → cleared S (G .txns) s ≡ G .txns
     read-idle a e =
         awaits-this sharedLock e
         (λ d q z. g .txnGood s inside .awaitsShared q (subst (λ (y : ℕ). T (holds (lock (G .locks) y) s)) (sym z) a))
 
-    write-idle : T (holdsExclusive (lock (G .locks) x) s) → awaitsOther (G .txns) s exclusiveLock x ≡ false → cleared (G .txns) s ≡ G .txns
+    write-idle : T (holdsExclusive (lock (G .locks) x) s) → awaitsOther (G .txns) s exclusiveLock x ≡ false → cleared S (G .txns) s ≡ G .txns
     write-idle a e =
         awaits-this exclusiveLock e
         (λ d q z. g .txnGood s inside .awaitsExclusive q (subst (λ (y : ℕ). T (holdsExclusive (lock (G .locks) y) s)) (sym z) a))
 
     -- a granted read of an item that the caller holds leaves the very same tables
     pub own-unchanged :
-        T (holds (lock (G .locks) x) s) → awaitsOther (G .txns) s sharedLock x ≡ false → withTxns G (cleared (G .txns) s) ≡ G
+        T (holds (lock (G .locks) x) s) → awaitsOther (G .txns) s sharedLock x ≡ false → withTxns G (cleared S (G .txns) s) ≡ G
     own-unchanged a e = ap (withTxns G) (read-idle a e)
 
     -- and a granted write of one that it holds exclusively writes the working value alone
     pub replace-unchanged :
         (v : ℕ) → T (holdsExclusive (lock (G .locks) x) s) → awaitsOther (G .txns) s exclusiveLock x ≡ false
-        → locked s x (replaced (lock (G .locks) x) v) G ≡ withLocks G (G .txns) (setLock (G .locks) x (replaced (lock (G .locks) x) v))
+        → locked S s x (replaced (lock (G .locks) x) v) G ≡ withLocks G (G .txns) (setLock (G .locks) x (replaced (lock (G .locks) x) v))
     unfolding locked
     replace-unchanged v a e = ap (λ (t : List ℕ). withLocks G t (setLock (G .locks) x (replaced h v))) (write-idle a e)

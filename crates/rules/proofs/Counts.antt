@@ -2,7 +2,7 @@
 use Prim.Native.Nat.{ℕ, zero, suc, _+_, _≤_, _<_}
 use mathlib.Core.Path.{_≡_, refl, sym, ap, _∙_, subst}
 use mathlib.Core.Logic.{_≢_, _⊎_, inl, inr}
-use mathlib.Core.Bool.{Bool, true, false, cond}
+use mathlib.Core.Bool.{Bool, true, false, cond, _&&_, _||_}
 use mathlib.Core.List.{List, [], _∷_, List·Memᴰ, List·Memᴰ·head, List·Memᴰ·tail}
 use native.Mathlib.Omega.{arith}
 use native.Mathlib.Nat.{not-suc-le-zero}
@@ -53,6 +53,15 @@ unfolding someBelow
     go : (i < n → T (someBelow n p)) → (i < n) ⊎ (i ≡ n) → T (someBelow (suc n) p)
     go f (inl k) = or-right (p n) (someBelow n p) (f k)
     go f (inr e) = or-left (p n) (someBelow n p) (subst (λ (m : ℕ). T (p m)) e t)
+
+-- one turn of a loop that tests every number, or looks for one
+pub every-more : (p : ℕ → Bool) (n : ℕ) → everyBelow (n + 1) p ≡ (p n && everyBelow n p)
+unfolding everyBelow
+every-more p n = rw add-one
+
+pub some-more : (p : ℕ → Bool) (n : ℕ) → someBelow (n + 1) p ≡ (p n || someBelow n p)
+unfolding someBelow
+some-more p n = rw add-one
 
 -- ---- how many pass
 -- one more number looked at

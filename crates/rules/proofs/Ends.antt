@@ -11,12 +11,13 @@ use lib.Dec.{T, leb, le→leb}
 use Rattle.names.specs.declared.Sizes.{Sizes}
 use Rattle.names.specs.Sizes.{lastWord}
 use Rattle.rules.specs.Words.{row}
-use Rattle.rules.specs.Tables.{Tables, tables, txnWords, versionWords, versionRow, clock, Txn, txn, setTxn, noTxn, live}
+use Rattle.rules.specs.Tables.{Tables, tables, txnWords, versionWords, versionRow, lastNumber, clock, Txn, txn, setTxn, noTxn, noLock, live}
 use Rattle.rules.specs.Tables.{liveUpdate, liveQuery, starts, lock, holds, holdsExclusive, release}
 use Rattle.rules.specs.Versions.{Version, versionsIn, stampAt, rowOf, kept, rewritten}
 use Rattle.rules.specs.Good.{Good, GoodVersions}
 use Rattle.rules.specs.Tested.{lastOld, versionsGood}
-use Rattle.rules.specs.Step.{committed, ended, aborted, withNew}
+use Rattle.rules.specs.Waits.{closedUp}
+use Rattle.rules.specs.Step.{withTxns, cleared, committed, ended, aborted, withNew}
 use Rattle.rules.proofs.Tests.{same?}
 use Rattle.rules.proofs.Counts.{mem-every}
 use Rattle.rules.proofs.Views.{txn-setTxn, txn-setTxn-other, clock-setTxn, txn-top}
@@ -27,10 +28,12 @@ use Rattle.rules.proofs.Rewrites.{length-rewritten, row-rewritten}
 use Rattle.rules.proofs.EqualVersions.{versions→Good}
 use Rattle.rules.proofs.EqualRows.{update-live, query-live}
 use Rattle.rules.proofs.Carried.{versions-carried}
+use Rattle.rules.proofs.Noting.{closed-length, closed-last, closed-clock}
+use Rattle.rules.proofs.Waited.{cleared-good, cleared-here, cleared-last, cleared-clock, cleared-update, cleared-as-closed}
 use Rattle.rules.proofs.Leaves.{released-good, released-holds, left-good}
 
 -- ---- the rows afterwards: that of slot s is free, the others are as they were
-module _ (S : Sizes) (t u : List ℕ) (s : ℕ) (inside : s < S .slots) (size : length u ≡ txnWords S) (same : (r : ℕ) → txn u r ≡ txn t r) where
+module _ (S : Sizes) (t u : List ℕ) (s : ℕ) (inside : s < S .slots) (size : length u ≡ txnWords S) (same : (r : ℕ) → r ≢ s → txn u r ≡ txn t r) where
   abbrev t′ : List ℕ
   t′ = setTxn u s noTxn
 
@@ -38,7 +41,7 @@ module _ (S : Sizes) (t u : List ℕ) (s : ℕ) (inside : s < S .slots) (size : 
   gone-here = txn-setTxn u s noTxn S size inside
 
   pub gone-there : (r : ℕ) → r ≢ s → txn t′ r ≡ txn t r
-  gone-there r d = txn-setTxn-other u s noTxn r d ∙ same r
+  gone-there r d = txn-setTxn-other u s noTxn r d ∙ same r d
 
   pub gone-query : liveQuery (txn t′ s) ≡ false
   unfolding liveQuery live
@@ -59,7 +62,7 @@ module _ (S : Sizes) (t u : List ℕ) (s : ℕ) (inside : s < S .slots) (size : 
 -- ---- a table of versions rewritten for the queries that are left
 module _
     (S : Sizes) (enough : S .slots ≤ S .places) (G : Tables) (g : Good S G) (s : ℕ) (inside : s < S .slots)
-    (u : List ℕ) (size : length u ≡ txnWords S) (same : (r : ℕ) → txn u r ≡ txn (G .txns) r) (later : clock (G .txns) ≤ clock u)
+    (u : List ℕ) (size : length u ≡ txnWords S) (same : (r : ℕ) → r ≢ s → txn u r ≡ txn (G .txns) r) (later : clock (G .txns) ≤ clock u)
   where
     abbrev w : List ℕ
     w = setTxn u s noTxn
@@ -118,10 +121,10 @@ module _ (S : Sizes) (enough : S .slots ≤ S .places) (G : Tables) (g : Good S 
   pub ended-good : T (liveQuery (txn (G .txns) s)) → Good S (ended S s G)
   unfolding ended
   ended-good query =
-      left-good S G g s inside holds-nothing (G .txns) (g .txnsExact) (λ r. refl) refl (omega arith) (g .clockMost)
+      left-good S G g s inside holds-nothing (g .txnGood s inside .queryIdle query) (G .txns) (g .txnsExact) (λ r d. refl) refl (omega arith) (g .clockMost)
       (rewritten S (starts S (setTxn (G .txns) s noTxn)) (λ x vs. vs) (G .versions))
-      (rewritten-size S enough G g s inside (G .txns) (g .txnsExact) (λ r. refl) (omega arith) (λ x vs. vs) ready)
-      (rewritten-good S enough G g s inside (G .txns) (g .txnsExact) (λ r. refl) (omega arith) (λ x vs. vs) ready)
+      (rewritten-size S enough G g s inside (G .txns) (g .txnsExact) (λ r d. refl) (omega arith) (λ x vs. vs) ready)
+      (rewritten-good S enough G g s inside (G .txns) (g .txnsExact) (λ r d. refl) (omega arith) (λ x vs. vs) ready)
     where
       holds-nothing : (x : ℕ) → x < S .items → T (holds (lock (G .locks) x) s) → ⊥
       holds-nothing x i h =
@@ -129,32 +132,54 @@ module _ (S : Sizes) (enough : S .slots ≤ S .places) (G : Tables) (g : Good S 
           let b = query-live (txn (G .txns) s) query .1 in
           absurd (omega arith)
 
-      ready : (x : ℕ) → x < S .items → Ready S enough G g s inside (G .txns) (g .txnsExact) (λ r. refl) (omega arith) (versionsIn (row (versionRow S) x (G .versions)))
-      ready x i = old-ready S enough G g s inside (G .txns) (g .txnsExact) (λ r. refl) (omega arith) (row (versionRow S) x (G .versions)) (g .versionsGood x i)
+      ready : (x : ℕ) → x < S .items → Ready S enough G g s inside (G .txns) (g .txnsExact) (λ r d. refl) (omega arith) (versionsIn (row (versionRow S) x (G .versions)))
+      ready x i = old-ready S enough G g s inside (G .txns) (g .txnsExact) (λ r d. refl) (omega arith) (row (versionRow S) x (G .versions)) (g .versionsGood x i)
 
   -- ---- "Abort removes locks, working values and the row"
-  -- a query is not the update that leaves
-  stays : T (liveUpdate (txn (G .txns) s)) → (r : ℕ) → T (liveQuery (txn (G .txns) r)) → r ≢ s
-  stays update r h e =
-      let a = query-live (txn (G .txns) r) h .1 in
-      let b = update-live (txn (G .txns) s) update .1 in
-      let c : (txn (G .txns) r) .kind ≡ (txn (G .txns) s) .kind = ap (λ (m : ℕ). (txn (G .txns) m) .kind) e in
-      absurd (omega arith)
-
   pub aborted-good : T (liveUpdate (txn (G .txns) s)) → Good S (aborted S s G)
   unfolding aborted
   aborted-good update =
-      left-good S (tables (G .txns) (release S s (G .locks)) (G .versions)) (released-good S G g s) s inside (released-holds S G g s)
-      (G .txns) (g .txnsExact) (λ r. refl) refl (omega arith) (g .clockMost) (G .versions) (g .versionsExact)
-      (λ x i. versions-carried S (G .txns) t₁ _ (let a = clock-setTxn (G .txns) s noTxn in omega arith)
-      (λ r j h. gone-there S (G .txns) (G .txns) s inside (g .txnsExact) (λ r. refl) r (stays update r h))
-      (λ r j h. inl (gone-lives S (G .txns) (G .txns) s inside (g .txnsExact) (λ r. refl) r h)) (g .versionsGood x i))
+      left-good S (tables t₁ (release S s (G .locks)) (G .versions)) (released-good S H h s inside rests) s inside (released-holds S H h s inside rests) rests
+      u (closed-length S (G .txns) s ∙ g .txnsExact) same (closed-last S (G .txns) s ∙ sym (h-last)) (let a = h-clock in let b = closed-clock S (G .txns) s in omega arith)
+      (let b = closed-clock S (G .txns) s in let c = g .clockMost in omega arith) (G .versions) (g .versionsExact)
+      (λ x i. versions-carried S t₁ (setTxn u s noTxn) _ (let a = clock-setTxn u s noTxn in let b = closed-clock S (G .txns) s in let c = h-clock in omega arith)
+      (λ r j q. gone-there S t₁ u s inside (closed-length S (G .txns) s ∙ g .txnsExact) same r (stays′ r q))
+      (λ r j q. inl (gone-lives S t₁ u s inside (closed-length S (G .txns) s ∙ g .txnsExact) same r q)) (h .versionsGood x i))
     where
+      -- its wait is cleared first, then its locks go, then its row
       t₁ : List ℕ
-      t₁ = setTxn (G .txns) s noTxn
+      t₁ = cleared S (G .txns) s
+
+      u : List ℕ
+      u = closedUp S (G .txns) s
+
+      H : Tables
+      H = withTxns G t₁
+
+      h : Good S H
+      h = cleared-good S G g s inside update
+
+      rests : (txn t₁ s) .awaitedLock ≡ noLock
+      rests = ap (λ (w : Txn). w .awaitedLock) (cleared-here S (G .txns) (g .txnsExact) s inside)
+
+      h-last : lastNumber t₁ ≡ lastNumber (G .txns)
+      h-last = cleared-last S (G .txns) (g .txnsExact) s inside
+
+      h-clock : clock t₁ ≡ clock (G .txns)
+      h-clock = cleared-clock S (G .txns) (g .txnsExact) s inside
+
+      same : (r : ℕ) → r ≢ s → txn u r ≡ txn t₁ r
+      same r d = sym (cleared-as-closed S (G .txns) (g .txnsExact) s inside r d)
+
+      stays′ : (r : ℕ) → T (liveQuery (txn t₁ r)) → r ≢ s
+      stays′ r q e =
+          let a = query-live (txn t₁ r) q .1 in
+          let b = update-live (txn t₁ s) (subst T (sym (cleared-update S (G .txns) (g .txnsExact) s inside s inside)) update) .1 in
+          let c : (txn t₁ r) .kind ≡ (txn t₁ s) .kind = ap (λ (m : ℕ). (txn t₁ m) .kind) e in
+          absurd (omega arith)
 
   -- ---- "An update takes clock plus 1"
-  module _ (update : T (liveUpdate (txn (G .txns) s))) (unspent : clock (G .txns) ≢ lastWord) where
+  module _ (update : T (liveUpdate (txn (G .txns) s))) (resting : (txn (G .txns) s) .awaitedLock ≡ noLock) (unspent : clock (G .txns) ≢ lastWord) where
     abbrev c : ℕ
     c = clock (G .txns) + 1
 
@@ -164,8 +189,8 @@ module _ (S : Sizes) (enough : S .slots ≤ S .places) (G : Tables) (g : Good S 
     u-size : length u ≡ txnWords S
     u-size = length-set (G .txns) 1 c ∙ g .txnsExact
 
-    u-rows : (r : ℕ) → txn u r ≡ txn (G .txns) r
-    u-rows r = txn-top (G .txns) 1 c r (omega arith)
+    u-rows : (r : ℕ) → r ≢ s → txn u r ≡ txn (G .txns) r
+    u-rows r d = txn-top (G .txns) 1 c r (omega arith)
 
     u-clock : clock u ≡ c
     u-clock = getD-set-same (G .txns) 1 c 0 (omega (arith, g .txnsExact))
@@ -201,7 +226,7 @@ module _ (S : Sizes) (enough : S .slots ≤ S .places) (G : Tables) (g : Good S 
     pub committed-good : Good S (committed S s G)
     unfolding committed withNew
     committed-good =
-        left-good S (tables (G .txns) (release S s (G .locks)) (G .versions)) (released-good S G g s) s inside (released-holds S G g s)
+        left-good S (tables (G .txns) (release S s (G .locks)) (G .versions)) (released-good S G g s inside resting) s inside (released-holds S G g s inside resting) resting
         u u-size u-rows (getD-set-other (G .txns) 1 0 c 0 (omega arith)) u-later (let a = u-clock in let b = g .clockMost in omega arith)
         (rewritten S (starts S (setTxn u s noTxn)) (withNew (G .locks) s c) (G .versions))
         (rewritten-size S enough G g s inside u u-size u-rows u-later (withNew (G .locks) s c) ready)

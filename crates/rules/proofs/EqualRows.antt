@@ -32,6 +32,13 @@ pub live-number : (r : Txn) → T (live r) → r .number ≢ 0
 unfolding live
 live-number r h = ne-use (r .number) 0 h
 
+pub free-number : (r : Txn) → (T (live r) → ⊥) → r .number ≡ 0
+free-number r n = go (same? (r .number) 0)
+  where
+    go : (r .number ≡ 0) ⊎ (r .number ≢ 0) → r .number ≡ 0
+    go (inl e) = e
+    go (inr d) = absurd (n (unfold live in (ne-make (r .number) 0 d)))
+
 pub number-live : (r : Txn) → r .number ≢ 0 → T (live r)
 unfolding live
 number-live r d = ne-make (r .number) 0 d
@@ -79,7 +86,8 @@ module _ (S : Sizes) (t l : List ℕ) (s : ℕ) (r : Txn) where
         queryStart = λ z. leb→le (r .start) (clock t) (and-left (leb (r .start) (clock t)) _ (implies-use (liveQuery r) _ queried z));
         queryIdle = λ z. eqb→eq (r .awaitedLock) noLock (and-right (leb (r .start) (clock t)) _ (implies-use (liveQuery r) _ queried z));
         itemKnown = λ d. ltb→lt (r .awaitedItem) (S .items) (rw (ne-eqb (r .awaitedLock) noLock d) at b₃);
-        itemUnused = λ e. eqb→eq (r .awaitedItem) 0 (rw (eq-eqb (r .awaitedLock) noLock e) at b₃);
+        itemUnused = λ e. eqb→eq (r .awaitedItem) 0 (and-left (eqb (r .awaitedItem) 0) _ (rw (eq-eqb (r .awaitedLock) noLock e) at b₃));
+        rankUnused = λ e. eqb→eq (r .rank) 0 (and-right (eqb (r .awaitedItem) 0) _ (rw (eq-eqb (r .awaitedLock) noLock e) at b₃));
         awaitsShared = λ e. not-use (holds h s) (implies-use (eqb (r .awaitedLock) sharedLock) _ (and-left u _ b₄) (eq-make (r .awaitedLock) sharedLock e));
         awaitsExclusive = λ e. not-use (holdsExclusive h s) (implies-use (eqb (r .awaitedLock) exclusiveLock) _ (and-right u _ b₄) (eq-make (r .awaitedLock) exclusiveLock e));
       }
@@ -91,15 +99,17 @@ module _ (S : Sizes) (t l : List ℕ) (s : ℕ) (r : Txn) where
           go (inl e) = inl e
           go (inr d) = inr (omega arith)
 
-      zeros : r .number ≡ 0 → T (eqb (r .kind) 0 && (eqb (r .start) 0 && (eqb (r .awaitedLock) 0 && eqb (r .awaitedItem) 0))) → r ≡ noTxn
+      zeros : r .number ≡ 0 → T (eqb (r .kind) 0 && (eqb (r .start) 0 && (eqb (r .awaitedLock) 0 && (eqb (r .awaitedItem) 0 && eqb (r .rank) 0)))) → r ≡ noTxn
       zeros e z =
           let z₁ = and-right (eqb (r .kind) 0) _ z in
           let z₂ = and-right (eqb (r .start) 0) _ z₁ in
           let k = eqb→eq (r .kind) 0 (and-left (eqb (r .kind) 0) _ z) in
           let q = eqb→eq (r .start) 0 (and-left (eqb (r .start) 0) _ z₁) in
           let a = eqb→eq (r .awaitedLock) 0 (and-left (eqb (r .awaitedLock) 0) _ z₂) in
-          let x = eqb→eq (r .awaitedItem) 0 (and-right (eqb (r .awaitedLock) 0) _ z₂) in
-          λ i. record { number = e i; kind = k i; start = q i; awaitedLock = a i; awaitedItem = x i }
+          let z₃ = and-right (eqb (r .awaitedLock) 0) _ z₂ in
+          let x = eqb→eq (r .awaitedItem) 0 (and-left (eqb (r .awaitedItem) 0) _ z₃) in
+          let p = eqb→eq (r .rank) 0 (and-right (eqb (r .awaitedItem) 0) _ z₃) in
+          λ i. record { number = e i; kind = k i; start = q i; awaitedLock = a i; awaitedItem = x i; rank = p i }
 
   pub Good→txn : GoodTxn S t l s r → T (txnGood S t l s r)
   unfolding txnGood freeZero listed startGood awaitedGood awaiterGood live
@@ -121,15 +131,17 @@ module _ (S : Sizes) (t l : List ℕ) (s : ℕ) (r : Txn) where
       kinds (inl e) = omega arith
       kinds (inr e) = omega arith
 
-      free : T (implies (not (not (eqb (r .number) 0))) (eqb (r .kind) 0 && (eqb (r .start) 0 && (eqb (r .awaitedLock) 0 && eqb (r .awaitedItem) 0))))
+      free : T (implies (not (not (eqb (r .number) 0))) (eqb (r .kind) 0 && (eqb (r .start) 0 && (eqb (r .awaitedLock) 0 && (eqb (r .awaitedItem) 0 && eqb (r .rank) 0)))))
       free = implies-make (not (not (eqb (r .number) 0))) _ (λ z. go (same? (r .number) 0) z)
         where
-          go : (r .number ≡ 0) ⊎ (r .number ≢ 0) → T (not (not (eqb (r .number) 0))) → T (eqb (r .kind) 0 && (eqb (r .start) 0 && (eqb (r .awaitedLock) 0 && eqb (r .awaitedItem) 0)))
-          go (inl e) z = subst (λ (w : Txn). T (eqb (w .kind) 0 && (eqb (w .start) 0 && (eqb (w .awaitedLock) 0 && eqb (w .awaitedItem) 0)))) (sym (g .free e)) tt
+          go : (r .number ≡ 0) ⊎ (r .number ≢ 0) → T (not (not (eqb (r .number) 0))) → T (eqb (r .kind) 0 && (eqb (r .start) 0 && (eqb (r .awaitedLock) 0 && (eqb (r .awaitedItem) 0 && eqb (r .rank) 0))))
+          go (inl e) z = subst (λ (w : Txn). T (eqb (w .kind) 0 && (eqb (w .start) 0 && (eqb (w .awaitedLock) 0 && (eqb (w .awaitedItem) 0 && eqb (w .rank) 0))))) (sym (g .free e)) tt
           go (inr d) z = absurd (not-use (not (eqb (r .number) 0)) z (ne-make (r .number) 0 d))
 
-      awaited : (r .awaitedLock ≡ noLock) ⊎ (r .awaitedLock ≢ noLock) → T (cond (eqb (r .awaitedLock) noLock) (eqb (r .awaitedItem) 0) (ltb (r .awaitedItem) (S .items)))
-      awaited (inl e) = rw (eq-eqb (r .awaitedLock) noLock e) (eq-make (r .awaitedItem) 0 (g .itemUnused e))
+      awaited : (r .awaitedLock ≡ noLock) ⊎ (r .awaitedLock ≢ noLock) → T (cond (eqb (r .awaitedLock) noLock) (eqb (r .awaitedItem) 0 && eqb (r .rank) 0) (ltb (r .awaitedItem) (S .items)))
+      awaited (inl e) =
+          rw (eq-eqb (r .awaitedLock) noLock e)
+          (and-both (eqb (r .awaitedItem) 0) _ (eq-make (r .awaitedItem) 0 (g .itemUnused e)) (eq-make (r .rank) 0 (g .rankUnused e)))
       awaited (inr d) = rw (ne-eqb (r .awaitedLock) noLock d) (lt→ltb (r .awaitedItem) (S .items) (g .itemKnown d))
 
 -- ---- a lock

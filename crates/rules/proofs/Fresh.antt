@@ -15,7 +15,7 @@ use Rattle.rules.specs.Words.{row, bit}
 use Rattle.rules.specs.Tables.{withCounts, txnAt, txnWords, lockWords, lockRow, versionWords, versionRow, Txn, txn, noTxn, live, liveQuery}
 use Rattle.rules.specs.Tables.{Lock, lock, holds, holdsShared, holdsExclusive, fresh}
 use Rattle.rules.specs.Versions.{versionsIn, pairs, stampAt}
-use Rattle.rules.specs.Waits.{waitsFor, Walk, one, more}
+use Rattle.rules.specs.Waits.{awaits, waitsFor, Walk, one, more}
 use Rattle.rules.specs.Good.{Good, GoodTxn, GoodLock, GoodQuota, GoodVersions}
 use Rattle.rules.proofs.Tests.{or-cases, false-is}
 use Rattle.rules.proofs.Bits.{bit-none}
@@ -23,6 +23,7 @@ use Rattle.rules.proofs.Rows.{length-mapRows, row-mapRows}
 use Rattle.rules.proofs.EqualRows.{live-number}
 use Rattle.rules.proofs.Quotas.{free-quota}
 use Rattle.rules.proofs.Carried.{free-row}
+use Rattle.rules.proofs.EqualRanks.{awaits→, awaitsOn→}
 use Rattle.rules.proofs.Walks.{waits-for→}
 
 -- every word of n zeros is 0, and so is what is read past them
@@ -80,6 +81,7 @@ module _ (S : Sizes) (room : 1 ≤ S .places) where
         start = zeros n (txnAt s + 2) i;
         awaitedLock = zeros n (txnAt s + 3) i;
         awaitedItem = zeros n (txnAt s + 4) i;
+        rank = zeros n (txnAt s + 5) i;
       }
 
   not-live : (s : ℕ) → T (live (txn ((fresh S) .txns) s)) → ⊥
@@ -122,6 +124,9 @@ module _ (S : Sizes) (room : 1 ≤ S .places) where
       behind (suc k) l = z k
 
   -- nobody waits
+  no-wait : (s : ℕ) → T (awaits (txn ((fresh S) .txns) s)) → ⊥
+  no-wait s w = awaits→ (txn ((fresh S) .txns) s) w (ap (λ (r : Txn). r .awaitedLock) (txn-free s))
+
   no-link : (a b : ℕ) → T (waitsFor ((fresh S) .txns) ((fresh S) .locks) a b) → ⊥
   no-link a b e = waits-for→ ((fresh S) .txns) ((fresh S) .locks) a b e .0 (ap (λ (r : Txn). r .awaitedLock) (txn-free a))
 
@@ -143,5 +148,12 @@ module _ (S : Sizes) (room : 1 ≤ S .places) where
         lockGood = λ x i. subst (λ (h : Lock). GoodLock S ((fresh S) .txns) h) (sym (lock-free x)) free-lock;
         quotaGood = λ s i. subst (λ (r : Txn). GoodQuota S ((fresh S) .locks) s r) (sym (txn-free s)) (free-quota S ((fresh S) .locks) s);
         versionsGood = λ x i. subst (λ (r : List ℕ). GoodVersions S ((fresh S) .txns) r) (sym (fresh-row S x i)) (first-row (behindCount S x) (fresh-row-zero S x));
+        ranksGood =
+            record {
+              least = λ s i w. absurd (no-wait s w);
+              most = λ s i w. absurd (no-wait s w);
+              apart = λ x r s i j d a b. absurd (no-wait r (awaitsOn→ x (txn ((fresh S) .txns) r) a .0));
+              exchangers = λ x r s i j a b c n. absurd (no-wait r (awaitsOn→ x (txn ((fresh S) .txns) r) a .0));
+            };
         noCircle = λ a w. no-walk w;
       }

@@ -8,18 +8,21 @@ use native.Mathlib.Omega.{arith}
 use lib.Dec.{T, eqb, eqb→eq}
 use Rattle.names.specs.declared.Sizes.{Sizes}
 use Rattle.rules.specs.Words.{bit, withBit, withoutBit}
-use Rattle.rules.specs.Tables.{Tables, tables, Txn, txn, liveUpdate, noLock, Lock, lock, setLock, holdsShared, holdsExclusive, holds, exclusivesOf}
-use Rattle.rules.specs.Waits.{conflicts, waitsFor}
+use Rattle.rules.specs.Tables.{Tables, tables, Txn, txn, withRank, liveUpdate, noLock, Lock, lock, setLock, holdsShared, holdsExclusive, holds, exclusivesOf}
+use Rattle.rules.specs.Waits.{awaits, conflicts, waitsFor}
+use Rattle.rules.specs.Changed.{leaving}
 use Rattle.rules.specs.Good.{Good, GoodTxn, GoodLock, GoodQuota}
 use Rattle.rules.specs.Step.{withTxns, cleared, locked, sharedToo, taken, replaced}
-use Rattle.rules.proofs.Tests.{and-left, and-right, and-both, or-cases, or-left, or-right, same?, is-false, true-is, false-is}
+use Rattle.rules.proofs.Tests.{and-left, and-right, and-both, or-cases, or-left, or-right, same?, is-false, true-is, false-is, iff-eq}
 use Rattle.rules.proofs.Bits.{withBit-there, withoutBit-here, withoutBit-there, no-bits}
 use Rattle.rules.proofs.Views.{lock-setLock, lock-setLock-other, length-setLock}
 use Rattle.rules.proofs.Carried.{NoMore, no-more-same, txn-carried, lock-carried}
 use Rattle.rules.proofs.Quotas.{exclusives-fewer, exclusives-one-more, quota-carried}
-use Rattle.rules.proofs.Walks.{waits-for→, →waits-for}
+use Rattle.rules.proofs.EqualRanks.{awaits→}
+use Rattle.rules.proofs.Lines.{same-leaving, left-ranks, left-links}
+use Rattle.rules.proofs.Walks.{waits-for→}
 use Rattle.rules.proofs.Deadlock.{grant-no-circle}
-use Rattle.rules.proofs.Awaits.{cleared-good, awaiting-here, awaiting-update}
+use Rattle.rules.proofs.Waited.{cleared-good, cleared-here, cleared-update}
 
 -- who holds no more conflicts with no more
 pub conflicts-fewer : (k b : ℕ) (h h′ : Lock) → NoMore b h h′ → T (conflicts h′ k b) → T (conflicts h k b)
@@ -37,9 +40,10 @@ abbrev pub Room : Sizes → List ℕ → ℕ → ℕ → Type 0
 Room S l s x = T (holdsExclusive (lock l x) s) ⊎ (exclusivesOf S l s ≢ S .quota)
 
 -- ---- the lock of item x becomes h′; slot s awaits nothing, and has room where it holds the item exclusively now and did not before; the
--- other slots hold no more of it than before
+-- other slots hold no more of it than before, and share it as before
 module _ (S : Sizes) (G : Tables) (g : Good S G) (s x : ℕ) (known : x < S .items) (idle : (txn (G .txns) s) .awaitedLock ≡ noLock)
     (h′ : Lock) (good′ : GoodLock S (G .txns) h′) (others : (r : ℕ) → r ≢ s → NoMore r (lock (G .locks) x) h′)
+    (keeps : (r : ℕ) → r ≢ s → T (holdsShared (lock (G .locks) x) r) → T (holdsShared h′ r)) (holder-inside : s < S .slots)
     (room : T (holdsExclusive h′ s) → Room S (G .locks) s x) where
   abbrev t : List ℕ
   t = G .txns
@@ -105,10 +109,27 @@ module _ (S : Sizes) (G : Tables) (g : Good S G) (s x : ℕ) (known : x < S .ite
       go (inl e) = subst (λ (m : ℕ). GoodQuota S l′ m (txn t m)) (sym e) (mine (omega arith))
       go (inr d) = quota-carried S l l′ r (txn t r) (exclusives-fewer S l l′ r (λ y k. fewer r d y .exclusive)) (g .quotaGood r i)
 
+  no-wait : T (awaits (txn t s)) → ⊥
+  no-wait h = awaits→ (txn t s) h idle
+
+  stay : (r : ℕ) → r < S .slots → r ≢ s → txn t r ≡ withRank (txn t r) (leaving t s (txn t r))
+  stay r i d = same-leaving t t s r no-wait refl
+
   links : (a b : ℕ) → b ≢ s → T (waitsFor t l′ a b) → T (waitsFor t l a b)
   links a b d h =
-      let w = waits-for→ t l′ a b h in
-      →waits-for t l a b (w .0) (w .1) (conflicts-fewer ((txn t a) .awaitedLock) b _ _ (fewer b d ((txn t a) .awaitedItem)) (w .2))
+      let i = holder-inside in
+      left-links S t t l s i stay no-wait (g .ranksGood) l′ (g .txnsExact) a b (λ w k c. conflicts-fewer k b _ _ (fewer b d ((txn t a) .awaitedItem)) c) h
+
+  -- others share what they shared
+  shares : (y r : ℕ) → r ≢ s → holdsShared (lock l′ y) r ≡ holdsShared (lock l y) r
+  shares y r d = go (same? y x)
+    where
+      go : (y ≡ x) ⊎ (y ≢ x) → holdsShared (lock l′ y) r ≡ holdsShared (lock l y) r
+      go (inl e) =
+          ap (λ (z : ℕ). holdsShared (lock l′ z) r) e ∙ ap (λ (o : Lock). holdsShared o r) here
+          ∙ iff-eq (holdsShared h′ r) (holdsShared (lock l x) r) (others r d .shared) (keeps r d)
+          ∙ ap (λ (z : ℕ). holdsShared (lock l z) r) (sym e)
+      go (inr n) = ap (λ (o : Lock). holdsShared o r) (there y n)
 
   pub relocked-good : Good S (tables (G .txns) (setLock (G .locks) x h′) (G .versions))
   relocked-good =
@@ -123,6 +144,7 @@ module _ (S : Sizes) (G : Tables) (g : Good S G) (s x : ℕ) (known : x < S .ite
         lockGood = locks;
         quotaGood = quotas;
         versionsGood = g .versionsGood;
+        ranksGood = left-ranks S t t l s holder-inside stay no-wait (g .ranksGood) l′ shares;
         noCircle = grant-no-circle S G g s t l′ (λ b h. waits-for→ t l′ s b h .0 idle) links;
       }
 
@@ -146,6 +168,10 @@ module _ (S : Sizes) (t : List ℕ) (h : Lock) (g : GoodLock S t h) (s : ℕ) (i
   unfolding holdsShared holdsExclusive
   shared-others r d = record { shared = λ a. subst T (withBit-there (h .shared) s r d) a; exclusive = λ a. a }
 
+  pub shared-keeps : (r : ℕ) → r ≢ s → T (holdsShared h r) → T (holdsShared (sharedToo h s) r)
+  unfolding holdsShared
+  shared-keeps r d a = subst T (sym (withBit-there (h .shared) s r d)) a
+
   -- "replace the working value", where the caller holds exclusively
   pub replaced-too : (v : ℕ) → T (holdsExclusive h s) → GoodLock S t (replaced h v)
   unfolding holds holdsShared holdsExclusive
@@ -159,6 +185,10 @@ module _ (S : Sizes) (t : List ℕ) (h : Lock) (g : GoodLock S t h) (s : ℕ) (i
   pub replaced-others : (v r : ℕ) → NoMore r h (replaced h v)
   unfolding holdsShared holdsExclusive
   replaced-others v r = record { shared = λ a. a; exclusive = λ a. a }
+
+  pub replaced-keeps : (v r : ℕ) → T (holdsShared h r) → T (holdsShared (replaced h v) r)
+  unfolding holdsShared
+  replaced-keeps v r a = a
 
   -- "A taken exclusive lock", where nobody else holds
   module _ (alone : (r : ℕ) → r ≢ s → T (holds h r) → ⊥) (v : ℕ) where
@@ -191,14 +221,18 @@ module _ (S : Sizes) (t : List ℕ) (h : Lock) (g : GoodLock S t h) (s : ℕ) (i
     taken-others r d =
         record { shared = λ a. absurd (subst T (no-shared r) a); exclusive = λ a. absurd (d (own r a)) }
 
+    pub taken-keeps : (r : ℕ) → r ≢ s → T (holdsShared h r) → T (holdsShared (taken h s v) r)
+    taken-keeps r d a = absurd (alone r d (unfold holds in (or-left (holdsShared h r) _ a)))
+
 -- ---- the whole grant to the update in slot s: the lock h′ on item x
 pub locked-good :
     (S : Sizes) (G : Tables) → Good S G → (s x : ℕ) → s < S .slots → T (liveUpdate (txn (G .txns) s)) → x < S .items → (h′ : Lock)
-    → GoodLock S (G .txns) h′ → ((r : ℕ) → r ≢ s → NoMore r (lock (G .locks) x) h′) → (T (holdsExclusive h′ s) → Room S (G .locks) s x)
-    → Good S (locked s x h′ G)
-unfolding locked cleared
-locked-good S G g s x inside update known h′ good′ others room =
-    relocked-good S (withTxns G (cleared (G .txns) s)) (cleared-good S G g s inside update) s x known
-    (ap (λ (w : Txn). w .awaitedLock) (awaiting-here S (G .txns) (g .txnsExact) s noLock 0 inside)) h′
-    (lock-carried S (G .txns) (cleared (G .txns) s) h′ (λ r a u. subst T (sym (awaiting-update S (G .txns) (g .txnsExact) s noLock 0 inside r)) u) good′)
-    others room
+    → GoodLock S (G .txns) h′ → ((r : ℕ) → r ≢ s → NoMore r (lock (G .locks) x) h′)
+    → ((r : ℕ) → r ≢ s → T (holdsShared (lock (G .locks) x) r) → T (holdsShared h′ r)) → (T (holdsExclusive h′ s) → Room S (G .locks) s x)
+    → Good S (locked S s x h′ G)
+unfolding locked
+locked-good S G g s x inside update known h′ good′ others keeps room =
+    relocked-good S (withTxns G (cleared S (G .txns) s)) (cleared-good S G g s inside update) s x known
+    (ap (λ (w : Txn). w .awaitedLock) (cleared-here S (G .txns) (g .txnsExact) s inside)) h′
+    (lock-carried S (G .txns) (cleared S (G .txns) s) h′ (λ r a u. subst T (sym (cleared-update S (G .txns) (g .txnsExact) s inside r (good′ .holders r a .0))) u) good′)
+    others keeps inside room

@@ -30,7 +30,7 @@ module _ (S : Sizes) (G : Tables) (g : Good S G) (n s : ℕ) (C : Caller S G n s
   same-slot r R = sym (caller-found S G g r n (R .inside) (R .alive) (R .name)) ∙ caller-found S G g s n (C .inside) (C .alive) (C .name)
 
   -- the lock that was written is there
-  written : (r x : ℕ) → x < S .items → (h : Lock) → lock ((locked r x h G) .locks) x ≡ h
+  written : (r x : ℕ) → x < S .items → (h : Lock) → lock ((locked S r x h G) .locks) x ≡ h
   unfolding locked
   written r x known h = lock-setLock (G .locks) x h S (g .locksExact) known
 
@@ -44,7 +44,7 @@ module _ (S : Sizes) (G : Tables) (g : Good S G) (n s : ℕ) (C : Caller S G n s
   read-holds x d (readNewest m r y U h) z =
       subst (λ (i : ℕ). T (holds (lock (G .locks) x) i)) (same-slot r (U .caller)) (or-left (holdsShared (lock (G .locks) x) r) _ h)
   read-holds x d (readShared m r y U h f) z =
-      subst (λ (i : ℕ). T (holds (lock ((locked r x (sharedToo (lock (G .locks) x) r) G) .locks) x) i)) (same-slot r (U .caller))
+      subst (λ (i : ℕ). T (holds (lock ((locked S r x (sharedToo (lock (G .locks) x) r) G) .locks) x) i)) (same-slot r (U .caller))
       (rw (written r x (U .known) (sharedToo (lock (G .locks) x) r))
       (unfold holdsShared in (or-left (bit (withBit ((lock (G .locks) x) .shared) r) r) _ (true-is (withBit-here ((lock (G .locks) x) .shared) r)))))
   read-holds x d (readQuery m r y D q i) z =

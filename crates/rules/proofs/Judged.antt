@@ -12,19 +12,18 @@ use Rattle.names.specs.declared.Sizes.{Sizes}
 use Rattle.names.specs.Sizes.{firstStamp, lastWord}
 use Rattle.rules.specs.Tables.{Tables, clock, txn, noLock, sharedLock, exclusiveLock, anUpdate, aQuery}
 use Rattle.rules.specs.Tables.{liveUpdate, liveQuery, Lock, lock, holds, holdsShared, holdsExclusive, exclusivesOf, slotOf}
-use Rattle.rules.specs.Waits.{blocked}
 use Rattle.rules.specs.Good.{Good}
 use Rattle.rules.specs.Locks.{toRead, toWrite, Cell, decision}
 use Rattle.rules.specs.Answers.{Call, BeginUpdate, BeginQuery, Read, Write, Commit, Abort, granted, code}
 use Rattle.rules.specs.Answers.{Wait, Deadlock, UnknownTransaction, UnknownItem, QueryMayNotWrite, StillWaiting}
 use Rattle.rules.specs.Answers.{ClockSpent, BadTables, QuotaSpent, Deed}
 use Rattle.rules.specs.Step.{judged, done, readBy, writeBy, commitBy, abortBy, access, cellDeed, awaitsOther, writesFurther, queryRead}
-use Rattle.rules.specs.Conditions.{CallerIn, When, thenTested, order}
-use Rattle.rules.proofs.Tests.{or-right, true-is, false-is, ne-make, ne-use}
+use Rattle.rules.specs.Conditions.{CallerIn, NeedsLock, When, thenTested, order}
+use Rattle.rules.proofs.Tests.{or-left, or-right, true-is, false-is, ne-make, ne-use}
 use Rattle.rules.proofs.Quotas.{has-room}
 use Rattle.rules.proofs.Steps.{cond-case}
 use Rattle.rules.proofs.Callers.{caller-in, is-query, is-update, query-not-update, query-kind}
-use Rattle.rules.proofs.Decisions.{wanted-lock, never-both, none-excludes, none-holds, own-unblocked, shared-unblocked}
+use Rattle.rules.proofs.Decisions.{wanted-lock, never-both, none-excludes, none-holds, blockedFor}
 use Rattle.rules.proofs.Decisions.{CellIs, ownCell, newestCell, shareCell, replaceCell, exchangeCell, excludeCell, readConflict, writeConflict, cell}
 use Rattle.rules.proofs.Ways.{Updater, Way, waited, beganUpdate, beganQuery, readOwn, readNewest, readShared, readQuery}
 use Rattle.rules.proofs.Ways.{wroteOwn, wroteTaken, committedUpdate, committedQuery, abortedUpdate, abortedQuery}
@@ -70,7 +69,7 @@ module _ (S : Sizes) (G : Tables) (g : Good S G) where
       accessed :
           eqb i (S .slots) ≡ false → CallerIn c S G i → awaitsOther (G .txns) i sharedLock x ≡ false → T (liveUpdate (txn (G .txns) i)) → x < S .items
           → Goes S c G (Deadlock ∷ Wait ∷ []) (access S toRead i x 0 G)
-      accessed e C w up known = unfold access in (go (decision S toRead h i) (cell S G g x known i toRead))
+      accessed e C w up known = unfold access in (go (decision S toRead (G .txns) (G .locks) x i) (cell S G g x known i toRead))
         where
           h : Lock
           h = lock (G .locks) x
@@ -78,19 +77,20 @@ module _ (S : Sizes) (G : Tables) (g : Good S G) where
           U : Updater S G n i sharedLock x
           U = record { caller = caller-in S G n e; update = up; known = known; free = w }
 
-          granted-free : (d : Deed) → (T (blocked S h sharedLock i) → ⊥) → Way S G c d → (done S d G) .answer .code ≡ granted → Goes S c G (Deadlock ∷ Wait ∷ []) d
+          granted-free : (d : Deed) → (NeedsLock h sharedLock i → T (blockedFor S (G .txns) (G .locks) sharedLock x i) → ⊥) → Way S G c d → (done S d G) .answer .code ≡ granted → Goes S c G (Deadlock ∷ Wait ∷ []) d
           granted-free = free S G g c n refl only toRead x (refl, refl) asks C up known
 
-          go : (d : Cell) → CellIs S h i toRead d → Goes S c G (Deadlock ∷ Wait ∷ []) (cellDeed S i sharedLock x 0 G d)
-          go d (ownCell o) = unfold cellDeed done in (granted-free _ (own-unblocked S G g x known i o sharedLock) (readOwn n i x U o) refl)
-          go d (newestCell o) = unfold cellDeed done in (granted-free _ (shared-unblocked S G g x known i o) (readNewest n i x U o) refl)
+          go : (d : Cell) → CellIs S (G .txns) (G .locks) x i toRead d → Goes S c G (Deadlock ∷ Wait ∷ []) (cellDeed S i sharedLock x 0 G d)
+          go d (ownCell o) = unfold cellDeed done in (granted-free _ (λ n b. n .0 o) (readOwn n i x U o) refl)
+          go d (newestCell o) = unfold cellDeed done in (granted-free _ (λ n b. n .1 refl o) (readNewest n i x U o) refl)
           go d (shareCell o b) =
               unfold cellDeed done in
-              (granted-free _ b
+              (granted-free _ (λ n. b)
               (readShared n i x U o (none-excludes S G g x known i sharedLock (λ k. o (unfold holds in (or-right (holdsShared h i) _ k))) b)) refl)
           go d (readConflict o b) =
               unfold cellDeed in
-              (conflicting S G g c n refl only toRead x (refl, refl) asks C up known b
+              (conflicting S G g c n refl only toRead x (refl, refl) asks C up known
+              (λ k. o (unfold holds in (or-right (holdsShared h i) _ k)), λ z k. o (unfold holds in (or-left (holdsShared h i) _ k))) b
               (λ z. waited i sharedLock x
               (record {
                 caller = C;
@@ -133,7 +133,7 @@ module _ (S : Sizes) (G : Tables) (g : Good S G) where
       accessed :
           eqb i (S .slots) ≡ false → CallerIn c S G i → awaitsOther (G .txns) i exclusiveLock x ≡ false → T (liveUpdate (txn (G .txns) i)) → x < S .items
           → writesFurther S (G .locks) i x ≡ false → Goes S c G (Deadlock ∷ Wait ∷ []) (access S toWrite i x v G)
-      accessed e C w up known m = unfold access in (go (decision S toWrite h i) (cell S G g x known i toWrite))
+      accessed e C w up known m = unfold access in (go (decision S toWrite (G .txns) (G .locks) x i) (cell S G g x known i toWrite))
         where
           h : Lock
           h = lock (G .locks) x
@@ -141,24 +141,24 @@ module _ (S : Sizes) (G : Tables) (g : Good S G) where
           U : Updater S G n i exclusiveLock x
           U = record { caller = caller-in S G n e; update = up; known = known; free = w }
 
-          granted-free : (d : Deed) → (T (blocked S h exclusiveLock i) → ⊥) → Way S G c d → (done S d G) .answer .code ≡ granted → Goes S c G (Deadlock ∷ Wait ∷ []) d
+          granted-free : (d : Deed) → (NeedsLock h exclusiveLock i → T (blockedFor S (G .txns) (G .locks) exclusiveLock x i) → ⊥) → Way S G c d → (done S d G) .answer .code ≡ granted → Goes S c G (Deadlock ∷ Wait ∷ []) d
           granted-free = free S G g c n refl only toWrite x (refl, refl) asks C up known
 
           -- not held exclusively, so there is room for it
           room : (T (holdsExclusive h i) → ⊥) → exclusivesOf S (G .locks) i ≢ S .quota
           room o = has-room S (G .locks) i x m o
 
-          go : (d : Cell) → CellIs S h i toWrite d → Goes S c G (Deadlock ∷ Wait ∷ []) (cellDeed S i exclusiveLock x v G d)
-          go d (replaceCell o) = unfold cellDeed done in (granted-free _ (own-unblocked S G g x known i o exclusiveLock) (wroteOwn n i x v U o) refl)
+          go : (d : Cell) → CellIs S (G .txns) (G .locks) x i toWrite d → Goes S c G (Deadlock ∷ Wait ∷ []) (cellDeed S i exclusiveLock x v G d)
+          go d (replaceCell o) = unfold cellDeed done in (granted-free _ (λ n b. n .0 o) (wroteOwn n i x v U o) refl)
           go d (exchangeCell o b) =
               unfold cellDeed done in
-              (granted-free _ b (wroteTaken n i x v U (inl o) (none-holds S G g x known i b) (room (λ k. never-both S G g x known i i k o))) refl)
+              (granted-free _ (λ n. b) (wroteTaken n i x v U (inl o) (none-holds S G g x known i b) (room (λ k. never-both S G g x known i i k o))) refl)
           go d (excludeCell o b) =
               unfold cellDeed done in
-              (granted-free _ b (wroteTaken n i x v U (inr o) (none-holds S G g x known i b) (room (λ k. o (unfold holds in (or-right (holdsShared h i) _ k))))) refl)
+              (granted-free _ (λ n. b) (wroteTaken n i x v U (inr o) (none-holds S G g x known i b) (room (λ k. o (unfold holds in (or-right (holdsShared h i) _ k))))) refl)
           go d (writeConflict o b) =
               unfold cellDeed in
-              (conflicting S G g c n refl only toWrite x (refl, refl) asks C up known b
+              (conflicting S G g c n refl only toWrite x (refl, refl) asks C up known (o, λ z. absurd (omega arith)) b
               (λ z. waited i exclusiveLock x
               (record {
                 caller = C;

@@ -16,8 +16,8 @@ use Rattle.rules.proofs.Tests.{is-true}
 use Rattle.rules.proofs.Equal.{Good→good}
 use Rattle.rules.proofs.Steps.{step-good}
 use Rattle.rules.proofs.Begins.{begun-good}
-use Rattle.rules.proofs.Awaits.{waited-good, cleared-good}
-use Rattle.rules.proofs.Grants.{locked-good, shared-too, shared-others, replaced-too, replaced-others, taken-good, taken-others}
+use Rattle.rules.proofs.Waited.{only-this, waited-good, cleared-good}
+use Rattle.rules.proofs.Grants.{locked-good, shared-too, shared-others, shared-keeps, replaced-too, replaced-others, replaced-keeps, taken-good, taken-others, taken-keeps}
 use Rattle.rules.proofs.Ends.{ended-good, aborted-good, committed-good}
 use Rattle.rules.proofs.Judged.{way}
 use Rattle.rules.proofs.Ways.{Way, refused, waited, beganUpdate, beganQuery, readOwn, readNewest, readShared, readQuery}
@@ -37,7 +37,7 @@ module _ (S : Sizes) (enough : S .slots ≤ S .places) (G : Tables) (g : Good S 
   way-keeps : (c : Call) (d : Deed) → Way S G c d → Good S ((done S d G) .after)
   unfolding done queryRead
   way-keeps c d (refused r m) = g
-  way-keeps c d (waited s k x w) = waited-good S G g s (w .caller .inside) (w .update) k x (w .some) (w .may) (w .circle)
+  way-keeps c d (waited s k x w) = waited-good S G g s (w .caller .inside) (w .update) k x (w .some) (w .may) (w .circle) (λ h. only-this t s k x (w .free) h .1)
   way-keeps c d (beganUpdate s f n) = begun-good S G g _ _ s (f .inside) (f .free) (more-left n) (inl (refl, refl))
   way-keeps c d (beganQuery s f n) = begun-good S G g _ _ s (f .inside) (f .free) (more-left n) (inr (refl, refl))
   way-keeps c d (readOwn n s x U h) = cleared-good S G g s (U .caller .inside) (U .update)
@@ -46,19 +46,22 @@ module _ (S : Sizes) (enough : S .slots ≤ S .places) (G : Tables) (g : Good S 
       locked-good S G g s x (U .caller .inside) (U .update) (U .known) _
       (shared-too S t (lock l x) (g .lockGood x (U .known)) s (U .caller .inside) (U .update) f)
       (shared-others S t (lock l x) (g .lockGood x (U .known)) s (U .caller .inside) (U .update))
+      (shared-keeps S t (lock l x) (g .lockGood x (U .known)) s (U .caller .inside) (U .update))
       (λ k. inl (unfold holdsExclusive in k))
   way-keeps c d (readQuery n s x C q i) = g
   way-keeps c d (wroteOwn n s x v U h) =
       locked-good S G g s x (U .caller .inside) (U .update) (U .known) _
       (replaced-too S t (lock l x) (g .lockGood x (U .known)) s (U .caller .inside) (U .update) v h)
       (λ r e. replaced-others S t (lock l x) (g .lockGood x (U .known)) s (U .caller .inside) (U .update) v r)
+      (λ r e. replaced-keeps S t (lock l x) (g .lockGood x (U .known)) s (U .caller .inside) (U .update) v r)
       (λ k. inl h)
   way-keeps c d (wroteTaken n s x v U h alone room) =
       locked-good S G g s x (U .caller .inside) (U .update) (U .known) _
       (taken-good S t (lock l x) (g .lockGood x (U .known)) s (U .caller .inside) (U .update) alone v)
       (taken-others S t (lock l x) (g .lockGood x (U .known)) s (U .caller .inside) (U .update) alone v)
+      (taken-keeps S t (lock l x) (g .lockGood x (U .known)) s (U .caller .inside) (U .update) alone v)
       (λ k. inr room)
-  way-keeps c d (committedUpdate n s C u i m) = committed-good S enough G g s (C .inside) u m
+  way-keeps c d (committedUpdate n s C u i m) = committed-good S enough G g s (C .inside) u i m
   way-keeps c d (committedQuery n s C q) = ended-good S enough G g s (C .inside) q
   way-keeps c d (abortedUpdate n s C u) = aborted-good S enough G g s (C .inside) u
   way-keeps c d (abortedQuery n s C q) = ended-good S enough G g s (C .inside) q

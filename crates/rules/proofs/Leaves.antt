@@ -10,17 +10,19 @@ use lib.Dec.{T, eqb, eqb·zero-suc}
 use Rattle.names.specs.declared.Sizes.{Sizes}
 use Rattle.names.specs.Sizes.{lastWord}
 use Rattle.rules.specs.Words.{bit, withoutBit, row}
-use Rattle.rules.specs.Tables.{Tables, tables, txnWords, versionWords, versionRow, lastNumber, clock, Txn, txn, setTxn, noTxn, live}
+use Rattle.rules.specs.Tables.{Tables, tables, txnWords, versionWords, versionRow, lastNumber, clock, Txn, txn, setTxn, noTxn, withRank, live}
 use Rattle.rules.specs.Tables.{liveUpdate, noLock, Lock, lock, holdsShared, holdsExclusive, holds, released, release}
-use Rattle.rules.specs.Waits.{waitsFor}
-use Rattle.rules.specs.Good.{Good, GoodTxn, GoodLock, GoodQuota, GoodVersions}
+use Rattle.rules.specs.Waits.{awaits, awaitsOn, waitsFor}
+use Rattle.rules.specs.Changed.{leaving}
+use Rattle.rules.specs.Good.{Good, GoodTxn, GoodLock, GoodQuota, GoodVersions, GoodRanks}
 use Rattle.rules.proofs.Tests.{or-cases, or-left, same?, false-is}
 use Rattle.rules.proofs.Bits.{withoutBit-here, withoutBit-there, bit-none, no-bits}
 use Rattle.rules.proofs.Views.{length-setTxn, lastNumber-setTxn, clock-setTxn, txn-setTxn, txn-setTxn-other, lock-release, length-release}
 use Rattle.rules.proofs.EqualRows.{live-number}
 use Rattle.rules.proofs.Carried.{free-row, NoMore, no-more-same, no-more-holds, txn-carried, lock-carried}
 use Rattle.rules.proofs.Quotas.{exclusives-fewer, free-quota, quota-carried, quotas-but}
-use Rattle.rules.proofs.Walks.{waits-for→, →waits-for, waiter-within}
+use Rattle.rules.proofs.EqualRanks.{awaits→, awaitsOn→, waiter-inside}
+use Rattle.rules.proofs.Lines.{same-leaving, left-ranks, left-links}
 use Rattle.rules.proofs.Deadlock.{fewer-no-circle}
 use Rattle.rules.proofs.Grants.{conflicts-fewer}
 
@@ -66,6 +68,10 @@ module _ (s : ℕ) (h : Lock) where
       shared (inl e) c = absurd (released-none (subst (λ (m : ℕ). T (holds (released s h) m)) e (or-left (bit ((released s h) .shared) r) _ c)))
       shared (inr d) c = subst T (withoutBit-there (h .shared) s r d) (subst (λ (w : ℕ). T (bit w r)) released-shared c)
 
+  pub released-shares : (r : ℕ) → r ≢ s → holdsShared (released s h) r ≡ holdsShared h r
+  unfolding holdsShared
+  released-shares r d = ap (λ (w : ℕ). bit w r) released-shared ∙ withoutBit-there (h .shared) s r d
+
   pub released-lock : (S : Sizes) (t : List ℕ) → GoodLock S t h → GoodLock S t (released s h)
   released-lock S t g =
       record {
@@ -88,7 +94,7 @@ module _ (s : ℕ) (h : Lock) where
       working false e z = ap (λ (o : Lock). o .working) (released-kept e) ∙ g .noWorking (sym (ap (λ (o : Lock). o .exclusive) (released-kept e)) ∙ z)
 
 -- ---- all locks of the slot s go
-module _ (S : Sizes) (G : Tables) (g : Good S G) (s : ℕ) where
+module _ (S : Sizes) (G : Tables) (g : Good S G) (s : ℕ) (within : s < S .slots) (resting : (txn (G .txns) s) .awaitedLock ≡ noLock) where
   abbrev t : List ℕ
   t = G .txns
 
@@ -105,13 +111,37 @@ module _ (S : Sizes) (G : Tables) (g : Good S G) (s : ℕ) where
   fewer r x i = subst (λ (o : Lock). NoMore r (lock l x) o) (sym (freed x i)) (released-fewer s (lock l x) r)
 
   waiter : (a : ℕ) → (txn t a) .awaitedLock ≢ noLock → (txn t a) .awaitedItem < S .items
-  waiter a d =
-      g .txnGood a (waiter-within S t l (g .txnsExact) (λ r i. g .txnGood r i .itemKnown) (λ x i b h. g .lockGood x i .holders b h .0) a d) .itemKnown d
+  waiter a d = g .txnGood a (waiter-inside S t (g .txnsExact) a d) .itemKnown d
+
+  no-wait : T (awaits (txn t s)) → ⊥
+  no-wait h = awaits→ (txn t s) h resting
+
+  stay : (r : ℕ) → r < S .slots → r ≢ s → txn t r ≡ withRank (txn t r) (leaving t s (txn t r))
+  stay r i d = same-leaving t t s r no-wait refl
 
   links : (a b : ℕ) → T (waitsFor t l′ a b) → T (waitsFor t l a b)
   links a b h =
-      let w = waits-for→ t l′ a b h in
-      →waits-for t l a b (w .0) (w .1) (conflicts-fewer ((txn t a) .awaitedLock) b _ _ (fewer b ((txn t a) .awaitedItem) (waiter a (w .0))) (w .2))
+      left-links S t t l s within stay no-wait (g .ranksGood) l′ (g .txnsExact) a b
+      (λ w k c. conflicts-fewer k b _ _ (fewer b ((txn t a) .awaitedItem) (waiter a (awaits→ (txn t a) w))) c) h
+
+  -- the ranks: a waiter shares what it shared
+  ranked : GoodRanks S t l′
+  ranked =
+      record {
+        least = g .ranksGood .least;
+        most = g .ranksGood .most;
+        apart = g .ranksGood .apart;
+        exchangers = λ x a b i j h k c n.
+            let w = item x a h in
+            g .ranksGood .exchangers x a b i j h k (fewer a x w .shared c)
+            (λ z. n (subst T (sym (shared-still x w b (λ e. no-wait (subst (λ (m : ℕ). T (awaits (txn t m))) e (awaitsOn→ x (txn t b) k .0))))) z));
+      }
+    where
+      item : (x a : ℕ) → T (awaitsOn x (txn t a)) → x < S .items
+      item x a h = let w = awaitsOn→ x (txn t a) h in subst (λ (y : ℕ). y < S .items) (w .1) (waiter a (awaits→ (txn t a) (w .0)))
+
+      shared-still : (x : ℕ) → x < S .items → (r : ℕ) → r ≢ s → holdsShared (lock l′ x) r ≡ holdsShared (lock l x) r
+      shared-still x i r d = ap (λ (o : Lock). holdsShared o r) (freed x i) ∙ released-shares s (lock l x) r d
 
   pub released-good : Good S (tables (G .txns) (release S s (G .locks)) (G .versions))
   released-good =
@@ -126,6 +156,7 @@ module _ (S : Sizes) (G : Tables) (g : Good S G) (s : ℕ) where
         lockGood = λ x i. subst (λ (o : Lock). GoodLock S t o) (sym (freed x i)) (released-lock s (lock l x) S t (g .lockGood x i));
         quotaGood = λ r i. quota-carried S l l′ r (txn t r) (exclusives-fewer S l l′ r (λ x k. fewer r x k .exclusive)) (g .quotaGood r i);
         versionsGood = g .versionsGood;
+        ranksGood = ranked;
         noCircle = fewer-no-circle S G g t l′ links;
       }
 
@@ -136,7 +167,8 @@ module _ (S : Sizes) (G : Tables) (g : Good S G) (s : ℕ) where
 module _
     (S : Sizes) (G : Tables) (g : Good S G) (s : ℕ) (inside : s < S .slots)
     (empty : (x : ℕ) → x < S .items → T (holds (lock (G .locks) x) s) → ⊥)
-    (u : List ℕ) (size : length u ≡ txnWords S) (same : (r : ℕ) → txn u r ≡ txn (G .txns) r) (last : lastNumber u ≡ lastNumber (G .txns))
+    (resting : (txn (G .txns) s) .awaitedLock ≡ noLock)
+    (u : List ℕ) (size : length u ≡ txnWords S) (same : (r : ℕ) → r ≢ s → txn u r ≡ txn (G .txns) r) (last : lastNumber u ≡ lastNumber (G .txns))
     (later : clock (G .txns) ≤ clock u) (most : clock u ≤ lastWord)
     (v′ : List ℕ) (vsize : length v′ ≡ versionWords S)
     (rows′ : (x : ℕ) → x < S .items → GoodVersions S (setTxn u s noTxn) (row (versionRow S) x v′))
@@ -151,7 +183,7 @@ module _
     here = txn-setTxn u s noTxn S size inside
 
     there : (r : ℕ) → r ≢ s → txn t′ r ≡ txn t₀ r
-    there r d = txn-setTxn-other u s noTxn r d ∙ same r
+    there r d = txn-setTxn-other u s noTxn r d ∙ same r d
 
     not-here : (r : ℕ) → T (live (txn t′ r)) → r ≢ s
     not-here r h e = live-number (txn t′ r) h (ap (λ (m : ℕ). (txn t′ m) .number) e ∙ ap (λ (w : Txn). w .number) here)
@@ -186,13 +218,18 @@ module _
             g .distinct a b i j d (subst (λ (w : Txn). T (live w)) b-there h)
             (ap (λ (w : Txn). w .number) (sym (there a e)) ∙ z ∙ ap (λ (w : Txn). w .number) b-there)
 
+    none : T (awaits (txn t₀ s)) → ⊥
+    none h = awaits→ (txn t₀ s) h resting
+
+    others : (r : ℕ) → r < S .slots → r ≢ s → txn t′ r ≡ withRank (txn t₀ r) (leaving t₀ s (txn t₀ r))
+    others r i d = same-leaving t₀ t′ s r none (there r d)
+
+    gone : T (awaits (txn t′ s)) → ⊥
+    gone h = awaits→ (txn t′ s) h (ap (λ (w : Txn). w .awaitedLock) here)
+
     links′ : (a b : ℕ) → T (waitsFor t′ (G .locks) a b) → T (waitsFor t₀ (G .locks) a b)
-    unfolding waitsFor
-    links′ a b h = go (same? a s)
-      where
-        go : (a ≡ s) ⊎ (a ≢ s) → T (waitsFor t₀ (G .locks) a b)
-        go (inl e) = absurd (waits-for→ t′ (G .locks) a b h .0 (ap (λ (m : ℕ). (txn t′ m) .awaitedLock) e ∙ ap (λ (w : Txn). w .awaitedLock) here))
-        go (inr d) = rw (there a d) at h
+    links′ a b h =
+        left-links S t₀ t′ (G .locks) s inside others gone (g .ranksGood) (G .locks) (length-setTxn u s noTxn ∙ size) a b (λ w k c. c) h
 
     pub left-good : Good S (tables (setTxn u s noTxn) (G .locks) v′)
     left-good =
@@ -208,5 +245,6 @@ module _
               (λ r h q. subst (λ (w : Txn). T (liveUpdate w)) (sym (there r (λ e. empty x i (subst (λ (m : ℕ). T (holds (lock (G .locks) x) m)) e h)))) q) (g .lockGood x i);
           quotaGood = quotas;
           versionsGood = rows′;
+          ranksGood = left-ranks S t₀ t′ (G .locks) s inside others gone (g .ranksGood) (G .locks) (λ x r d. refl);
           noCircle = fewer-no-circle S G g t′ (G .locks) links′;
         }

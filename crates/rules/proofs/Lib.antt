@@ -11,8 +11,12 @@ pub mod Reading
 pub mod Leaving
 pub mod Starts
 pub mod Rewrites
+pub mod EqualRanks
 pub mod Circles
 pub mod Walks
+pub mod Lines
+pub mod Joins
+pub mod Noting
 pub mod EqualVersions
 pub mod Looked
 pub mod EqualRows
@@ -22,6 +26,7 @@ pub mod Deadlock
 pub mod Begins
 pub mod Quotas
 pub mod Awaits
+pub mod Waited
 pub mod Grants
 pub mod Leaves
 pub mod Ends
@@ -43,5 +48,7 @@ pub mod Calls
 pub mod Granted
 pub mod Spent
 pub mod Waiting
+pub mod InOrder
+pub mod Ranked
 pub mod Queries
 pub mod Bounded

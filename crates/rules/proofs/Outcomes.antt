@@ -36,7 +36,7 @@ module _ (S : Sizes) (enough : S .slots ≤ S .places) (G : Tables) (g : Good S 
   -- an exclusive lock is taken: from a shared one, or from none
   takes :
       (n s x v : ℕ) → Updater S G n s exclusiveLock x → T (holdsShared (lock (G .locks) x) s) ⊎ (T (holds (lock (G .locks) x) s) → ⊥)
-      → Granted S G (Write n x v) (says granted 0 0 0 (locked s x (taken (lock (G .locks) x) s v) G))
+      → Granted S G (Write n x v) (says granted 0 0 0 (locked S s x (taken (lock (G .locks) x) s v) G))
   takes n s x v U (inl h) = sharedExchanged n x v s U h (locked-changes S G g s (U .caller .inside) x (U .known) (taken (lock (G .locks) x) s v))
   takes n s x v U (inr h) = exclusiveTaken n x v s U h (locked-changes S G g s (U .caller .inside) x (U .known) (taken (lock (G .locks) x) s v))
 

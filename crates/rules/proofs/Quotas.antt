@@ -7,7 +7,7 @@ use mathlib.Core.List.{List}
 use native.Mathlib.Omega.{arith}
 use lib.Dec.{T, eqb, eqb→eq, leb→le, le→leb}
 use Rattle.names.specs.declared.Sizes.{Sizes}
-use Rattle.rules.specs.Tables.{Tables, Txn, txn, noTxn, live, liveUpdate, exclusiveLock, lock, holds, holdsShared, holdsExclusive, exclusivesOf}
+use Rattle.rules.specs.Tables.{withRank, Tables, Txn, txn, noTxn, live, liveUpdate, exclusiveLock, lock, holds, holdsShared, holdsExclusive, exclusivesOf}
 use Rattle.rules.specs.Good.{Good, GoodLock, GoodQuota}
 use Rattle.rules.specs.Tested.{quotaMost, fullIdle, quotaGood}
 use Rattle.rules.specs.Step.{writesFurther}
@@ -86,6 +86,19 @@ quotas-but S l t t′ s there new old r i = go (same? r s)
     go : (r ≡ s) ⊎ (r ≢ s) → GoodQuota S l r (txn t′ r)
     go (inl e) = subst (λ (m : ℕ). GoodQuota S l m (txn t′ m)) (sym e) new
     go (inr d) = subst (λ (w : Txn). GoodQuota S l r w) (sym (there r d)) (old r i)
+
+-- the others stay but for their ranks
+pub quotas-but-rank :
+    (S : Sizes) (l t t′ : List ℕ) (s : ℕ) (f : Txn → ℕ) → ((r : ℕ) → r < S .slots → r ≢ s → txn t′ r ≡ withRank (txn t r) (f (txn t r)))
+    → GoodQuota S l s (txn t′ s) → ((r : ℕ) → r < S .slots → GoodQuota S l r (txn t r)) → (r : ℕ) → r < S .slots → GoodQuota S l r (txn t′ r)
+unfolding liveUpdate live
+quotas-but-rank S l t t′ s f there new old r i = go (same? r s)
+  where
+    go : (r ≡ s) ⊎ (r ≢ s) → GoodQuota S l r (txn t′ r)
+    go (inl e) = subst (λ (m : ℕ). GoodQuota S l m (txn t′ m)) (sym e) new
+    go (inr d) =
+        subst (λ (w : Txn). GoodQuota S l r w) (sym (there r i d))
+        (record { most = λ u. old r i .most u; fullIdle = λ u e. old r i .fullIdle u e })
 
 -- ---- one more
 module _ (S : Sizes) (l : List ℕ) (s x : ℕ) where

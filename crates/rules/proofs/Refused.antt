@@ -1,21 +1,28 @@
 -- What a refusal leaves: the tables as they were, but for a wait's two words, and zeros beside the code.
-use Prim.Native.Nat.{ℕ}
-use mathlib.Core.Path.{_≡_, refl, sym, ap, subst}
+use Prim.Native.Nat.{ℕ, _<_}
+use mathlib.Core.Path.{_≡_, refl, sym, ap, _∙_, subst}
+use mathlib.Core.Bool.{Bool, true, false, cond}
+use mathlib.Core.List.{List}
 use mathlib.Core.Logic.{_≢_}
 use native.Mathlib.Omega.{arith}
 use Rattle.names.specs.declared.Sizes.{Sizes}
-use Rattle.rules.specs.Tables.{Tables, setAwaited}
+use Rattle.rules.specs.Tables.{Tables, Txn, txn, reranked}
+use Rattle.rules.specs.Waits.{awaitsOn, rankFor, raised, noted}
 use Rattle.rules.specs.Good.{Good}
 use Rattle.rules.specs.Tested.{good}
 use Rattle.rules.specs.Answers.{Call, granted, code, Refusal, Outcome, refuses, Wait, BadTables, Deed}
-use Rattle.rules.specs.Step.{step, act, judged, done, withTxns, queryRead}
+use Rattle.rules.specs.Step.{step, act, judged, done, withTxns, queryRead, awaitsOther}
 use Rattle.rules.specs.Conditions.{CallerIn, Wants}
 use Rattle.rules.specs.Changed.{AwaitedChanged}
-use Rattle.rules.specs.Promises.{RefusedUnchanged, RefusedZeros, WaitWords}
-use Rattle.rules.proofs.Tests.{true-is}
+use Rattle.rules.specs.Promises.{coming, RefusedUnchanged, RefusedZeros, WaitWords}
+use Rattle.rules.proofs.Tests.{true-is, false-is}
 use Rattle.rules.proofs.Equal.{good→Good}
 use Rattle.rules.proofs.Steps.{cond-case}
-use Rattle.rules.proofs.Changes.{setAwaited-changes}
+use Rattle.rules.proofs.Changes.{awaited-changes}
+use Rattle.rules.proofs.EqualRanks.{awaitsOn→}
+use Rattle.rules.proofs.Views.{length-reranked, word-reranked, txn-reranked}
+use Rattle.rules.proofs.Noting.{rank-known, noted-known, noted-new}
+use Rattle.rules.proofs.Waited.{only-this}
 use Rattle.rules.proofs.Judged.{way}
 use Rattle.rules.proofs.Ways.{refusal-code, Way, refused, waited, beganUpdate, beganQuery, readOwn, readNewest, readShared, readQuery}
 use Rattle.rules.proofs.Ways.{wroteOwn, wroteTaken, committedUpdate, committedQuery, abortedUpdate, abortedQuery}
@@ -24,12 +31,12 @@ use Rattle.rules.proofs.Ways.{wroteOwn, wroteTaken, committedUpdate, co
 data Ends (S : Sizes) (c : Call) (G : Tables) : Outcome → Type 0 where
   grant : (o : Outcome) → o .answer .code ≡ granted → Ends S c G o
   refusal : (r : Refusal) → code r ≢ granted → code r ≢ code Wait → Ends S c G (refuses r G)
-  waiting : (s k x : ℕ) → CallerIn c S G s → Wants c k x → Ends S c G (refuses Wait (withTxns G (setAwaited (G .txns) s k x)))
+  waiting : (s k x : ℕ) → CallerIn c S G s → Wants c k x → awaitsOther (G .txns) s k x ≡ false → Ends S c G (refuses Wait (withTxns G (noted S (G .txns) (G .locks) s k x)))
 
 way-ends : (S : Sizes) (c : Call) (G : Tables) (d : Deed) → Way S G c d → Ends S c G (done S d G)
 unfolding done queryRead
 way-ends S c G d (refused r m) = refusal r (refusal-code r) (m .1)
-way-ends S c G d (waited s k x w) = waiting s k x (w .caller) (w .wants)
+way-ends S c G d (waited s k x w) = waiting s k x (w .caller) (w .wants) (w .free)
 way-ends S c G d (beganUpdate s f l) = grant _ refl
 way-ends S c G d (beganQuery s f l) = grant _ refl
 way-ends S c G d (readOwn n s x U h) = grant _ refl
@@ -57,7 +64,7 @@ refused-unchanged S c G d w = go (step S c G) (step-ends S c G) d w
     go : (o : Outcome) → Ends S c G o → o .answer .code ≢ granted → o .answer .code ≢ code Wait → o .after ≡ G
     go o (grant p e) d w = absurd (d e)
     go o (refusal r m n) d w = refl
-    go o (waiting s k x C a) d w = absurd (w refl)
+    go o (waiting s k x C a f) d w = absurd (w refl)
 
 -- "What is not named is 0."
 pub refused-zeros : (S : Sizes) → RefusedZeros S
@@ -66,27 +73,57 @@ refused-zeros S c G d = go (step S c G) (step-ends S c G) d
     go : (o : Outcome) → Ends S c G o → o .answer .code ≢ granted → o .answer ≡ record { code = o .answer .code; value = 0; number = 0; looked = 0 }
     go o (grant p e) d = absurd (d e)
     go o (refusal r m n) d = refl
-    go o (waiting s k x C a) d = refl
+    go o (waiting s k x C a f) d = refl
 
 -- "only the caller's awaited fields"
 pub wait-is :
     (S : Sizes) (c : Call) (G : Tables) → (step S c G) .answer .code ≡ code Wait
-    → (s : ℕ) × (k : ℕ) × (x : ℕ) × CallerIn c S G s × Wants c k x × ((step S c G) .after ≡ withTxns G (setAwaited (G .txns) s k x))
+    → (s : ℕ) × (k : ℕ) × (x : ℕ) × CallerIn c S G s × Wants c k x × (awaitsOther (G .txns) s k x ≡ false) × ((step S c G) .after ≡ withTxns G (noted S (G .txns) (G .locks) s k x))
 wait-is S c G e = go (step S c G) (step-ends S c G) e
   where
     go :
         (o : Outcome) → Ends S c G o → o .answer .code ≡ code Wait
-        → (s : ℕ) × (k : ℕ) × (x : ℕ) × CallerIn c S G s × Wants c k x × (o .after ≡ withTxns G (setAwaited (G .txns) s k x))
+        → (s : ℕ) × (k : ℕ) × (x : ℕ) × CallerIn c S G s × Wants c k x × (awaitsOther (G .txns) s k x ≡ false) × (o .after ≡ withTxns G (noted S (G .txns) (G .locks) s k x))
     go o (grant p q) e = absurd (omega arith)
     go o (refusal r m n) e = absurd (n e)
-    go o (waiting s k x C a) e = (s, k, x, C, a, refl)
+    go o (waiting s k x C a f) e = (s, k, x, C, a, f, refl)
 
 -- a wait comes on good tables
-wait-good : (S : Sizes) (c : Call) (G : Tables) → (step S c G) .answer .code ≡ code Wait → Good S G
+pub wait-good : (S : Sizes) (c : Call) (G : Tables) → (step S c G) .answer .code ≡ code Wait → Good S G
 unfolding step
 wait-good S c G =
     cond-case (λ o. o .answer .code ≡ code Wait → Good S G) (good S G) (act S c G) (refuses BadTables G)
     (λ e z. good→Good S G (true-is e)) (λ e z. absurd (omega arith))
+
+-- the words of a noted wait
+noted-changes :
+    (S : Sizes) (G : Tables) → Good S G → (s k x : ℕ) → s < S .slots → awaitsOther (G .txns) s k x ≡ false
+    → AwaitedChanged S s k x (rankFor S (G .txns) (G .locks) s x) (coming S G s x) (G .txns) (noted S (G .txns) (G .locks) s k x)
+noted-changes S G g s k x i f = go (awaitsOn x (txn t s)) refl
+  where
+    t : List ℕ
+    t = G .txns
+
+    p : ℕ
+    p = rankFor S t (G .locks) s x
+
+    go : (b : Bool) → awaitsOn x (txn t s) ≡ b → AwaitedChanged S s k x p (coming S G s x) t (noted S t (G .locks) s k x)
+    go true e =
+        let w = only-this t s k x f (awaitsOn→ x (txn t s) (true-is e) .0) in
+        subst (λ (u : List ℕ). AwaitedChanged S s k x p (coming S G s x) t u) (sym (noted-known S t (G .locks) s k x (true-is e)))
+        (record {
+          size = refl;
+          awaitedLock = unfold txn in (w .0);
+          awaitedItem = unfold txn in (awaitsOn→ x (txn t s) (true-is e) .1);
+          rank = unfold txn rankFor in (sym (rank-known S t (G .locks) s x (true-is e)));
+          ranks = λ r j d. unfold txn in (sym (ap (λ (b : Bool). cond b ((txn t r) .rank) (raised x p (txn t r))) e));
+          others = λ j a b o. refl;
+        })
+    go false e =
+        subst (λ (u : List ℕ). AwaitedChanged S s k x p (coming S G s x) t u) (sym (noted-new S t (G .locks) s k x (false-is e)))
+        (awaited-changes S t (g .txnsExact) s i (reranked (S .slots) (raised x p) t) (coming S G s x) (length-reranked (S .slots) (raised x p) t)
+        (λ r j. ap (λ (w : Txn). w .rank) (txn-reranked S t (g .txnsExact) (S .slots) (omega arith) (raised x p) r j) ∙ sym (ap (λ (b : Bool). cond b ((txn t r) .rank) (raised x p (txn t r))) e))
+        (word-reranked (S .slots) (raised x p) t) k x p)
 
 pub wait-words : (S : Sizes) → WaitWords S
 wait-words S c G e =
@@ -99,8 +136,8 @@ wait-words S c G e =
       caller = w .3;
       wants = w .4;
       txns =
-          subst (λ (H : Tables). AwaitedChanged (w .0) (w .1) (w .2) (G .txns) (H .txns)) (sym (w .5))
-          (setAwaited-changes S (G .txns) (g .txnsExact) (w .0) (w .3 .inside) (w .1) (w .2));
-      locks = ap (λ (H : Tables). H .locks) (w .5);
-      versions = ap (λ (H : Tables). H .versions) (w .5);
+          subst (λ (H : Tables). AwaitedChanged S (w .0) (w .1) (w .2) (rankFor S (G .txns) (G .locks) (w .0) (w .2)) (coming S G (w .0) (w .2)) (G .txns) (H .txns)) (sym (w .6))
+          (noted-changes S G g (w .0) (w .1) (w .2) (w .3 .inside) (w .5));
+      locks = ap (λ (H : Tables). H .locks) (w .6);
+      versions = ap (λ (H : Tables). H .versions) (w .6);
     }

@@ -6,8 +6,8 @@ use mathlib.Core.Bool.{Bool, true, false, cond}
 use native.Mathlib.Omega.{arith}
 use lib.Dec.{T}
 use Rattle.names.specs.declared.Sizes.{Sizes}
-use Rattle.rules.specs.Tables.{Tables, txn, setAwaited, liveUpdate, lock, holdsExclusive, exclusivesOf, exclusiveLock}
-use Rattle.rules.specs.Waits.{circleAt}
+use Rattle.rules.specs.Tables.{Tables, txn, liveUpdate, lock, holdsExclusive, exclusivesOf, exclusiveLock}
+use Rattle.rules.specs.Waits.{noted, circleAt}
 use Rattle.rules.specs.Good.{Good}
 use Rattle.rules.specs.Locks.{toWrite, Cell, decision}
 use Rattle.rules.specs.Locks.{OwnValue, ReplaceValue, NewestValue, ExchangeLock, TakeShared, TakeExclusive, Conflict}
@@ -25,7 +25,7 @@ module _
     -- the conflict is asked later, and answers 0, 1 or 2
     access-below : (done S (access S toWrite s x v G) G) .answer .code < code QuotaSpent
     unfolding access cellDeed conflicted done
-    access-below = go (decision S toWrite (lock (G .locks) x) s)
+    access-below = go (decision S toWrite (G .txns) (G .locks) x s)
       where
         waits : (b : Bool) → (done S (cond b (Refused Deadlock) (Waits (asSlot s) exclusiveLock (asItem x))) G) .answer .code < code QuotaSpent
         waits true = omega arith
@@ -38,7 +38,7 @@ module _
         go ExchangeLock = omega arith
         go TakeShared = omega arith
         go TakeExclusive = omega arith
-        go Conflict = waits (circleAt S (setAwaited (G .txns) s exclusiveLock x) (G .locks) s)
+        go Conflict = waits (circleAt S (noted S (G .txns) (G .locks) s exclusiveLock x) (G .locks) s)
 
     -- exactly where it holds as many items exclusively as it may, and not the one that it writes
     pub spent-exactly :

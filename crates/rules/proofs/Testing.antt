@@ -10,21 +10,21 @@ use lib.Dec.{T, eqb, leb, eqb→eq}
 use borrow.Author.Tests.{eqb-true, eqb-false, leb-true, leb-false}
 use Rattle.names.specs.declared.Sizes.{Sizes}
 use Rattle.names.specs.Sizes.{lastWord}
-use Rattle.rules.specs.Tables.{Tables, lastNumber, txn, setAwaited, noLock, exclusiveLock}
+use Rattle.rules.specs.Tables.{Tables, lastNumber, txn, noLock, exclusiveLock}
 use Rattle.rules.specs.Tables.{liveUpdate, liveQuery, lock, holdsExclusive, exclusivesOf, slotOf, freeSlot}
-use Rattle.rules.specs.Waits.{blocks, blocked, circleAt}
+use Rattle.rules.specs.Waits.{rankFor, blocks, noted, circleAt}
 use Rattle.rules.specs.Good.{Good}
 use Rattle.rules.specs.Locks.{Asked, wanted}
 use Rattle.rules.specs.Answers.{Call, granted, code, Refusal, asSlot, asItem, asStamp}
 use Rattle.rules.specs.Answers.{Wait, Deadlock, UnknownTransaction, UnknownItem, StillWaiting}
 use Rattle.rules.specs.Answers.{NoSlot, NumbersSpent, ClockSpent, QuotaSpent, Deed, Refused, Begins, Waits}
 use Rattle.rules.specs.Step.{done, beginBy, conflicted, awaitsOther, writesFurther}
-use Rattle.rules.specs.Conditions.{Names, Wants, CallerIn, ConflictIn, Circle, When, Answered}
+use Rattle.rules.specs.Conditions.{Names, Wants, CallerIn, NeedsLock, ConflictIn, Circle, When, Answered}
 use Rattle.rules.proofs.Tests.{and-left, and-right, and-both, true-is, false-is, not-make, not-use, ne-make, ne-use, eq-make}
 use Rattle.rules.proofs.Quotas.{has-room, further→}
 use Rattle.rules.proofs.Deadlock.{circle-is}
 use Rattle.rules.proofs.Callers.{caller-is, caller-none, caller-found, Free, free-found, free-none, query-not-update}
-use Rattle.rules.proofs.Decisions.{blocked-other, wanted-lock}
+use Rattle.rules.proofs.Decisions.{blockedFor, blocked-other, wanted-lock}
 use Rattle.rules.proofs.Ways.{Mere, Way, refused}
 
 module _ (S : Sizes) (c : Call) (G : Tables) where
@@ -174,44 +174,50 @@ module _ (S : Sizes) (G : Tables) (g : Good S G) (c : Call) (n : ℕ) (says-n : 
             (at-caller (λ (i : ℕ). exclusivesOf S (G .locks) i ≡ S .quota) r D q)
 
     -- whoever is in conflict is the caller, with what it asks for
-    conflict-here : (r k y : ℕ) → ConflictIn c S G r k y → T (blocked S (lock (G .locks) x) (wanted a) s)
+    conflict-here : (r k y : ℕ) → ConflictIn c S G r k y → NeedsLock (lock (G .locks) x) (wanted a) s × T (blockedFor S (G .txns) (G .locks) (wanted a) x s)
     conflict-here r k y C =
         let p = only-asks k y (C .wants) in
-        let e = there r (C .caller) in
-        blocked-other S (lock (G .locks) x) (wanted a) s .1 (
-          C .other,
-          C .otherInside,
-          subst (λ (z : ℕ). T (blocks (lock (G .locks) z) (wanted a) s (C .other))) (p .1)
-              (subst (λ (z : ℕ). T (blocks (lock (G .locks) y) z s (C .other))) (p .0)
-              (subst (λ (z : ℕ). T (blocks (lock (G .locks) y) k z (C .other))) (sym e) (C .otherBlocks))),
+        let e = there r (C .caller) in (
+          subst (λ (z : ℕ). NeedsLock (lock (G .locks) z) (wanted a) s) (p .1)
+              (subst (λ (z : ℕ). NeedsLock (lock (G .locks) y) z s) (p .0) (subst (λ (z : ℕ). NeedsLock (lock (G .locks) y) k z) (sym e) (C .further))),
+          blocked-other S (G .txns) (G .locks) (wanted a) x s .1 (
+            C .other,
+            C .otherInside,
+            subst (λ (z : ℕ). T (blocks (G .txns) (G .locks) (wanted a) z (rankFor S (G .txns) (G .locks) s z) s (C .other))) (p .1)
+                (subst (λ (z : ℕ). T (blocks (G .txns) (G .locks) z y (rankFor S (G .txns) (G .locks) s y) s (C .other))) (p .0)
+                (subst (λ (z : ℕ). T (blocks (G .txns) (G .locks) k y (rankFor S (G .txns) (G .locks) z y) z (C .other))) (sym e) (C .otherBlocks))),
+          ),
         )
 
-    circle-here : (r k y : ℕ) → ConflictIn c S G r k y → Circle G r k y → Circle G s (wanted a) x
+    circle-here : (r k y : ℕ) → ConflictIn c S G r k y → Circle S G r k y → Circle S G s (wanted a) x
     circle-here r k y C w =
         let p = only-asks k y (C .wants) in
         let e = there r (C .caller) in
-        subst (λ (z : ℕ). Circle G s (wanted a) z) (p .1)
-        (subst (λ (z : ℕ). Circle G s z y) (p .0) (subst (λ (z : ℕ). Circle G z k y) (sym e) w))
+        subst (λ (z : ℕ). Circle S G s (wanted a) z) (p .1)
+        (subst (λ (z : ℕ). Circle S G s z y) (p .0) (subst (λ (z : ℕ). Circle S G z k y) (sym e) w))
 
     -- an update in no conflict is granted; one in conflict waits, or is refused where its wait would close a circle
     module _ (C : CallerIn c S G s) (up : T (liveUpdate (txn (G .txns) s))) (known : x < S .items) where
-      pub free : (d : Deed) → (T (blocked S (lock (G .locks) x) (wanted a) s) → ⊥) → Way S G c d → (done S d G) .answer .code ≡ granted → Goes S c G (Deadlock ∷ Wait ∷ []) d
-      free d b w e = unblocked S c G d (λ r k y K. b (conflict-here r k y K)) w e
+      pub free :
+          (d : Deed) → (NeedsLock (lock (G .locks) x) (wanted a) s → T (blockedFor S (G .txns) (G .locks) (wanted a) x s) → ⊥)
+          → Way S G c d → (done S d G) .answer .code ≡ granted → Goes S c G (Deadlock ∷ Wait ∷ []) d
+      free d b w e = unblocked S c G d (λ r k y K. let m = conflict-here r k y K in b (m .0) (m .1)) w e
 
       pub conflicting :
-          T (blocked S (lock (G .locks) x) (wanted a) s) → ((Circle G s (wanted a) x → ⊥) → Way S G c (Waits (asSlot s) (wanted a) (asItem x)))
+          NeedsLock (lock (G .locks) x) (wanted a) s → T (blockedFor S (G .txns) (G .locks) (wanted a) x s)
+          → ((Circle S G s (wanted a) x → ⊥) → Way S G c (Waits (asSlot s) (wanted a) (asItem x)))
           → Goes S c G (Deadlock ∷ Wait ∷ []) (conflicted S s (wanted a) x G)
       unfolding conflicted When Answered done
-      conflicting t w =
-          tests S c G Deadlock (Wait ∷ []) (circleAt S (setAwaited (G .txns) s (wanted a) x) (G .locks) s) _ (λ z. omega arith, λ z. omega arith)
+      conflicting n t w =
+          tests S c G Deadlock (Wait ∷ []) (circleAt S (noted S (G .txns) (G .locks) s (wanted a) x) (G .locks) s) _ (λ z. omega arith, λ z. omega arith)
           (λ e. (s, wanted a, x, K, I .0 (true-is e)))
           (λ e w. false-is e (I .1 (circle-here (w .0) (w .1) (w .2) (w .3) (w .4))))
           (λ e. (w (λ z. false-is e (I .1 z)), inl ((s, wanted a, x, K, λ w. false-is e (I .1 w)), refl)))
         where
-          I : T (circleAt S (setAwaited (G .txns) s (wanted a) x) (G .locks) s) ↔ Circle G s (wanted a) x
+          I : T (circleAt S (noted S (G .txns) (G .locks) s (wanted a) x) (G .locks) s) ↔ Circle S G s (wanted a) x
           I = circle-is S G g s (wanted a) x (C .inside) known (wanted-lock a)
 
           K : ConflictIn c S G s (wanted a) x
           K =
-              let o = blocked-other S (lock (G .locks) x) (wanted a) s .0 t in
-              record { caller = C; update = up; wants = asks; other = o .0; otherInside = o .1; otherBlocks = o .2 }
+              let o = blocked-other S (G .txns) (G .locks) (wanted a) x s .0 t in
+              record { caller = C; update = up; wants = asks; further = n; other = o .0; otherInside = o .1; otherBlocks = o .2 }

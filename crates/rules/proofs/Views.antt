@@ -12,10 +12,11 @@ use lib.Seq.{getD-set-same, getD-set-other, set-getD, set-set, set-comm}
 use lib.Dec.{ltb}
 use borrow.Author.Tests.{ltb-true, ltb-false}
 use Rattle.names.specs.declared.Sizes.{Sizes}
-use Rattle.names.specs.Layout.{txnHead, txnNumberAt, txnKindAt, txnStartAt, txnLockAt, txnItemAt, txnRow}
+use Rattle.names.specs.Layout.{txnHead, txnNumberAt, txnKindAt, txnStartAt, txnLockAt, txnItemAt, txnRankAt, txnRow}
 use Rattle.rules.specs.Words.{row}
-use Rattle.rules.specs.Tables.{behind, wordsFrom, putFrom, Txn, txnIn, txnWordsOf, txn, setTxn, noTxn, newTxn, txnAt, txnWords, lastNumber, clock, setAwaited}
+use Rattle.rules.specs.Tables.{behind, wordsFrom, putFrom, Txn, txnIn, txnWordsOf, txn, setTxn, noTxn, newTxn, txnAt, txnWords, lastNumber, clock, setAwaited, withRank, reranked}
 use Rattle.rules.specs.Tables.{Lock, lock, setLock, lockRow, lockWords, lockIn, lockWordsOf, released, release}
+use Rattle.rules.specs.Changed.{NoRank}
 use Rattle.rules.proofs.Rows.{row-word, row-mapRows, length-mapRows}
 
 below? : (a b : ℕ) → (a < b) ⊎ (b ≤ a)
@@ -139,26 +140,79 @@ setTxn-new t s n k q =
     free = txnWordsOf noTxn
 
 -- the row with other awaited fields
-abbrev pub awaiting : Txn → ℕ → ℕ → Txn
-awaiting r k x = txnIn (set (set (txnWordsOf r) txnLockAt k) txnItemAt x)
+abbrev pub awaiting : Txn → ℕ → ℕ → ℕ → Txn
+awaiting r k x p = txnIn (set (set (set (txnWordsOf r) txnLockAt k) txnItemAt x) txnRankAt p)
 
 -- to write the awaited fields is to write the row with these fields
-pub setAwaited-row : (t : List ℕ) (s k x : ℕ) → setAwaited t s k x ≡ setTxn t s (awaiting (txn t s) k x)
+pub setAwaited-row : (t : List ℕ) (s k x p : ℕ) → setAwaited t s k x p ≡ setTxn t s (awaiting (txn t s) k x p)
 unfolding setAwaited setTxn txn
-setAwaited-row t s k x =
+setAwaited-row t s k x p =
     sym
+    (put-set (txnAt s) (set (set ws txnLockAt k) txnItemAt x) t 0 txnRankAt p (omega arith)
+    ∙ ap (λ (u : List ℕ). set u (txnAt s + txnRankAt) p)
     (put-set (txnAt s) (set ws txnLockAt k) t 0 txnItemAt x (omega arith)
     ∙ ap (λ (u : List ℕ). set u (txnAt s + txnItemAt) x)
     (put-set (txnAt s) ws t 0 txnLockAt k (omega arith)
-    ∙ ap (λ (u : List ℕ). set u (txnAt s + txnLockAt) k) (put-words (txnAt s) txnRow t 0)))
+    ∙ ap (λ (u : List ℕ). set u (txnAt s + txnLockAt) k) (put-words (txnAt s) txnRow t 0))))
   where
     ws : List ℕ
     ws = wordsFrom t (txnAt s) 0 txnRow
 
 -- to write back what is there changes nothing
-pub setAwaited-same : (t : List ℕ) (s : ℕ) → setAwaited t s ((txn t s) .awaitedLock) ((txn t s) .awaitedItem) ≡ t
+pub setAwaited-same : (t : List ℕ) (s : ℕ) → setAwaited t s ((txn t s) .awaitedLock) ((txn t s) .awaitedItem) ((txn t s) .rank) ≡ t
 unfolding setAwaited txn
-setAwaited-same t s = rw (set-getD t (txnAt s + txnLockAt) 0, set-getD t (txnAt s + txnItemAt) 0)
+setAwaited-same t s =
+    rw (set-getD t (txnAt s + txnLockAt) 0, set-getD t (txnAt s + txnItemAt) 0, set-getD t (txnAt s + txnRankAt) 0)
+
+-- to write the rank is to write the row with this rank
+rank-row : (t : List ℕ) (s p : ℕ) → set t (txnAt s + txnRankAt) p ≡ setTxn t s (withRank (txn t s) p)
+unfolding setTxn txn
+rank-row t s p =
+    sym
+    (put-set (txnAt s) (wordsFrom t (txnAt s) 0 txnRow) t 0 txnRankAt p (omega arith)
+    ∙ ap (λ (u : List ℕ). set u (txnAt s + txnRankAt) p) (put-words (txnAt s) txnRow t 0))
+
+-- ---- the ranks of the n first rows
+pub length-reranked : (n : ℕ) (f : Txn → ℕ) (t : List ℕ) → length (reranked n f t) ≡ length t
+unfolding reranked
+length-reranked zero f t = refl
+length-reranked (suc n) f t = length-set (reranked n f t) (txnAt n + txnRankAt) (f (txn t n)) ∙ length-reranked n f t
+
+-- a word that is none of them
+pub word-reranked : (n : ℕ) (f : Txn → ℕ) (t : List ℕ) (j : ℕ) → NoRank n j → getD (reranked n f t) j 0 ≡ getD t j 0
+unfolding reranked
+word-reranked zero f t j d = refl
+word-reranked (suc n) f t j d =
+    getD-set-other (reranked n f t) (txnAt n + txnRankAt) j (f (txn t n)) 0 (d n (omega arith)) ∙ word-reranked n f t j (λ r h. d r (omega arith))
+
+-- a row behind them, and one of them
+pub txn-reranked-out : (n : ℕ) (f : Txn → ℕ) (t : List ℕ) (s : ℕ) → n ≤ s → txn (reranked n f t) s ≡ txn t s
+unfolding reranked
+txn-reranked-out zero f t s h = refl
+txn-reranked-out (suc n) f t s h =
+    ap (λ (u : List ℕ). txn u s) (rank-row (reranked n f t) n (f (txn t n)))
+    ∙ txn-setTxn-other (reranked n f t) n (withRank (txn (reranked n f t) n) (f (txn t n))) s (λ e. omega arith)
+    ∙ txn-reranked-out n f t s (omega arith)
+
+pub txn-reranked :
+    (S : Sizes) (t : List ℕ) → length t ≡ txnWords S → (n : ℕ) → n ≤ S .slots → (f : Txn → ℕ) (s : ℕ) → s < n
+    → txn (reranked n f t) s ≡ withRank (txn t s) (f (txn t s))
+unfolding reranked
+txn-reranked S t e zero m f s h = absurd (omega arith)
+txn-reranked S t e (suc n) m f s h =
+    ap (λ (u : List ℕ). txn u s) (rank-row (reranked n f t) n (f (txn t n))) ∙ go (below? s n) (txn-reranked S t e n (omega arith) f s)
+  where
+    v : Txn
+    v = withRank (txn (reranked n f t) n) (f (txn t n))
+
+    go : (s < n) ⊎ (n ≤ s) → (s < n → txn (reranked n f t) s ≡ withRank (txn t s) (f (txn t s))) → txn (setTxn (reranked n f t) n v) s ≡ withRank (txn t s) (f (txn t s))
+    go (inl l) r = txn-setTxn-other (reranked n f t) n v s (λ q. omega arith) ∙ r l
+    go (inr l) r =
+        let q : s ≡ n = omega arith in
+        ap (λ (m : ℕ). txn (setTxn (reranked n f t) n v) m) q
+        ∙ txn-setTxn (reranked n f t) n v S (length-reranked n f t ∙ e) (omega arith)
+        ∙ ap (λ (w : Txn). withRank w (f (txn t n))) (txn-reranked-out n f t n (omega arith))
+        ∙ ap (λ (m : ℕ). withRank (txn t m) (f (txn t m))) (sym q)
 
 -- a word before the rows changes no row
 pub txn-top : (t : List ℕ) (j w q : ℕ) → j < txnHead → txn (set t j w) q ≡ txn t q

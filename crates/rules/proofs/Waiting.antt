@@ -9,16 +9,20 @@ use lib.Dec.{T, eqb, eqb→eq}
 use lib.ListN.{set}
 use Rattle.names.specs.declared.Sizes.{Sizes}
 use Rattle.names.specs.Layout.{txnHead, lastNumberAt, clockAt}
-use Rattle.rules.specs.Tables.{Tables, Txn, txn, setTxn, setAwaited, noTxn, live, liveQuery, noLock}
+use Rattle.rules.specs.Tables.{Tables, Txn, txn, setTxn, withRank, noTxn, live, liveQuery, noLock}
+use Rattle.rules.specs.Waits.{awaitsOn, noted, closedUp}
 use Rattle.rules.specs.Good.{Good}
 use Rattle.rules.specs.Answers.{Outcome, Call, BeginUpdate, BeginQuery, Read, Write, Commit, Abort, Deed, granted, code, Refusal}
 use Rattle.rules.specs.Answers.{Wait, Deadlock, UnknownTransaction, UnknownItem, QueryMayNotWrite, StillWaiting, NoSlot, NumbersSpent, ClockSpent, BadTables, QuotaSpent}
 use Rattle.rules.specs.Step.{step, act, judged, done, begun, cleared, locked, committed, ended, aborted, awaitsOther, queryRead, withTxns}
 use Rattle.rules.specs.Conditions.{Caller, Free, Updater, CallerIn, ConflictIn, Names, Wants, Circle, When, order, Answered}
-use Rattle.rules.specs.Promises.{codeOf, after, StaysWaiting, OthersLeave, RepeatedWaits}
+use Rattle.rules.specs.Promises.{codeOf, after, SameButRank, StaysWaiting, OthersLeave, RepeatedWaits}
 use Rattle.rules.proofs.Tests.{is-true, false-is, true-is, and-both, and-left, and-right, ne-make, not-make, same?}
 use Rattle.rules.proofs.Equal.{Good→good}
-use Rattle.rules.proofs.Views.{awaiting, setAwaited-row, setAwaited-same, txn-setTxn-other, txn-top}
+use Rattle.rules.proofs.Views.{txn-setTxn-other, txn-top}
+use Rattle.rules.proofs.EqualRanks.{→awaits, awaitsOn→, →awaitsOn}
+use Rattle.rules.proofs.Noting.{noted-known, noted-there, closed-row}
+use Rattle.rules.proofs.Waited.{only-this, cleared-there}
 use Rattle.rules.proofs.Steps.{step-good}
 use Rattle.rules.proofs.Callers.{caller-found}
 use Rattle.rules.proofs.Deadlock.{repeated}
@@ -45,7 +49,7 @@ one-name (Write i x v) m n a b = sym a ∙ b
 one-name (Commit i) m n a b = sym a ∙ b
 one-name (Abort i) m n a b = sym a ∙ b
 
-one-want : (c : Call) (j k x y : ℕ) → Wants c j x → Wants c k y → (j ≡ k) × (x ≡ y)
+pub one-want : (c : Call) (j k x y : ℕ) → Wants c j x → Wants c k y → (j ≡ k) × (x ≡ y)
 one-want BeginUpdate j k x y a b = absurd a
 one-want BeginQuery j k x y a b = absurd a
 one-want (Read i z) j k x y a b = (a .0 ∙ sym (b .0), sym (a .1) ∙ b .1)
@@ -54,11 +58,18 @@ one-want (Commit i) j k x y a b = absurd a
 one-want (Abort i) j k x y a b = absurd a
 
 -- and has one caller
-one-caller : (S : Sizes) (G : Tables) → Good S G → (c : Call) (r s : ℕ) → CallerIn c S G r → CallerIn c S G s → r ≡ s
+pub one-caller : (S : Sizes) (G : Tables) → Good S G → (c : Call) (r s : ℕ) → CallerIn c S G r → CallerIn c S G s → r ≡ s
 one-caller S G g c r s C D =
     let e = one-name c ((txn (G .txns) r) .number) ((txn (G .txns) s) .number) (C .named) (D .named) in
     sym (caller-found S G g r ((txn (G .txns) s) .number) (C .inside) (C .alive) e)
     ∙ caller-found S G g s ((txn (G .txns) s) .number) (D .inside) (D .alive) refl
+
+-- the same row, and one with another rank
+pub same-row : {q r : Txn} → q ≡ r → SameButRank q r
+same-row {q} {r} e = e ∙ ap (λ (w : Txn). withRank r (w .rank)) (sym e)
+
+pub but-rank : (r : Txn) {q : Txn} {p : ℕ} → q ≡ withRank r p → SameButRank q r
+but-rank r {q} {p} e = e ∙ ap (λ (w : Txn). withRank r (w .rank)) (sym e)
 
 module _ (S : Sizes) (G : Tables) (g : Good S G) (s : ℕ) (inside : s < S .slots) where
   abbrev t : List ℕ
@@ -67,20 +78,29 @@ module _ (S : Sizes) (G : Tables) (g : Good S G) (s : ℕ) (inside : s < S .slot
   abbrev R : Txn
   R = txn t s
 
-  -- ---- a deed writes one row at most, that of its slot r
+  -- ---- a deed writes one row at most, that of its slot r, and ranks
   module _ (r : ℕ) (d : s ≢ r) where
-    awaited-other : (k x : ℕ) → txn (setAwaited t r k x) s ≡ R
-    awaited-other k x = ap (λ (u : List ℕ). txn u s) (setAwaited-row t r k x) ∙ txn-setTxn-other t r _ s d
+    noted-other : r < S .slots → (k x : ℕ) → SameButRank (txn (noted S t (G .locks) r k x) s) R
+    noted-other i k x = go (awaitsOn x (txn t r)) refl
+      where
+        go : (b : Bool) → awaitsOn x (txn t r) ≡ b → SameButRank (txn (noted S t (G .locks) r k x) s) R
+        go true e = same-row (ap (λ (u : List ℕ). txn u s) (noted-known S t (G .locks) r k x (true-is e)))
+        go false e = but-rank R (noted-there S t (G .locks) r k x (false-is e) (g .txnsExact) s inside d)
 
-    cleared-other : txn (cleared t r) s ≡ R
-    unfolding cleared
-    cleared-other = awaited-other noLock 0
+    cleared-other : r < S .slots → SameButRank (txn (cleared S t r) s) R
+    cleared-other i = but-rank R (cleared-there S t (g .txnsExact) r i s inside d)
 
-    left-other : (w v : ℕ) → w < txnHead → (Q : Txn) → txn (setTxn (set t w v) r Q) s ≡ R
-    left-other w v h Q = txn-setTxn-other (set t w v) r Q s d ∙ txn-top t w v s h
+    left-other : (w v : ℕ) → w < txnHead → (Q : Txn) → SameButRank (txn (setTxn (set t w v) r Q) s) R
+    left-other w v h Q = same-row (txn-setTxn-other (set t w v) r Q s d ∙ txn-top t w v s h)
+
+    gone-other : (Q : Txn) → SameButRank (txn (setTxn t r Q) s) R
+    gone-other Q = same-row (txn-setTxn-other t r Q s d)
+
+    aborted-other : (Q : Txn) → SameButRank (txn (setTxn (closedUp S t r) r Q) s) R
+    aborted-other Q = but-rank R (txn-setTxn-other (closedUp S t r) r Q s d ∙ closed-row S t r (g .txnsExact) s inside)
 
   abbrev Same : Deed → Type 0
-  Same d = txn ((done S d G) .after .txns) s ≡ R
+  Same d = SameButRank (txn ((done S d G) .after .txns) s) R
 
   -- ---- calls by others
   module _ (lives : T (live R)) where
@@ -95,39 +115,30 @@ module _ (S : Sizes) (G : Tables) (g : Good S G) (s : ℕ) (inside : s < S .slot
 
     other-row : (c : Call) (d : Deed) → Way S G c d → (Names c (R .number) → ⊥) → Same d
     unfolding done queryRead begun locked committed ended aborted
-    other-row c d (refused r m) o = refl
-    other-row c d (waited r k x w) o = awaited-other r (apart c o r (w .caller .named)) k x
+    other-row c d (refused r m) o = same-row refl
+    other-row c d (waited r k x w) o = noted-other r (apart c o r (w .caller .named)) (w .caller .inside) k x
     other-row c d (beganUpdate r F l) o = left-other r (new r F) lastNumberAt _ (omega arith) _
     other-row c d (beganQuery r F l) o = left-other r (new r F) lastNumberAt _ (omega arith) _
-    other-row c d (readOwn n r x U h) o = cleared-other r (named c o n r refl (U .caller))
-    other-row c d (readNewest n r x U h) o = cleared-other r (named c o n r refl (U .caller))
-    other-row c d (readShared n r x U h f) o = cleared-other r (named c o n r refl (U .caller))
-    other-row c d (readQuery n r x C q i) o = refl
-    other-row c d (wroteOwn n r x v U h) o = cleared-other r (named c o n r refl (U .caller))
-    other-row c d (wroteTaken n r x v U h f m) o = cleared-other r (named c o n r refl (U .caller))
+    other-row c d (readOwn n r x U h) o = cleared-other r (named c o n r refl (U .caller)) (U .caller .inside)
+    other-row c d (readNewest n r x U h) o = cleared-other r (named c o n r refl (U .caller)) (U .caller .inside)
+    other-row c d (readShared n r x U h f) o = cleared-other r (named c o n r refl (U .caller)) (U .caller .inside)
+    other-row c d (readQuery n r x C q i) o = same-row refl
+    other-row c d (wroteOwn n r x v U h) o = cleared-other r (named c o n r refl (U .caller)) (U .caller .inside)
+    other-row c d (wroteTaken n r x v U h f m) o = cleared-other r (named c o n r refl (U .caller)) (U .caller .inside)
     other-row c d (committedUpdate n r C u i l) o = left-other r (named c o n r refl C) clockAt _ (omega arith) noTxn
-    other-row c d (committedQuery n r C q) o = txn-setTxn-other t r noTxn s (named c o n r refl C)
-    other-row c d (abortedUpdate n r C u) o = txn-setTxn-other t r noTxn s (named c o n r refl C)
-    other-row c d (abortedQuery n r C q) o = txn-setTxn-other t r noTxn s (named c o n r refl C)
+    other-row c d (committedQuery n r C q) o = gone-other r (named c o n r refl C) noTxn
+    other-row c d (abortedUpdate n r C u) o = aborted-other r (named c o n r refl C) noTxn
+    other-row c d (abortedQuery n r C q) o = gone-other r (named c o n r refl C) noTxn
 
   -- ---- its own calls, while it awaits
-  module _ (awaits : R .awaitedLock ≢ noLock) where
+  module _ (awaits′ : R .awaitedLock ≢ noLock) where
     alive : T (live R)
     unfolding live
-    alive = ne-make (R .number) 0 (λ e. awaits (ap (λ (Q : Txn). Q .awaitedLock) (g .txnGood s inside .free e)))
+    alive = ne-make (R .number) 0 (λ e. awaits′ (ap (λ (Q : Txn). Q .awaitedLock) (g .txnGood s inside .free e)))
 
     -- test 6 lets the awaited call pass, and none but it
     this : (k x : ℕ) → awaitsOther t s k x ≡ false → (R .awaitedLock ≡ k) × (R .awaitedItem ≡ x)
-    unfolding awaitsOther
-    this k x e = go (eqb (R .awaitedLock) k && eqb (R .awaitedItem) x) refl
-      where
-        go : (b : Bool) → (eqb (R .awaitedLock) k && eqb (R .awaitedItem) x) ≡ b → (R .awaitedLock ≡ k) × (R .awaitedItem ≡ x)
-        go true f = (
-          eqb→eq (R .awaitedLock) k (and-left (eqb (R .awaitedLock) k) _ (true-is f)),
-          eqb→eq (R .awaitedItem) x (and-right (eqb (R .awaitedLock) k) _ (true-is f)),
-        )
-        go false f = absurd (false-is e (and-both (not (eqb (R .awaitedLock) noLock)) _ (ne-make (R .awaitedLock) noLock awaits)
-            (not-make (eqb (R .awaitedLock) k && eqb (R .awaitedItem) x) (λ h. false-is f h))))
+    this k x e = let w = only-this t s k x e (→awaits R awaits′) in (w .0, awaitsOn→ x R (w .1) .1)
 
     abbrev Stays : Call → Deed → Type 0
     Stays c d =
@@ -143,23 +154,20 @@ module _ (S : Sizes) (G : Tables) (g : Good S G) (s : ℕ) (inside : s < S .slot
       it {k} {x} U = this k x (subst (λ (m : ℕ). awaitsOther t m k x ≡ false) (here n r e (U .caller)) (U .free))
 
       busy : Caller S G n r → (txn t r) .awaitedLock ≡ noLock → ⊥
-      busy C i = awaits (subst (λ (m : ℕ). (txn t m) .awaitedLock ≡ noLock) (here n r e C) i)
+      busy C i = awaits′ (subst (λ (m : ℕ). (txn t m) .awaitedLock ≡ noLock) (here n r e C) i)
 
       idle : Caller S G n r → T (liveQuery (txn t r)) → ⊥
       idle C q = busy C (g .txnGood r (C .inside) .queryIdle q)
 
     own-row : (c : Call) (d : Deed) → Way S G c d → Names c (R .number) → Stays c d
     unfolding done
-    own-row c d (refused r m) e = inl refl
-    own-row c d (waited r k x w) e = inl (noted r k x (stands c r (w .caller) e) (w .free))
+    own-row c d (refused r m) e = inl (same-row refl)
+    own-row c d (waited r k x w) e = inl (noted′ r k x (stands c r (w .caller) e) (w .free))
       where
-        noted : (r k x : ℕ) → r ≡ s → awaitsOther t r k x ≡ false → txn (setAwaited t r k x) s ≡ R
-        noted r k x q f =
-            let p = this k x (subst (λ (m : ℕ). awaitsOther t m k x ≡ false) q f) in
-            ap (λ (m : ℕ). txn (setAwaited t m k x) s) q
-            ∙ ap (λ (j : ℕ). txn (setAwaited t s j x) s) (sym (p .0))
-            ∙ ap (λ (y : ℕ). txn (setAwaited t s (R .awaitedLock) y) s) (sym (p .1))
-            ∙ ap (λ (u : List ℕ). txn u s) (setAwaited-same t s)
+        noted′ : (r k x : ℕ) → r ≡ s → awaitsOther t r k x ≡ false → SameButRank (txn (noted S t (G .locks) r k x) s) R
+        noted′ r k x q f =
+            let w = only-this t s k x (subst (λ (m : ℕ). awaitsOther t m k x ≡ false) q f) (→awaits R awaits′) in
+            same-row (ap (λ (m : ℕ). txn (noted S t (G .locks) m k x) s) q ∙ ap (λ (u : List ℕ). txn u s) (noted-known S t (G .locks) s k x (w .1)))
 
         -- the caller of a call that names it
         stands : (c : Call) (r : ℕ) → CallerIn c S G r → Names c (R .number) → r ≡ s
@@ -176,19 +184,19 @@ module _ (S : Sizes) (G : Tables) (g : Good S G) (s : ℕ) (inside : s < S .slot
     own-row c d (abortedQuery n r C q) e = absurd (idle n r e C q)
 
 -- ---- told of `step`
-acts : (S : Sizes) (c : Call) (G : Tables) → Good S G → step S c G ≡ done S (judged S c G) G
+pub acts : (S : Sizes) (c : Call) (G : Tables) → Good S G → step S c G ≡ done S (judged S c G) G
 unfolding act
 acts S c G g = step-good S c G (is-true _ (Good→good S G g))
 
 pub others-leave : (S : Sizes) → OthersLeave S
 others-leave S c G s g inside lives others =
-    subst (λ (o : Outcome). txn (o .after .txns) s ≡ txn (G .txns) s) (sym (acts S c G g))
+    subst (λ (o : Outcome). SameButRank (txn (o .after .txns) s) (txn (G .txns) s)) (sym (acts S c G g))
     (other-row S G g s inside lives c (judged S c G) (way S G g c) others)
 
 -- what is shown of the outcome o
 abbrev Shown : Tables → ℕ → Call → Outcome → Type 0
 Shown G s c o =
-    (txn (o .after .txns) s ≡ txn (G .txns) s)
+    SameButRank (txn (o .after .txns) s) (txn (G .txns) s)
     ⊎ ((Names c ((txn (G .txns) s) .number) × Wants c ((txn (G .txns) s) .awaitedLock) ((txn (G .txns) s) .awaitedItem) × (o .answer .code ≡ granted))
     ⊎ (c ≡ Abort ((txn (G .txns) s) .number)))
 
@@ -227,20 +235,21 @@ repeated-waits S c G s g C awaits wants = (λ e. never (deadlocked S c G (order 
     R : Txn
     R = txn (G .txns) s
 
-    never : ((r : ℕ) × (k : ℕ) × (x : ℕ) × ConflictIn c S G r k x × Circle G r k x) → ⊥
+    stands : T (awaitsOn (R .awaitedItem) R)
+    stands = →awaitsOn (R .awaitedItem) R (→awaits R awaits) refl
+
+    never : ((r : ℕ) × (k : ℕ) × (x : ℕ) × ConflictIn c S G r k x × Circle S G r k x) → ⊥
     never w =
         let K = w .3 in
         let q = one-want c (w .1) (R .awaitedLock) (w .2) (R .awaitedItem) (K .wants) wants in
-        repeated S G g s s
-        (subst (λ (y : ℕ). Circle G s (R .awaitedLock) y) (q .1)
-        (subst (λ (k : ℕ). Circle G s k (w .2)) (q .0) (subst (λ (r : ℕ). Circle G r (w .1) (w .2)) (one-caller S G g c (w .0) s (K .caller) C) (w .4))))
+        repeated S G g s (w .1) (R .awaitedItem) stands
+        (subst (λ (y : ℕ). Circle S G s (w .1) y) (q .1) (subst (λ (r : ℕ). Circle S G r (w .1) (w .2)) (one-caller S G g c (w .0) s (K .caller) C) (w .4)))
 
     again : codeOf S c G ≡ code Wait → after S c G ≡ G
     again e =
         let w = wait-is S c G e in
         let q = one-want c (w .1) (R .awaitedLock) (w .2) (R .awaitedItem) (w .4) wants in
-        w .5
-        ∙ ap (λ (r : ℕ). withTxns G (setAwaited (G .txns) r (w .1) (w .2))) (one-caller S G g c (w .0) s (w .3) C)
-        ∙ ap (λ (k : ℕ). withTxns G (setAwaited (G .txns) s k (w .2))) (q .0)
-        ∙ ap (λ (x : ℕ). withTxns G (setAwaited (G .txns) s (R .awaitedLock) x)) (q .1)
-        ∙ ap (withTxns G) (setAwaited-same (G .txns) s)
+        w .6
+        ∙ ap (λ (r : ℕ). withTxns G (noted S (G .txns) (G .locks) r (w .1) (w .2))) (one-caller S G g c (w .0) s (w .3) C)
+        ∙ ap (λ (x : ℕ). withTxns G (noted S (G .txns) (G .locks) s (w .1) x)) (q .1)
+        ∙ ap (withTxns G) (noted-known S (G .txns) (G .locks) s (w .1) (R .awaitedItem) stands)

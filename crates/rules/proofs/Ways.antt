@@ -59,7 +59,7 @@ pub record Waiter (c : Call) (S : Sizes) (G : Tables) (s k x : ℕ) : Type 0 whe
   pub some : k ≢ noLock
   pub free : awaitsOther (G .txns) s k x ≡ false
   pub may : MayAwait S G s k x
-  pub circle : Circle G s k x → ⊥
+  pub circle : Circle S G s k x → ⊥
 
 pub data Way (S : Sizes) (G : Tables) : Call → Deed → Type 0 where
   refused : {c : Call} (r : Refusal) → Mere r → Way S G c (Refused r)

@@ -3,14 +3,16 @@
 use Prim.Native.Nat.{ℕ, suc, _+_, _*_, _≤_, _<_}
 use mathlib.Core.Path.{_≡_}
 use mathlib.Core.Logic.{_≢_, _⊎_}
+use mathlib.Core.Bool.{cond}
 use mathlib.Core.List.{List, _∷_}
 use lib.ListN.{length, getD}
 use lib.Dec.{T}
 use Rattle.names.specs.declared.Sizes.{Sizes}
-use Rattle.names.specs.Layout.{lastNumberAt, clockAt, txnRow, txnLockAt, txnItemAt}
+use Rattle.names.specs.Layout.{lastNumberAt, clockAt, txnRow, txnLockAt, txnItemAt, txnRankAt}
 use Rattle.rules.specs.Words.{row}
 use Rattle.rules.specs.Tables.{Tables, txnAt, lockRow, versionRow, lastNumber, clock, Txn, txn, noTxn, newTxn, noLock, anUpdate, aQuery}
 use Rattle.rules.specs.Tables.{sharedLock, exclusiveLock, liveUpdate, liveQuery, starts, Lock, lock, setLock, holds, holdsShared, holdsExclusive, released}
+use Rattle.rules.specs.Waits.{awaits, lowered}
 use Rattle.rules.specs.Versions.{versionsOf, newest, place, choice, rowOf, kept}
 use Rattle.rules.specs.Answers.{Call, BeginUpdate, BeginQuery, Read, Write, Commit, Abort, Outcome, says, granted}
 use Rattle.rules.specs.Step.{begun, locked, replaced, sharedToo, taken, withLocks, committed, ended, aborted}
@@ -34,12 +36,30 @@ pub record WordAndRowChanged (w v s : ℕ) (r : Txn) (t t′ : List ℕ) : Type 
   pub here : txn t′ s ≡ r
   pub others : (j : ℕ) → j ≢ w → Elsewhere s j → getD t′ j 0 ≡ getD t j 0
 
--- the awaited fields of row s are k and x afterwards, and no other word changes
-pub record AwaitedChanged (s k x : ℕ) (t t′ : List ℕ) : Type 0 where
+-- word j is the rank of none of the n first rows
+abbrev pub NoRank : ℕ → ℕ → Type 0
+NoRank n j = (r : ℕ) → r < n → j ≢ txnAt r + txnRankAt
+
+-- request E4: the awaited fields of row s are k, x and the rank p afterwards, the ranks of the other rows are those that f gives, and no
+-- other word changes
+pub record AwaitedChanged (S : Sizes) (s k x p : ℕ) (f : Txn → ℕ) (t t′ : List ℕ) : Type 0 where
   pub size : length t′ ≡ length t
   pub awaitedLock : getD t′ (txnAt s + txnLockAt) 0 ≡ k
   pub awaitedItem : getD t′ (txnAt s + txnItemAt) 0 ≡ x
-  pub others : (j : ℕ) → j ≢ txnAt s + txnLockAt → j ≢ txnAt s + txnItemAt → getD t′ j 0 ≡ getD t j 0
+  pub rank : getD t′ (txnAt s + txnRankAt) 0 ≡ p
+  pub ranks : (r : ℕ) → r < S .slots → r ≢ s → getD t′ (txnAt r + txnRankAt) 0 ≡ f (txn t r)
+  pub others : (j : ℕ) → j ≢ txnAt s + txnLockAt → j ≢ txnAt s + txnItemAt → NoRank (S .slots) j → getD t′ j 0 ≡ getD t j 0
+
+-- row s is r afterwards, the ranks of the other rows are those that f gives, and no other word changes
+pub record RowAndRanksChanged (S : Sizes) (s : ℕ) (r : Txn) (f : Txn → ℕ) (t t′ : List ℕ) : Type 0 where
+  pub size : length t′ ≡ length t
+  pub here : txn t′ s ≡ r
+  pub ranks : (q : ℕ) → q < S .slots → q ≢ s → getD t′ (txnAt q + txnRankAt) 0 ≡ f (txn t q)
+  pub others : (j : ℕ) → Elsewhere s j → NoRank (S .slots) j → getD t′ j 0 ≡ getD t j 0
+
+-- the rank of a row after slot s has left its line; one that stood in none leaves all as they are
+abbrev pub leaving : List ℕ → ℕ → Txn → ℕ
+leaving t s q = cond (awaits (txn t s)) (lowered ((txn t s) .awaitedItem) ((txn t s) .rank) q) (q .rank)
 
 -- the lock of item x is h afterwards, and no other word changes
 pub record LockChanged (x : ℕ) (h : Lock) (l l′ : List ℕ) : Type 0 where
@@ -66,14 +86,14 @@ pub record Begun (s k q : ℕ) (G G′ : Tables) : Type 0 where
   pub versions : G′ .versions ≡ G .versions
 
 -- "A grant clears the awaited fields.", and the lock of item x is h
-pub record Locked (s x : ℕ) (h : Lock) (G G′ : Tables) : Type 0 where
-  pub txns : AwaitedChanged s noLock 0 (G .txns) (G′ .txns)
+pub record Locked (S : Sizes) (s x : ℕ) (h : Lock) (G G′ : Tables) : Type 0 where
+  pub txns : AwaitedChanged S s noLock 0 0 (leaving (G .txns) s) (G .txns) (G′ .txns)
   pub locks : LockChanged x h (G .locks) (G′ .locks)
   pub versions : G′ .versions ≡ G .versions
 
 -- "Abort removes locks, working values and the row"
 pub record Aborted (S : Sizes) (s : ℕ) (G G′ : Tables) : Type 0 where
-  pub txns : RowChanged s noTxn (G .txns) (G′ .txns)
+  pub txns : RowAndRanksChanged S s noTxn (leaving (G .txns) s) (G .txns) (G′ .txns)
   pub locks : LocksReleased S s (G .locks) (G′ .locks)
   pub versions : G′ .versions ≡ G .versions
 
@@ -122,8 +142,8 @@ pub data Granted (S : Sizes) (G : Tables) : Call → Outcome → Type 0 where
   -- "take shared, newest value"
   sharedTaken :
       (n x s : ℕ) → Updater S G n s sharedLock x → (T (holds (lock (G .locks) x) s) → ⊥)
-      → Locked s x (sharedToo (lock (G .locks) x) s) G (locked s x (sharedToo (lock (G .locks) x) s) G)
-      → Granted S G (Read n x) (says granted (newest S (G .versions) x) 0 1 (locked s x (sharedToo (lock (G .locks) x) s) G))
+      → Locked S s x (sharedToo (lock (G .locks) x) s) G (locked S s x (sharedToo (lock (G .locks) x) s) G)
+      → Granted S G (Read n x) (says granted (newest S (G .versions) x) 0 1 (locked S s x (sharedToo (lock (G .locks) x) s) G))
   -- "the newest version whose stamp is at most its start": no word changes
   queryReads :
       (n x s : ℕ) → Caller S G n s → T (liveQuery (txn (G .txns) s)) → x < S .items
@@ -141,13 +161,13 @@ pub data Granted (S : Sizes) (G : Tables) : Call → Outcome → Type 0 where
   -- "exchange for exclusive"
   sharedExchanged :
       (n x v s : ℕ) → Updater S G n s exclusiveLock x → T (holdsShared (lock (G .locks) x) s)
-      → Locked s x (taken (lock (G .locks) x) s v) G (locked s x (taken (lock (G .locks) x) s v) G)
-      → Granted S G (Write n x v) (says granted 0 0 0 (locked s x (taken (lock (G .locks) x) s v) G))
+      → Locked S s x (taken (lock (G .locks) x) s v) G (locked S s x (taken (lock (G .locks) x) s v) G)
+      → Granted S G (Write n x v) (says granted 0 0 0 (locked S s x (taken (lock (G .locks) x) s v) G))
   -- "take exclusive"
   exclusiveTaken :
       (n x v s : ℕ) → Updater S G n s exclusiveLock x → (T (holds (lock (G .locks) x) s) → ⊥)
-      → Locked s x (taken (lock (G .locks) x) s v) G (locked s x (taken (lock (G .locks) x) s v) G)
-      → Granted S G (Write n x v) (says granted 0 0 0 (locked s x (taken (lock (G .locks) x) s v) G))
+      → Locked S s x (taken (lock (G .locks) x) s v) G (locked S s x (taken (lock (G .locks) x) s v) G)
+      → Granted S G (Write n x v) (says granted 0 0 0 (locked S s x (taken (lock (G .locks) x) s v) G))
   -- "update commit: number is the stamp"
   updateCommits :
       (n s : ℕ) → Caller S G n s → T (liveUpdate (txn (G .txns) s)) → Committed S s G (committed S s G)

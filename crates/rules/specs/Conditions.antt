@@ -8,9 +8,9 @@ use mathlib.Core.List.{List, [], _∷_}
 use lib.Dec.{T}
 use Rattle.names.specs.declared.Sizes.{Sizes}
 use Rattle.names.specs.Sizes.{lastWord}
-use Rattle.rules.specs.Tables.{Tables, lastNumber, clock, txn, setAwaited, noLock, sharedLock, exclusiveLock}
-use Rattle.rules.specs.Tables.{live, liveUpdate, liveQuery, lock, holdsExclusive, exclusivesOf}
-use Rattle.rules.specs.Waits.{blocks, waitsFor, Walk}
+use Rattle.rules.specs.Tables.{Tables, lastNumber, clock, txn, noLock, sharedLock, exclusiveLock}
+use Rattle.rules.specs.Tables.{live, liveUpdate, liveQuery, Lock, lock, holdsShared, holdsExclusive, exclusivesOf}
+use Rattle.rules.specs.Waits.{rankFor, blocks, noted, waitsFor, Walk}
 use Rattle.rules.specs.Good.{Good}
 use Rattle.rules.specs.Answers.{Call, BeginUpdate, BeginQuery, Read, Write, Commit, Abort, granted, code, Refusal}
 use Rattle.rules.specs.Answers.{Wait, Deadlock, UnknownTransaction, UnknownItem, QueryMayNotWrite, StillWaiting}
@@ -60,25 +60,31 @@ pub record CallerIn (c : Call) (S : Sizes) (G : Tables) (s : ℕ) : Type 0 where
   pub alive : T (live (txn (G .txns) s))
   pub named : Names c ((txn (G .txns) s) .number)
 
--- "conflict": slot s is an update and another holder's lock conflicts with its request for a lock of kind k on item x
+-- slot s needs a further lock for one of kind k: it does not hold the item exclusively, nor shares it and only reads
+abbrev pub NeedsLock : Lock → ℕ → ℕ → Type 0
+NeedsLock h k s = (T (holdsExclusive h s) → ⊥) × (k ≡ sharedLock → T (holdsShared h s) → ⊥)
+
+-- "conflict": slot s is an update and another holder's lock, or an earlier waiter's wanted one, conflicts with its request for a lock
+-- of kind k on item x. Request E4: "A call that needs no further lock is granted as before."
 pub record ConflictIn (c : Call) (S : Sizes) (G : Tables) (s k x : ℕ) : Type 0 where
   pub caller : CallerIn c S G s
   pub update : T (liveUpdate (txn (G .txns) s))
   pub wants : Wants c k x
+  pub further : NeedsLock (lock (G .locks) x) k s
   pub other : ℕ
   pub otherInside : other < S .slots
-  pub otherBlocks : T (blocks (lock (G .locks) x) k s other)
+  pub otherBlocks : T (blocks (G .txns) (G .locks) k x (rankFor S (G .txns) (G .locks) s x) s other)
 
--- "walk from the caller, waiting transaction to holder, back to the caller", its wait added
-abbrev pub Circle : Tables → ℕ → ℕ → ℕ → Type 0
-Circle G s k x = Walk (waitsFor (setAwaited (G .txns) s k x) (G .locks)) s s
+-- "walk from the caller, waiting transaction to holder, back to the caller", its wait noted and the ranks moved
+abbrev pub Circle : Sizes → Tables → ℕ → ℕ → ℕ → Type 0
+Circle S G s k x = Walk (waitsFor (noted S (G .txns) (G .locks) s k x) (G .locks)) s s
 
 -- ---- the column "when"
 unfoldable pub When : Sizes → Call → Tables → Refusal → Type 0
 -- "conflict, no circle"
-When S c G Wait = (s : ℕ) × (k : ℕ) × (x : ℕ) × ConflictIn c S G s k x × (Circle G s k x → ⊥)
+When S c G Wait = (s : ℕ) × (k : ℕ) × (x : ℕ) × ConflictIn c S G s k x × (Circle S G s k x → ⊥)
 -- "conflict, a circle would close"
-When S c G Deadlock = (s : ℕ) × (k : ℕ) × (x : ℕ) × ConflictIn c S G s k x × Circle G s k x
+When S c G Deadlock = (s : ℕ) × (k : ℕ) × (x : ℕ) × ConflictIn c S G s k x × Circle S G s k x
 -- "no live row has that number (0 included)"
 When S c G UnknownTransaction = (s : ℕ) → CallerIn c S G s → ⊥
 -- "item above 63"

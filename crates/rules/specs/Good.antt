@@ -11,9 +11,9 @@ use Rattle.names.specs.Sizes.{lastWord}
 use Rattle.rules.specs.Words.{row}
 use Rattle.rules.specs.Tables.{Tables, txnWords, lockWords, versionWords, versionRow}
 use Rattle.rules.specs.Tables.{lastNumber, clock, Txn, txn, noTxn, live, liveUpdate, liveQuery}
-use Rattle.rules.specs.Tables.{anUpdate, aQuery, noLock, sharedLock, exclusiveLock, Lock, lock, holds, holdsExclusive, exclusivesOf}
+use Rattle.rules.specs.Tables.{anUpdate, aQuery, noLock, sharedLock, exclusiveLock, Lock, lock, holds, holdsShared, holdsExclusive, exclusivesOf}
 use Rattle.rules.specs.Versions.{versionsIn, stampAt, place}
-use Rattle.rules.specs.Waits.{waitsFor, Walk}
+use Rattle.rules.specs.Waits.{awaits, awaitsOn, waitersOn, waitsFor, Walk}
 
 -- ---- the clauses on the row r of slot s; t and l are the words of the transactions and of the locks
 pub record GoodTxn (S : Sizes) (t l : List ℕ) (s : ℕ) (r : Txn) : Type 0 where
@@ -31,9 +31,24 @@ pub record GoodTxn (S : Sizes) (t l : List ℕ) (s : ℕ) (r : Txn) : Type 0 whe
   -- "an awaited item is below 64, and 0 where nothing is awaited"
   pub itemKnown : r .awaitedLock ≢ noLock → r .awaitedItem < S .items
   pub itemUnused : r .awaitedLock ≡ noLock → r .awaitedItem ≡ 0
+  -- request E4: the rank is "0 if it awaits nothing"
+  pub rankUnused : r .awaitedLock ≡ noLock → r .rank ≡ 0
   -- "who awaits shared holds nothing on that item, who awaits exclusive does not hold it exclusively"
   pub awaitsShared : r .awaitedLock ≡ sharedLock → T (holds (lock l (r .awaitedItem)) s) → ⊥
   pub awaitsExclusive : r .awaitedLock ≡ exclusiveLock → T (holdsExclusive (lock l (r .awaitedItem)) s) → ⊥
+
+-- ---- request E4: the clauses on the ranks of those who wait on one item
+pub record GoodRanks (S : Sizes) (t l : List ℕ) : Type 0 where
+  -- "from 1 without gaps": as many ranks as waiters, from 1 on, no two the same
+  pub least : (s : ℕ) → s < S .slots → T (awaits (txn t s)) → 1 ≤ (txn t s) .rank
+  pub most : (s : ℕ) → s < S .slots → T (awaits (txn t s)) → (txn t s) .rank ≤ waitersOn S t ((txn t s) .awaitedItem)
+  pub apart :
+      (x r s : ℕ) → r < S .slots → s < S .slots → r ≢ s → T (awaitsOn x (txn t r)) → T (awaitsOn x (txn t s))
+      → (txn t r) .rank ≢ (txn t s) .rank
+  -- "A holder of shared that asks for exclusive stands ahead of all who hold nothing there."
+  pub exchangers :
+      (x r s : ℕ) → r < S .slots → s < S .slots → T (awaitsOn x (txn t r)) → T (awaitsOn x (txn t s))
+      → T (holdsShared (lock l x) r) → (T (holdsShared (lock l x) s) → ⊥) → (txn t r) .rank < (txn t s) .rank
 
 -- ---- the clauses on the lock h of an item
 pub record GoodLock (S : Sizes) (t : List ℕ) (h : Lock) : Type 0 where
@@ -88,5 +103,7 @@ pub record Good (S : Sizes) (G : Tables) : Type 0 where
   pub quotaGood : (s : ℕ) → s < S .slots → GoodQuota S (G .locks) s (txn (G .txns) s)
   -- "A version count is .."
   pub versionsGood : (x : ℕ) → x < S .items → GoodVersions S (G .txns) (row (versionRow S) x (G .versions))
+  -- request E4
+  pub ranksGood : GoodRanks S (G .txns) (G .locks)
   -- "No circle of waits exists."
   pub noCircle : (s : ℕ) → Walk (waitsFor (G .txns) (G .locks)) s s → ⊥

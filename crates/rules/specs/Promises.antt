@@ -8,14 +8,14 @@ use mathlib.Core.List.{List, [], _∷_}
 use lib.ListN.{length, getD}
 use lib.Dec.{T, ltb}
 use Rattle.names.specs.declared.Sizes.{Sizes}
-use Rattle.rules.specs.Tables.{Tables, clock, txn, live, liveUpdate, liveQuery, starts, noLock, Lock, lock, holds, holdsShared, holdsExclusive}
+use Rattle.rules.specs.Tables.{Tables, clock, Txn, txn, withRank, live, liveUpdate, liveQuery, starts, noLock, Lock, lock, holds, holdsShared, holdsExclusive}
 use Rattle.rules.specs.Versions.{Version, noVersion, versionsOf, stampAt, place, choice}
-use Rattle.rules.specs.Waits.{blocks}
+use Rattle.rules.specs.Waits.{awaitsOn, waitersOn, rankFor, raised, blocks}
 use Rattle.rules.specs.Good.{Good}
 use Rattle.rules.specs.Locks.{Asked, toRead, toWrite, wanted}
 use Rattle.rules.specs.Answers.{Call, Read, Write, Abort, Outcome, says, granted, code, Wait, Deadlock}
 use Rattle.rules.specs.Step.{step, writesFurther, withNew, committed, ended}
-use Rattle.rules.specs.Conditions.{Caller, CallerIn, Updater, Names, Wants, Circle, order, Answered}
+use Rattle.rules.specs.Conditions.{Caller, CallerIn, Updater, Names, Wants, NeedsLock, Circle, order, Answered}
 use Rattle.rules.specs.Changed.{AwaitedChanged, Granted}
 
 -- the code that a call is answered, and the tables that it leaves
@@ -39,14 +39,19 @@ CodeExactly S = (c : Call) (G : Tables) (k : ℕ) → (codeOf S c G ≡ k) ↔ A
 abbrev pub RefusedUnchanged : Sizes → Type 0
 RefusedUnchanged S = (c : Call) (G : Tables) → codeOf S c G ≢ granted → codeOf S c G ≢ code Wait → after S c G ≡ G
 
--- ".. only a wait is noted down": "only the caller's awaited fields" (Refused)
+-- the rank of a row after slot s has come into the line of item x; one that stood there already leaves all as they are
+abbrev pub coming : Sizes → Tables → ℕ → ℕ → Txn → ℕ
+coming S G s x q = cond (awaitsOn x (txn (G .txns) s)) (q .rank) (raised x (rankFor S (G .txns) (G .locks) s x) q)
+
+-- ".. only a wait is noted down": "only the caller's awaited fields", and since request E4 the ranks behind it (Refused)
 pub record Noted (S : Sizes) (c : Call) (G : Tables) : Type 0 where
   pub slot : ℕ
   pub lockKind : ℕ
   pub item : ℕ
   pub caller : CallerIn c S G slot
   pub wants : Wants c lockKind item
-  pub txns : AwaitedChanged slot lockKind item (G .txns) ((after S c G) .txns)
+  pub txns :
+      AwaitedChanged S slot lockKind item (rankFor S (G .txns) (G .locks) slot item) (coming S G slot item) (G .txns) ((after S c G) .txns)
   pub locks : (after S c G) .locks ≡ G .locks
   pub versions : (after S c G) .versions ≡ G .versions
 
@@ -80,11 +85,14 @@ pub record Passes (S : Sizes) (G : Tables) (a : Asked) (n s x : ℕ) : Type 0 wh
   pub asks : Updater S G n s (wanted a) x
   pub room : a ≡ toWrite → writesFurther S (G .locks) s x ≡ false
 
--- another holder's lock conflicts
+-- a further lock is needed, and another holder's lock or an earlier waiter's wanted one conflicts
 abbrev pub Conflicting : Sizes → Tables → Asked → ℕ → ℕ → Type 0
-Conflicting S G a s x = (b : ℕ) × (b < S .slots) × T (blocks (lock (G .locks) x) (wanted a) s b)
+Conflicting S G a s x =
+    NeedsLock (lock (G .locks) x) (wanted a) s
+    × ((b : ℕ) × (b < S .slots) × T (blocks (G .txns) (G .locks) (wanted a) x (rankFor S (G .txns) (G .locks) s x) s b))
 
--- ".. is granted exactly when no other holder's lock conflicts, ..": it is answered the code k exactly where Q holds (Granted)
+-- ".. is granted exactly when no other holder's lock conflicts, ..", nor, since request E4, an earlier waiter's wanted one: it is answered
+-- the code k exactly where Q holds (Granted)
 abbrev pub AnsweredWhere : Sizes → ℕ → (Tables → Asked → ℕ → ℕ → Type 0) → Type 0
 AnsweredWhere S k Q =
     (G : Tables) (a : Asked) (n s x v : ℕ) → Good S G → Passes S G a n s x → (codeOf S (asking a n x v) G ≡ k) ↔ Q G a s x
@@ -94,10 +102,10 @@ GrantedExactly S = AnsweredWhere S granted (λ G a s x. Conflicting S G a s x �
 
 -- ".. and refused as a deadlock exactly when its wait would close a circle of waits"
 abbrev pub DeadlockExactly : Sizes → Type 0
-DeadlockExactly S = AnsweredWhere S (code Deadlock) (λ G a s x. Conflicting S G a s x × Circle G s (wanted a) x)
+DeadlockExactly S = AnsweredWhere S (code Deadlock) (λ G a s x. Conflicting S G a s x × Circle S G s (wanted a) x)
 
 abbrev pub WaitExactly : Sizes → Type 0
-WaitExactly S = AnsweredWhere S (code Wait) (λ G a s x. Conflicting S G a s x × (Circle G s (wanted a) x → ⊥))
+WaitExactly S = AnsweredWhere S (code Wait) (λ G a s x. Conflicting S G a s x × (Circle S G s (wanted a) x → ⊥))
 
 -- "A taken exclusive lock clears the caller's shared bit and sets the working value.": what a granted call leaves the slot s (Held)
 abbrev pub HoldsFor : Asked → ℕ → Lock → ℕ → Type 0
@@ -111,20 +119,24 @@ GrantedHolds S =
 
 -- ==== waiting
 
+-- the same row, but for the rank
+abbrev pub SameButRank : Txn → Txn → Type 0
+SameButRank q r = q ≡ withRank r (q .rank)
+
 -- "A waiting transaction stays so until it makes the same kind of call on the same item again and is granted, or is aborted": else its
--- row stays as it is, whoever calls (Waiting)
+-- row stays as it is but for its rank, whoever calls (Waiting)
 abbrev pub StaysWaiting : Sizes → Type 0
 StaysWaiting S =
     (c : Call) (G : Tables) (s : ℕ) → Good S G → s < S .slots → (txn (G .txns) s) .awaitedLock ≢ noLock
-    → (txn ((after S c G) .txns) s ≡ txn (G .txns) s)
+    → SameButRank (txn ((after S c G) .txns) s) (txn (G .txns) s)
     ⊎ ((Names c ((txn (G .txns) s) .number) × Wants c ((txn (G .txns) s) .awaitedLock) ((txn (G .txns) s) .awaitedItem) × (codeOf S c G ≡ granted))
     ⊎ (c ≡ Abort ((txn (G .txns) s) .number)))
 
--- calls by others leave the row of a live transaction as it is (Waiting)
+-- calls by others leave the row of a live transaction as it is, but for its rank (Waiting)
 abbrev pub OthersLeave : Sizes → Type 0
 OthersLeave S =
     (c : Call) (G : Tables) (s : ℕ) → Good S G → s < S .slots → T (live (txn (G .txns) s))
-    → (Names c ((txn (G .txns) s) .number) → ⊥) → txn ((after S c G) .txns) s ≡ txn (G .txns) s
+    → (Names c ((txn (G .txns) s) .number) → ⊥) → SameButRank (txn ((after S c G) .txns) s) (txn (G .txns) s)
 
 -- the awaited call made again is never a deadlock, and if it waits again no word changes (Waiting)
 abbrev pub RepeatedWaits : Sizes → Type 0
@@ -132,6 +144,36 @@ RepeatedWaits S =
     (c : Call) (G : Tables) (s : ℕ) → Good S G → CallerIn c S G s → (txn (G .txns) s) .awaitedLock ≢ noLock
     → Wants c ((txn (G .txns) s) .awaitedLock) ((txn (G .txns) s) .awaitedItem)
     → (codeOf S c G ≢ code Deadlock) × (codeOf S c G ≡ code Wait → after S c G ≡ G)
+
+-- ==== the line of waiters
+
+-- request E4, "from 1 without gaps": the ranks of those who wait on the item x are 1, 2 and so on, to as many as they are (Ranked)
+abbrev pub RanksExactly : Sizes → Type 0
+RanksExactly S =
+    (G : Tables) (x r : ℕ) → Good S G
+    → ((1 ≤ r) × (r ≤ waitersOn S (G .txns) x))
+    ↔ ((s : ℕ) × (s < S .slots) × T (awaitsOn x (txn (G .txns) s)) × ((txn (G .txns) s) .rank ≡ r))
+
+-- "Waiters on an item now stand in the order of their first wait.": slot s, whose wait for item x is noted with the answer 1, and which
+-- does not share the item, stands behind all who waited there (InOrder). That whoever waits keeps its place is line/specs/InOrder
+abbrev pub NewcomerLast : Sizes → Type 0
+NewcomerLast S =
+    (c : Call) (G : Tables) (s k x r : ℕ) → codeOf S c G ≡ code Wait → CallerIn c S G s → Wants c k x
+    → (T (awaitsOn x (txn (G .txns) s)) → ⊥) → (T (holdsShared (lock (G .locks) x) s) → ⊥)
+    → r < S .slots → r ≢ s → T (awaitsOn x (txn (G .txns) r))
+    → (txn ((after S c G) .txns) r) .rank < (txn ((after S c G) .txns) s) .rank
+
+-- "A holder of shared that asks for exclusive stands ahead of all who hold nothing there.": of those who wait on an item one at most
+-- shares it, and that one is the first (Ranked)
+abbrev pub OneExchanger : Sizes → Type 0
+OneExchanger S =
+    (G : Tables) (x r s : ℕ) → Good S G → r < S .slots → s < S .slots → T (awaitsOn x (txn (G .txns) r)) → T (awaitsOn x (txn (G .txns) s))
+    → T (holdsShared (lock (G .locks) x) r) → T (holdsShared (lock (G .locks) x) s) → r ≡ s
+
+abbrev pub ExchangerFirst : Sizes → Type 0
+ExchangerFirst S =
+    (G : Tables) (x s : ℕ) → Good S G → s < S .slots → T (awaitsOn x (txn (G .txns) s)) → T (holdsShared (lock (G .locks) x) s)
+    → (txn (G .txns) s) .rank ≡ 1
 
 -- ==== versions
 

@@ -12,7 +12,7 @@ use Rattle.rules.specs.Words.{withBit, withoutBit}
 use Rattle.rules.specs.Tables.{Tables, tables, lastNumber, clock, txn, setTxn, setAwaited, noTxn, newTxn, anUpdate, aQuery, noLock}
 use Rattle.rules.specs.Tables.{slotOf, freeSlot, starts, Lock, lock, setLock, holdsExclusive, exclusivesOf, release, sharedLock, exclusiveLock}
 use Rattle.rules.specs.Versions.{Version, versionsOf, newest, place, choice, rewritten}
-use Rattle.rules.specs.Waits.{circleAt}
+use Rattle.rules.specs.Waits.{noted, closedUp, circleAt}
 use Rattle.rules.specs.Tested.{good}
 use Rattle.rules.specs.Locks.{Asked, toRead, toWrite, wanted, Cell, OwnValue, ReplaceValue, NewestValue}
 use Rattle.rules.specs.Locks.{ExchangeLock, TakeShared, TakeExclusive, Conflict, decision}
@@ -34,11 +34,11 @@ beginBy S k q G =
     (Begins (asSlot s) k (asStamp q)))
 
 -- ---- Read and write by an update
--- "If the wait would let one walk from the caller .. back to the caller, the answer is 2; otherwise 1": slot s, a wanted lock of kind
--- k, item x
+-- "If the wait would let one walk from the caller .. back to the caller, the answer is 2; otherwise 1"; request E4: "as the graph
+-- would stand after the new wait". Slot s, a wanted lock of kind k, item x
 unfoldable pub conflicted : Sizes → ℕ → ℕ → ℕ → Tables → Deed
 conflicted S s k x G =
-    cond (circleAt S (setAwaited (G .txns) s k x) (G .locks) s) (Refused Deadlock) (Waits (asSlot s) k (asItem x))
+    cond (circleAt S (noted S (G .txns) (G .locks) s k x) (G .locks) s) (Refused Deadlock) (Waits (asSlot s) k (asItem x))
 
 -- what each cell of the table comes to, for slot s, a wanted lock of kind k, item x and the value v of a write
 unfoldable pub cellDeed : Sizes → ℕ → ℕ → ℕ → ℕ → Tables → Cell → Deed
@@ -51,7 +51,7 @@ cellDeed S s k x v G TakeExclusive = TakesExclusive (asSlot s) (asItem x) v
 cellDeed S s k x v G Conflict = conflicted S s k x G
 
 unfoldable pub access : Sizes → Asked → ℕ → ℕ → ℕ → Tables → Deed
-access S a s x v G = cellDeed S s (wanted a) x v G (decision S a (lock (G .locks) x) s)
+access S a s x v G = cellDeed S s (wanted a) x v G (decision S a (G .txns) (G .locks) x s)
 
 -- "caller awaits, and this is neither abort nor its awaited call": slot s calls for a lock of kind k on item x
 unfoldable pub awaitsOther : List ℕ → ℕ → ℕ → ℕ → Bool
@@ -130,13 +130,13 @@ begun k q s G =
     (setTxn (set (G .txns) lastNumberAt n) s (newTxn n k q))
 
 -- ---- a grant to an update
--- "A grant clears the awaited fields."
-unfoldable pub cleared : List ℕ → ℕ → List ℕ
-cleared t s = setAwaited t s noLock 0
+-- "A grant clears the awaited fields."; request E4: the ranks behind a leaver move
+unfoldable pub cleared : Sizes → List ℕ → ℕ → List ℕ
+cleared S t s = setAwaited (closedUp S t s) s noLock 0 0
 
 -- the tables after a grant to slot s, with the lock h on item x
-unfoldable pub locked : ℕ → ℕ → Lock → Tables → Tables
-locked s x h G = withLocks G (cleared (G .txns) s) (setLock (G .locks) x h)
+unfoldable pub locked : Sizes → ℕ → ℕ → Lock → Tables → Tables
+locked S s x h G = withLocks G (cleared S (G .txns) s) (setLock (G .locks) x h)
 
 -- "own working value", "replace the working value"
 abbrev pub replaced : Lock → ℕ → Lock
@@ -179,24 +179,24 @@ ended S s G =
     tables t (G .locks) (rewritten S (starts S t) (λ x vs. vs) (G .versions))
 
 -- ---- Abort
--- "Abort removes locks, working values and the row"
+-- "Abort removes locks, working values and the row"; request E4: and its place in the line
 unfoldable pub aborted : Sizes → ℕ → Tables → Tables
-aborted S s G = withLocks G (setTxn (G .txns) s noTxn) (release S s (G .locks))
+aborted S s G = withLocks G (setTxn (closedUp S (G .txns) s) s noTxn) (release S s (G .locks))
 
 -- ---- each deed. "begin: number is the new number; update commit: number is the stamp; read: value, and looked is 1 for the newest
 -- value, 0 for the own working value, the place for a query"
 unfoldable pub done : Sizes → Deed → Tables → Outcome
 done S (Refused r) G = refuses r G
 -- "and the awaited fields are written"
-done S (Waits s k x) G = refuses Wait (withTxns G (setAwaited (G .txns) (s .0) k (x .0)))
+done S (Waits s k x) G = refuses Wait (withTxns G (noted S (G .txns) (G .locks) (s .0) k (x .0)))
 done S (Begins s k q) G = says granted 0 (lastNumber (G .txns) + 1) 0 (begun k (q .0) (s .0) G)
 done S (ReadsByStart s x) G = queryRead S (s .0) (x .0) G
-done S (ReadsOwn s x) G = says granted ((lock (G .locks) (x .0)) .working) 0 0 (withTxns G (cleared (G .txns) (s .0)))
-done S (ReadsNewest s x) G = says granted (newest S (G .versions) (x .0)) 0 1 (withTxns G (cleared (G .txns) (s .0)))
+done S (ReadsOwn s x) G = says granted ((lock (G .locks) (x .0)) .working) 0 0 (withTxns G (cleared S (G .txns) (s .0)))
+done S (ReadsNewest s x) G = says granted (newest S (G .versions) (x .0)) 0 1 (withTxns G (cleared S (G .txns) (s .0)))
 done S (TakesShared s x) G =
-    says granted (newest S (G .versions) (x .0)) 0 1 (locked (s .0) (x .0) (sharedToo (lock (G .locks) (x .0)) (s .0)) G)
-done S (Replaces s x v) G = says granted 0 0 0 (locked (s .0) (x .0) (replaced (lock (G .locks) (x .0)) v) G)
-done S (TakesExclusive s x v) G = says granted 0 0 0 (locked (s .0) (x .0) (taken (lock (G .locks) (x .0)) (s .0) v) G)
+    says granted (newest S (G .versions) (x .0)) 0 1 (locked S (s .0) (x .0) (sharedToo (lock (G .locks) (x .0)) (s .0)) G)
+done S (Replaces s x v) G = says granted 0 0 0 (locked S (s .0) (x .0) (replaced (lock (G .locks) (x .0)) v) G)
+done S (TakesExclusive s x v) G = says granted 0 0 0 (locked S (s .0) (x .0) (taken (lock (G .locks) (x .0)) (s .0) v) G)
 done S (Commits s) G = says granted 0 (clock (G .txns) + 1) 0 (committed S (s .0) G)
 done S (Ends s) G = says granted 0 0 0 (ended S (s .0) G)
 done S (Aborts s) G = says granted 0 0 0 (aborted S (s .0) G)

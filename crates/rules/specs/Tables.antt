@@ -7,7 +7,7 @@ use lib.ListN.{getD, set, drop, replicate}
 use lib.Dec.{eqb}
 use Rattle.names.specs.declared.Sizes.{Sizes}
 pub use Rattle.names.specs.Layout.{anUpdate, aQuery, noLock, sharedLock, exclusiveLock, lockRow}
-use Rattle.names.specs.Layout.{lastNumberAt, clockAt, txnHead, txnNumberAt, txnKindAt, txnStartAt, txnLockAt, txnItemAt, txnRow}
+use Rattle.names.specs.Layout.{lastNumberAt, clockAt, txnHead, txnNumberAt, txnKindAt, txnStartAt, txnLockAt, txnItemAt, txnRankAt, txnRow}
 use Rattle.names.specs.Layout.{lockSharedAt, lockExclusiveAt, lockWorkingAt, versionStampAt, versionPair}
 use Rattle.rules.specs.Words.{countBelow, firstFrom, mapRows, bit, withoutBit}
 
@@ -34,7 +34,7 @@ abbrev pub putFrom : List ℕ → ℕ → ℕ → List ℕ → List ℕ
 putFrom l b k [] = l
 putFrom l b k (w ∷ ws) = putFrom (set l (behind b k) w) b (suc k) ws
 
--- ---- "Transactions, 82 words: last number given; clock (stamp of the latest update commit); then 16 rows of 5"
+-- ---- "Transactions ..: last number given; clock (stamp of the latest update commit); then 16 rows"
 abbrev pub lastNumber : List ℕ → ℕ
 lastNumber t = getD t lastNumberAt 0
 
@@ -48,13 +48,14 @@ abbrev pub txnWords : Sizes → ℕ
 txnWords S = txnAt (S .slots)
 
 -- "number (0 is free), kind (0 update, 1 query), start stamp (0 for an update), awaited lock (0 none, 1 shared, 2 exclusive),
--- awaited item (0 if none)"
+-- awaited item (0 if none)"; request E4: "a word for its rank on the awaited item"
 pub record Txn : Type 0 where
   pub number : ℕ
   pub kind : ℕ
   pub start : ℕ
   pub awaitedLock : ℕ
   pub awaitedItem : ℕ
+  pub rank : ℕ
 
 -- the words of a row as a transaction, and back
 abbrev pub txnIn : List ℕ → Txn
@@ -65,10 +66,11 @@ txnIn ws =
       start = getD ws txnStartAt 0;
       awaitedLock = getD ws txnLockAt 0;
       awaitedItem = getD ws txnItemAt 0;
+      rank = getD ws txnRankAt 0;
     }
 
 abbrev pub txnWordsOf : Txn → List ℕ
-txnWordsOf r = r .number ∷ r .kind ∷ r .start ∷ r .awaitedLock ∷ r .awaitedItem ∷ []
+txnWordsOf r = r .number ∷ r .kind ∷ r .start ∷ r .awaitedLock ∷ r .awaitedItem ∷ r .rank ∷ []
 
 -- the row of slot s, read and written
 unfoldable pub txn : List ℕ → ℕ → Txn
@@ -77,16 +79,33 @@ txn t s = txnIn (wordsFrom t (txnAt s) 0 txnRow)
 unfoldable pub setTxn : List ℕ → ℕ → Txn → List ℕ
 setTxn t s r = putFrom t (txnAt s) 0 (txnWordsOf r)
 
--- the awaited fields alone
-unfoldable pub setAwaited : List ℕ → ℕ → ℕ → ℕ → List ℕ
-setAwaited t s k x = set (set t (txnAt s + txnLockAt) k) (txnAt s + txnItemAt) x
+-- the awaited fields alone: the lock, the item and the rank
+unfoldable pub setAwaited : List ℕ → ℕ → ℕ → ℕ → ℕ → List ℕ
+setAwaited t s k x p = set (set (set t (txnAt s + txnLockAt) k) (txnAt s + txnItemAt) x) (txnAt s + txnRankAt) p
+
+-- a row with another rank
+abbrev pub withRank : Txn → ℕ → Txn
+withRank r p =
+    record {
+      number = r .number;
+      kind = r .kind;
+      start = r .start;
+      awaitedLock = r .awaitedLock;
+      awaitedItem = r .awaitedItem;
+      rank = p;
+    }
+
+-- the ranks alone: in each of the first n rows the one that f gives
+unfoldable pub reranked : ℕ → (Txn → ℕ) → List ℕ → List ℕ
+reranked zero f t = t
+reranked (suc n) f t = set (reranked n f t) (txnAt n + txnRankAt) (f (txn t n))
 
 -- a free row, and the row of one that begins: its number, its kind and its start
 abbrev pub noTxn : Txn
-noTxn = record { number = 0; kind = 0; start = 0; awaitedLock = 0; awaitedItem = 0 }
+noTxn = record { number = 0; kind = 0; start = 0; awaitedLock = 0; awaitedItem = 0; rank = 0 }
 
 abbrev pub newTxn : ℕ → ℕ → ℕ → Txn
-newTxn n k q = record { number = n; kind = k; start = q; awaitedLock = noLock; awaitedItem = 0 }
+newTxn n k q = record { number = n; kind = k; start = q; awaitedLock = noLock; awaitedItem = 0; rank = 0 }
 
 unfoldable pub live : Txn → Bool
 live r = not (eqb (r .number) 0)

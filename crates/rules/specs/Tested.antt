@@ -9,9 +9,9 @@ use Rattle.names.specs.Sizes.{lastWord}
 use Rattle.rules.specs.Words.{implies, every, everyBelow, everyRow}
 use Rattle.rules.specs.Tables.{Tables, txnWords, lockWords, versionWords, versionRow}
 use Rattle.rules.specs.Tables.{lastNumber, clock, Txn, txn, live, liveUpdate, liveQuery, starts}
-use Rattle.rules.specs.Tables.{aQuery, noLock, sharedLock, exclusiveLock, Lock, lock, holds, holdsExclusive, exclusivesOf}
+use Rattle.rules.specs.Tables.{aQuery, noLock, sharedLock, exclusiveLock, Lock, lock, holds, holdsShared, holdsExclusive, exclusivesOf}
 use Rattle.rules.specs.Versions.{Version, versionsIn, stampAt, readBySome}
-use Rattle.rules.specs.Waits.{noCircle}
+use Rattle.rules.specs.Waits.{awaits, awaitsOn, waitersOn, noCircle}
 
 -- "The sizes are exact."
 unfoldable pub sizesExact : Sizes → Tables → Bool
@@ -26,7 +26,8 @@ topsMost t = leb (lastNumber t) lastWord && leb (clock t) lastWord
 -- "A free row is all zeros"
 unfoldable pub freeZero : Txn → Bool
 freeZero r =
-    implies (not (live r)) (eqb (r .kind) 0 && (eqb (r .start) 0 && (eqb (r .awaitedLock) 0 && eqb (r .awaitedItem) 0)))
+    implies (not (live r))
+    (eqb (r .kind) 0 && (eqb (r .start) 0 && (eqb (r .awaitedLock) 0 && (eqb (r .awaitedItem) 0 && eqb (r .rank) 0))))
 
 -- "kinds and awaited locks are as listed"
 unfoldable pub listed : Txn → Bool
@@ -37,9 +38,9 @@ unfoldable pub startGood : ℕ → Txn → Bool
 startGood now r =
     implies (liveUpdate r) (eqb (r .start) 0) && implies (liveQuery r) (leb (r .start) now && eqb (r .awaitedLock) noLock)
 
--- "an awaited item is below 64, and 0 where nothing is awaited"
+-- "an awaited item is below 64, and 0 where nothing is awaited"; request E4: the rank is "0 if it awaits nothing"
 unfoldable pub awaitedGood : Sizes → Txn → Bool
-awaitedGood S r = cond (eqb (r .awaitedLock) noLock) (eqb (r .awaitedItem) 0) (ltb (r .awaitedItem) (S .items))
+awaitedGood S r = cond (eqb (r .awaitedLock) noLock) (eqb (r .awaitedItem) 0 && eqb (r .rank) 0) (ltb (r .awaitedItem) (S .items))
 
 -- "who awaits shared holds nothing on that item, who awaits exclusive does not hold it exclusively"
 unfoldable pub awaiterGood : ℕ → Txn → Lock → Bool
@@ -85,6 +86,28 @@ fullIdle S n r = implies (liveUpdate r && eqb n (S .quota)) (not (eqb (r .awaite
 unfoldable pub quotaGood : Sizes → List ℕ → ℕ → Txn → Bool
 quotaGood S l s r = quotaMost S (exclusivesOf S l s) r && fullIdle S (exclusivesOf S l s) r
 
+-- ---- request E4: the ranks
+-- "from 1 without gaps": the rank of slot s, if it waits, is one of as many as wait on its item
+unfoldable pub rankWithin : Sizes → List ℕ → ℕ → Bool
+rankWithin S t s =
+    let r = txn t s in
+    let within = leb 1 (r .rank) && leb (r .rank) (waitersOn S t (r .awaitedItem)) in
+    implies (awaits r) within
+
+-- slots r and s on one item have two ranks, and one that shares the item stands ahead of one that does not
+unfoldable pub ranksApart : List ℕ → List ℕ → ℕ → ℕ → Bool
+ranksApart t l r s =
+    let x = (txn t r) .awaitedItem in
+    let both = awaitsOn x (txn t s) in
+    let apart =
+    not (eqb ((txn t r) .rank) ((txn t s) .rank))
+    && implies (holdsShared (lock l x) r && not (holdsShared (lock l x) s)) (ltb ((txn t r) .rank) ((txn t s) .rank)) in
+    implies (awaits (txn t r) && both) apart
+
+unfoldable pub ranksGood : Sizes → List ℕ → List ℕ → Bool
+ranksGood S t l =
+    everyBelow (S .slots) (λ s. rankWithin S t s && everyBelow (S .slots) (λ r. implies (not (eqb r s)) (ranksApart t l r s)))
+
 -- ---- one row of versions
 -- "stamps fall strictly"
 unfoldable pub falls : List Version → Bool
@@ -120,4 +143,4 @@ good S G =
     && (everyBelow (S .slots) (λ s. quotaGood S (G .locks) s (txn (G .txns) s))
     && ((let qs = starts S (G .txns) in
     everyRow (S .items) (versionRow S) (λ x r. versionsGood S (clock (G .txns)) qs r) 0 (G .versions))
-    && noCircle S (G .txns) (G .locks)))))))
+    && (ranksGood S (G .txns) (G .locks) && noCircle S (G .txns) (G .locks))))))))

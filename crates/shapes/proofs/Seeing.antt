@@ -12,7 +12,7 @@ use Rattle.names.specs.Sizes.{base}
 use Rattle.rules.specs.Words.{implies, everyBelow}
 use Rattle.rules.specs.Tables.{lastNumber, clock, Txn, txn, live, liveUpdate, liveQuery, aQuery, noLock, exclusiveLock}
 use Rattle.rules.specs.Tested.{topsMost, freeZero, listed, startGood, awaitedGood}
-use Rattle.rules.proofs.Tests.{is-true, implies-make, same?}
+use Rattle.rules.proofs.Tests.{is-true, true-is, and-left, implies-make, same?}
 use Rattle.rules.proofs.Counts.{→everyBelow}
 use Rattle.rules.proofs.EqualRows.{live-number}
 use Rattle.words.proofs.Turns.{every-more}
@@ -63,33 +63,33 @@ module _ (t : List ℕ) (r : Txn) where
   small : r .awaitedLock ≡ 0 → leb (r .awaitedLock) exclusiveLock ≡ true
   small e = le-leb (r .awaitedLock) exclusiveLock (omega arith)
 
-  pub free-same : r .number ≡ 0 → freeOk (r .kind) (r .start) (r .awaitedLock) (r .awaitedItem) ≡ rowGood base t r
+  pub free-same : r .number ≡ 0 → freeOk (r .kind) (r .start) (r .awaitedLock) (r .awaitedItem) (r .rank) ≡ rowGood base t r
   unfolding rowGood freeZero listed startGood awaitedGood live liveUpdate liveQuery implies
   free-same e =
       rw (eq-eqb (r .number) 0 e, le-leb (r .number) (lastNumber t) (omega arith))
-      (free-law (eqb (r .kind) 0) (eqb (r .start) 0) (eqb (r .awaitedLock) 0) (eqb (r .awaitedItem) 0) (leb (r .kind) aQuery) (leb (r .awaitedLock) exclusiveLock) (ltb (r .awaitedItem) (base .items))
+      (free-law (eqb (r .kind) 0) (eqb (r .start) 0) (eqb (r .awaitedLock) 0) (eqb (r .awaitedItem) 0 && eqb (r .rank) 0) (leb (r .kind) aQuery) (leb (r .awaitedLock) exclusiveLock) (ltb (r .awaitedItem) (base .items))
       (λ z. le-leb (r .kind) aQuery (let k = eqb-true (r .kind) 0 z in omega arith))
       (λ z. small (eqb-true (r .awaitedLock) 0 z)))
 
-  pub update-same : r .number ≢ 0 → r .kind ≡ 0 → updateOk (lastNumber t) (r .number) (r .start) (r .awaitedLock) (r .awaitedItem) ≡ rowGood base t r
+  pub update-same : r .number ≢ 0 → r .kind ≡ 0 → updateOk (lastNumber t) (r .number) (r .start) (r .awaitedLock) (r .awaitedItem) (r .rank) ≡ rowGood base t r
   unfolding rowGood freeZero listed startGood awaitedGood live liveUpdate liveQuery implies
   update-same d e =
       rw (ne-eqb (r .number) 0 d, eq-eqb (r .kind) 0 e, ne-eqb (r .kind) 1 (λ z. omega arith), le-leb (r .kind) aQuery (omega arith))
-      (update-law (leb (r .number) (lastNumber t)) (eqb (r .start) 0) (leb (r .awaitedLock) exclusiveLock) (ltb (r .awaitedItem) (base .items)) (eqb (r .awaitedLock) 0) (eqb (r .awaitedItem) 0)
-      (λ z. lt-ltb (r .awaitedItem) (base .items) (let k = eqb-true (r .awaitedItem) 0 z in omega arith)))
+      (update-law (leb (r .number) (lastNumber t)) (eqb (r .start) 0) (leb (r .awaitedLock) exclusiveLock) (ltb (r .awaitedItem) (base .items)) (eqb (r .awaitedLock) 0) (eqb (r .awaitedItem) 0 && eqb (r .rank) 0)
+      (λ z. lt-ltb (r .awaitedItem) (base .items) (let k = eqb-true (r .awaitedItem) 0 (is-true (eqb (r .awaitedItem) 0) (and-left (eqb (r .awaitedItem) 0) (eqb (r .rank) 0) (true-is z))) in omega arith)))
 
-  pub query-same : r .number ≢ 0 → r .kind ≢ 0 → queryOk (lastNumber t) (clock t) (r .number) (r .kind) (r .start) (r .awaitedLock) (r .awaitedItem) ≡ rowGood base t r
+  pub query-same : r .number ≢ 0 → r .kind ≢ 0 → queryOk (lastNumber t) (clock t) (r .number) (r .kind) (r .start) (r .awaitedLock) (r .awaitedItem) (r .rank) ≡ rowGood base t r
   unfolding rowGood freeZero listed startGood awaitedGood live liveUpdate liveQuery implies
   query-same d e = go (same? (r .kind) 1)
     where
-      go : (r .kind ≡ 1) ⊎ (r .kind ≢ 1) → queryOk (lastNumber t) (clock t) (r .number) (r .kind) (r .start) (r .awaitedLock) (r .awaitedItem) ≡ rowGood base t r
+      go : (r .kind ≡ 1) ⊎ (r .kind ≢ 1) → queryOk (lastNumber t) (clock t) (r .number) (r .kind) (r .start) (r .awaitedLock) (r .awaitedItem) (r .rank) ≡ rowGood base t r
       go (inl q) =
           rw (ne-eqb (r .number) 0 d, ne-eqb (r .kind) 0 e, eq-eqb (r .kind) 1 q, le-leb (r .kind) aQuery (omega arith))
-          (query-law (leb (r .number) (lastNumber t)) (leb (r .start) (clock t)) (eqb (r .awaitedLock) 0) (eqb (r .awaitedItem) 0) (leb (r .awaitedLock) exclusiveLock) (ltb (r .awaitedItem) (base .items))
+          (query-law (leb (r .number) (lastNumber t)) (leb (r .start) (clock t)) (eqb (r .awaitedLock) 0) (eqb (r .awaitedItem) 0 && eqb (r .rank) 0) (leb (r .awaitedLock) exclusiveLock) (ltb (r .awaitedItem) (base .items))
           (λ z. small (eqb-true (r .awaitedLock) 0 z)))
       go (inr q) =
           rw (ne-eqb (r .number) 0 d, ne-eqb (r .kind) 1 q, lt-leb (r .kind) aQuery (omega arith))
-          (kind-law (leb (r .number) (lastNumber t)) (leb (r .start) (clock t)) (eqb (r .awaitedLock) 0) (eqb (r .awaitedItem) 0))
+          (kind-law (leb (r .number) (lastNumber t)) (leb (r .start) (clock t)) (eqb (r .awaitedLock) 0) (eqb (r .awaitedItem) 0 && eqb (r .rank) 0))
 
 -- which of them is a live update
 module _ (r : Txn) where

@@ -37,16 +37,20 @@ abbrev pub seen : Sizes → List ℕ → Seen
 seen S t = record { ok = rowsGood S t; updates = updatesIn S t; waiting = waitingIn S t }
 
 -- ---- a row as the code tests it, by its words
-abbrev pub freeOk : ℕ → ℕ → ℕ → ℕ → Bool
-freeOk kind start wanted item = eqb kind 0 && eqb start 0 && eqb wanted 0 && eqb item 0
+abbrev pub freeOk : ℕ → ℕ → ℕ → ℕ → ℕ → Bool
+freeOk kind start wanted item rank = eqb kind 0 && eqb start 0 && eqb wanted 0 && (eqb item 0 && eqb rank 0)
 
-abbrev pub updateOk : ℕ → ℕ → ℕ → ℕ → ℕ → Bool
-updateOk last number start wanted item =
-    leb number last && eqb start 0 && leb wanted exclusiveLock && ltb item (base .items) && (not (eqb wanted noLock) || eqb item 0)
+abbrev pub updateOk : ℕ → ℕ → ℕ → ℕ → ℕ → ℕ → Bool
+updateOk last number start wanted item rank =
+    leb number last
+    && eqb start 0
+    && leb wanted exclusiveLock
+    && ltb item (base .items)
+    && (not (eqb wanted noLock) || (eqb item 0 && eqb rank 0))
 
-abbrev pub queryOk : ℕ → ℕ → ℕ → ℕ → ℕ → ℕ → ℕ → Bool
-queryOk last now number kind start wanted item =
-    leb number last && eqb kind aQuery && leb start now && eqb wanted noLock && eqb item 0
+abbrev pub queryOk : ℕ → ℕ → ℕ → ℕ → ℕ → ℕ → ℕ → ℕ → Bool
+queryOk last now number kind start wanted item rank =
+    leb number last && eqb kind aQuery && leb start now && eqb wanted noLock && (eqb item 0 && eqb rank 0)
 
 -- no slot below i has the number n; the number of slot i is that of no slot below, if it is one
 unfoldable pub apartFrom : List ℕ → ℕ → ℕ → Bool

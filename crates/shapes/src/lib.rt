@@ -18,6 +18,7 @@ use names::TXN_HEAD;
 use names::TXN_ITEM_AT;
 use names::TXN_KIND_AT;
 use names::TXN_LOCK_AT;
+use names::TXN_RANK_AT;
 use names::TXN_ROW;
 use names::TXN_START_AT;
 use names::UPDATE_KIND;
@@ -33,21 +34,22 @@ pub struct Seen {
 }
 
 // A free row is all zeros.
-fn free_ok(kind: u64, start: u64, wanted: u64, item: u64) -> bool
-    ensures { λ r. ⌜ r ≡ freeOk kind start wanted item ⌝ }
+fn free_ok(kind: u64, start: u64, wanted: u64, item: u64, rank: u64) -> bool
+    ensures { λ r. ⌜ r ≡ freeOk kind start wanted item rank ⌝ }
 {
-    (kind == 0) & (start == 0) & (wanted == 0) & (item == 0)
+    (kind == 0) & (start == 0) & (wanted == 0) & ((item == 0) & (rank == 0))
 }
 
-// A live update has a number that was given and no start; it may await a lock on an item.
-fn update_ok(last: u64, number: u64, start: u64, wanted: u64, item: u64) -> bool
-    ensures { λ r. ⌜ r ≡ updateOk last number start wanted item ⌝ }
+// A live update has a number that was given and no start; it may await a lock on an item, with a
+// rank there.
+fn update_ok(last: u64, number: u64, start: u64, wanted: u64, item: u64, rank: u64) -> bool
+    ensures { λ r. ⌜ r ≡ updateOk last number start wanted item rank ⌝ }
 {
     (number <= last)
         & (start == 0)
         & (wanted <= EXCLUSIVE_LOCK)
         & (item < names::ITEMS)
-        & (!(wanted == NO_LOCK) | (item == 0))
+        & (!(wanted == NO_LOCK) | ((item == 0) & (rank == 0)))
 }
 
 // A live query has a number that was given and a start that was; it awaits nothing.
@@ -59,10 +61,15 @@ fn query_ok(
     start: u64,
     wanted: u64,
     item: u64,
+    rank: u64,
 ) -> bool
-    ensures { λ r. ⌜ r ≡ queryOk last clock number kind start wanted item ⌝ }
+    ensures { λ r. ⌜ r ≡ queryOk last clock number kind start wanted item rank ⌝ }
 {
-    (number <= last) & (kind == QUERY_KIND) & (start <= clock) & (wanted == NO_LOCK) & (item == 0)
+    (number <= last)
+        & (kind == QUERY_KIND)
+        & (start <= clock)
+        & (wanted == NO_LOCK)
+        & ((item == 0) & (rank == 0))
 }
 
 // One pass over the transaction rows.
@@ -83,17 +90,18 @@ pub fn rows(txns: &[u64]) -> Seen
         let start = txns[at + TXN_START_AT];
         let wanted = txns[at + TXN_LOCK_AT];
         let item = txns[at + TXN_ITEM_AT];
+        let rank = txns[at + TXN_RANK_AT];
         if number == 0 {
-            ok = ok & free_ok(kind, start, wanted, item);
+            ok = ok & free_ok(kind, start, wanted, item, rank);
         } else {
             if kind == UPDATE_KIND {
-                ok = ok & update_ok(last, number, start, wanted, item);
+                ok = ok & update_ok(last, number, start, wanted, item, rank);
                 updates = updates | (1 << slot);
                 if wanted != NO_LOCK {
                     waiting = waiting | (1 << slot);
                 }
             } else {
-                ok = ok & query_ok(last, clock, number, kind, start, wanted, item);
+                ok = ok & query_ok(last, clock, number, kind, start, wanted, item, rank);
             }
         }
         slot += 1;

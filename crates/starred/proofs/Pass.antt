@@ -1,24 +1,14 @@
 -- The starred trials pass.
-use mathlib.Core.Bool.{Bool}
-use mathlib.Core.List.{List}
 use lib.Dec.{T}
-use Rattle.rules.specs.Words.{implies, everyBelow, someBelow, countBelow, firstFrom, every, some, tabulateFrom, row, everyRow, mapRows, bit, withBit, withoutBit}
-use Rattle.rules.specs.Tables.{txn, setTxn, setAwaited, live, liveUpdate, liveQuery, slotOf, freeSlot, startsFrom, starts, lock, setLock, holdsShared, holdsExclusive, holds, exclusivesOf, released, release, fresh}
-use Rattle.rules.specs.Versions.{pairs, versionsIn, versionsOf, pairWords, rowOf, stampAt, newest, place, choice, readBySome, keptFrom, kept, rewritten}
-use Rattle.rules.specs.Waits.{conflicts, blocks, blocked, waitsFor, marked, spread, rounds, reached, circleAt, noCircle}
-use Rattle.rules.specs.Tested.{sizesExact, topsMost, freeZero, listed, startGood, awaitedGood, awaiterGood, txnGood, distinct, holdersLive, lockGood, quotaMost, fullIdle, quotaGood, falls, lastOld, allRead, versionsGood, good}
-use Rattle.rules.specs.Locks.{heldBy, decide, anotherShares, anotherExcludes, decision}
-use Rattle.rules.specs.Step.{begun, beginBy, conflicted, cleared, locked, cellDeed, access, awaitsOther, writesFurther, queryRead, readBy, writeBy, withNew, committed, ended, commitBy, aborted, abortBy, judged, done, act, step}
-use Rattle.rules.specs.Tables.{Tables}
 use Rattle.names.specs.Sizes.{base}
-use Rattle.starred.specs.Plays.{Line, answers, passes, AllPass, none, also}
-use Rattle.starred.specs.Trials.{trialA, trialB, trialC, trialD, trialE, trialF, begins, trialG, trialH, turns, trialI, fullRow, trialJ, clockSpent, trialK, trialL, uncounted, anyEnd, trials}
-use Rattle.starred.specs.Quotas.{writes, trialQ, trialR}
-
--- a trial, as it is computed: whoever unfolds this computes with all the rules
-unfoldable computed : List Line → (Tables → Bool) → Tables → Bool
-unfolding passes answers implies everyBelow someBelow countBelow firstFrom every some tabulateFrom row everyRow mapRows bit withBit withoutBit txn setTxn setAwaited live liveUpdate liveQuery slotOf freeSlot startsFrom starts lock setLock holdsShared holdsExclusive holds exclusivesOf released release fresh pairs versionsIn versionsOf pairWords rowOf stampAt newest place choice readBySome keptFrom kept rewritten conflicts blocks blocked waitsFor marked spread rounds reached circleAt noCircle sizesExact topsMost freeZero listed startGood awaitedGood awaiterGood txnGood distinct holdersLive lockGood quotaMost fullIdle quotaGood falls lastOld allRead versionsGood good heldBy decide anotherShares anotherExcludes decision begun beginBy conflicted cleared locked cellDeed access awaitsOther writesFurther queryRead readBy writeBy withNew committed ended commitBy aborted abortBy judged done act step
-computed ls end G = passes ls end G
+use Rattle.rules.specs.Tables.{fresh}
+use Rattle.plays.specs.Plays.{passes, anyEnd, AllPass, none, also}
+use Rattle.plays.proofs.Computed.{computed}
+use Rattle.starred_row.proofs.Pass.{pass-I}
+use Rattle.starred_quotas.proofs.Pass.{pass-Q, pass-R}
+use Rattle.starred_waiters.specs.Waiters.{stands, nobodyStands, secondStands}
+use Rattle.starred_waiters.proofs.Pass.{pass-S, pass-T, pass-U, pass-V}
+use Rattle.starred.specs.Trials.{trialA, trialB, trialC, trialD, trialE, trialF, begins, trialG, trialH, trialJ, clockSpent, trialK, trialL, uncounted, trials}
 
 pass-A : T (passes trialA anyEnd (fresh base))
 unfolding computed trialA
@@ -28,20 +18,20 @@ pass-B : T (passes trialB anyEnd (fresh base))
 unfolding computed trialB
 pass-B = tt
 
-pass-C : T (passes trialC anyEnd (fresh base))
-unfolding computed trialC
+pass-C : T (passes trialC nobodyStands (fresh base))
+unfolding computed trialC stands nobodyStands
 pass-C = tt
 
 pass-D : T (passes trialD anyEnd (fresh base))
 unfolding computed trialD
 pass-D = tt
 
-pass-E : T (passes trialE anyEnd (fresh base))
-unfolding computed trialE
+pass-E : T (passes trialE nobodyStands (fresh base))
+unfolding computed trialE stands nobodyStands
 pass-E = tt
 
-pass-F : T (passes trialF anyEnd (fresh base))
-unfolding computed trialF
+pass-F : T (passes trialF secondStands (fresh base))
+unfolding computed trialF stands secondStands
 pass-F = tt
 
 pass-G : T (passes trialG anyEnd (fresh base))
@@ -51,10 +41,6 @@ pass-G = tt
 pass-H : T (passes trialH anyEnd (fresh base))
 unfolding computed trialH
 pass-H = tt
-
-pass-I : T (passes trialI fullRow (fresh base))
-unfolding computed turns trialI fullRow
-pass-I = tt
 
 pass-J : T (passes trialJ anyEnd clockSpent)
 unfolding computed trialJ clockSpent
@@ -67,14 +53,6 @@ pass-K = tt
 pass-L : T (passes trialL anyEnd uncounted)
 unfolding computed trialL uncounted
 pass-L = tt
-
-pass-Q : T (passes trialQ anyEnd (fresh base))
-unfolding computed writes trialQ
-pass-Q = tt
-
-pass-R : T (passes trialR anyEnd (fresh base))
-unfolding computed writes trialR
-pass-R = tt
 
 pub all-trials : AllPass trials
 unfolding trials
@@ -93,4 +71,8 @@ all-trials =
     (also pass-L
     (also pass-Q
     (also pass-R
-    none)))))))))))))
+    (also pass-S
+    (also pass-T
+    (also pass-U
+    (also pass-V
+    none)))))))))))))))))

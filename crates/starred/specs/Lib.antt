@@ -1,4 +1,2 @@
 -- The starred trials of document 01.
-pub mod Plays
-pub mod Quotas
 pub mod Trials

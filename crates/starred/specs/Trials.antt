@@ -1,14 +1,14 @@
 -- Document 01, "Trials on both sides of each limit": the starred ones. T1, T2, .. are the transactions 1, 2, ..
-use Prim.Native.Nat.{ℕ, zero, suc, _+_}
-use mathlib.Core.Bool.{Bool, true}
+use Prim.Native.Nat.{ℕ, zero, suc}
 use mathlib.Core.List.{List, [], _∷_, _++_}
-use lib.ListN.{getD, set}
-use lib.Dec.{eqb}
+use lib.ListN.{set}
 use Rattle.names.specs.Sizes.{base, lastWord}
 use Rattle.rules.specs.Tables.{Tables, tables, fresh, versionRow}
 use Rattle.rules.specs.Answers.{BeginUpdate, BeginQuery, Read, Write, Commit, Abort}
-use Rattle.starred.specs.Plays.{Line, _⇒_, Trial}
-use Rattle.starred.specs.Quotas.{trialQ, trialR}
+use Rattle.plays.specs.Plays.{Line, _⇒_, Trial, anyEnd}
+use Rattle.starred_row.specs.FullRow.{trialI, fullRow}
+use Rattle.starred_quotas.specs.Quotas.{trialQ, trialR}
+use Rattle.starred_waiters.specs.Waiters.{nobodyStands, secondStands, trialS, trialT, exchangerAhead, trialU, closedUpLine, trialV}
 
 -- "A. The run above."
 unfoldable pub trialA : List Line
@@ -81,23 +81,6 @@ trialG =
 unfoldable pub trialH : List Line
 trialH = (BeginQuery ⇒ (0, 0, 1, 0)) ∷ (Write 1 3 8 ⇒ (5, 0, 0, 0)) ∷ (Write 1 64 8 ⇒ (4, 0, 0, 0)) ∷ []
 
--- "I. A query at each stamp 0 to 14, an update writing item 0 after each: row 0 has count 16, and the first query looks at 16.":
--- n queries and updates, the first number being n + 1, the clock c
-unfoldable pub turns : ℕ → ℕ → ℕ → List Line
-turns n c zero = []
-turns n c (suc k) =
-    (BeginQuery ⇒ (0, 0, n + 1, 0))
-    ∷ (BeginUpdate ⇒ (0, 0, n + 2, 0))
-    ∷ (Write (n + 2) 0 (c + 100) ⇒ (0, 0, 0, 0))
-    ∷ (Commit (n + 2) ⇒ (0, 0, c + 1, 0))
-    ∷ turns (n + 2) (c + 1) k
-
-unfoldable pub trialI : List Line
-trialI = turns 0 0 15 ++ ((Read 1 0 ⇒ (0, 0, 0, 16)) ∷ [])
-
-unfoldable pub fullRow : Tables → Bool
-fullRow G = eqb (getD (G .versions) 0 0) 16
-
 -- "J. Clock spent: update commit 9 and it lives on; query commit 0."
 unfoldable pub trialJ : List Line
 trialJ =
@@ -130,18 +113,15 @@ trialL = (BeginUpdate ⇒ (10, 0, 0, 0)) ∷ []
 unfoldable pub uncounted : Tables
 uncounted = tables ((fresh base) .txns) ((fresh base) .locks) (set ((fresh base) .versions) (versionRow base) 0)
 
--- ---- the list of them, and of the two of request E2
-abbrev pub anyEnd : Tables → Bool
-anyEnd G = true
-
+-- ---- the list of them, and of those of requests E2 and E4; the ends of C, E and F are those of E4
 unfoldable pub trials : List Trial
 trials =
     (record { from = fresh base; script = trialA; end = anyEnd })
     ∷ (record { from = fresh base; script = trialB; end = anyEnd })
-    ∷ (record { from = fresh base; script = trialC; end = anyEnd })
+    ∷ (record { from = fresh base; script = trialC; end = nobodyStands })
     ∷ (record { from = fresh base; script = trialD; end = anyEnd })
-    ∷ (record { from = fresh base; script = trialE; end = anyEnd })
-    ∷ (record { from = fresh base; script = trialF; end = anyEnd })
+    ∷ (record { from = fresh base; script = trialE; end = nobodyStands })
+    ∷ (record { from = fresh base; script = trialF; end = secondStands })
     ∷ (record { from = fresh base; script = trialG; end = anyEnd })
     ∷ (record { from = fresh base; script = trialH; end = anyEnd })
     ∷ (record { from = fresh base; script = trialI; end = fullRow })
@@ -150,4 +130,8 @@ trials =
     ∷ (record { from = uncounted; script = trialL; end = anyEnd })
     ∷ (record { from = fresh base; script = trialQ; end = anyEnd })
     ∷ (record { from = fresh base; script = trialR; end = anyEnd })
+    ∷ (record { from = fresh base; script = trialS; end = nobodyStands })
+    ∷ (record { from = fresh base; script = trialT; end = exchangerAhead })
+    ∷ (record { from = fresh base; script = trialU; end = closedUpLine })
+    ∷ (record { from = fresh base; script = trialV; end = secondStands })
     ∷ []

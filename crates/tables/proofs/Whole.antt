@@ -9,7 +9,7 @@ use Rattle.names.specs.Sizes.{base}
 use Rattle.rules.specs.Words.{everyBelow, everyRow}
 use Rattle.rules.specs.Tables.{tables, txnWords, lockWords, versionWords, versionRow, clock, starts, txn, lock}
 use Rattle.rules.specs.Waits.{noCircle}
-use Rattle.rules.specs.Tested.{good, sizesExact, topsMost, txnGood, awaiterGood, distinct, lockGood, quotaGood, versionsGood}
+use Rattle.rules.specs.Tested.{good, sizesExact, topsMost, txnGood, awaiterGood, distinct, lockGood, quotaGood, versionsGood, ranksGood}
 use Rattle.rules.proofs.Tests.{and-left, and-right, and-both, is-false, eq-make}
 use Rattle.rules.proofs.Counts.{everyBelow→, →everyBelow}
 use Rattle.words.proofs.Turns.{iff-eq}
@@ -32,6 +32,7 @@ pub record Parts (t l v : List ℕ) : Type 0 where
   pub quotas : T (quotasGood base t l)
   pub numbers : T (distinct base t)
   pub awaiters : T (awaitersGood base t l)
+  pub ranks : T (ranksGood base t l)
   pub free : T (noCircle base t l)
   pub versions : T (versionsTest t v)
 
@@ -54,6 +55,7 @@ module _ (t l v : List ℕ) where
       let h₄ = and-right (distinct base t) _ h₃ in
       let h₅ = and-right (everyBelow (base .items) (λ x. lockGood base t (lock l x))) _ h₄ in
       let h₆ = and-right (everyBelow (base .slots) quotaTest) _ h₅ in
+      let h₇ = and-right (versionsTest t v) _ h₆ in
       let a = and-left (sizesExact base (tables t l v)) _ h in
       let b = and-right (eqb (length t) (txnWords base)) _ a in
       let both : (s : ℕ) → s < base .slots → T (rowGood base t (txn t s) && awaiterTest s)
@@ -67,7 +69,8 @@ module _ (t l v : List ℕ) where
         quotas = and-left (everyBelow (base .slots) quotaTest) _ h₅;
         numbers = and-left (distinct base t) _ h₃;
         awaiters = →everyBelow (base .slots) awaiterTest (λ s i. and-right (rowGood base t (txn t s)) _ (both s i));
-        free = and-right (versionsTest t v) _ h₆;
+        ranks = and-left (ranksGood base t l) _ h₇;
+        free = and-right (ranksGood base t l) _ h₇;
         versions = and-left (versionsTest t v) _ h₆;
       }
 
@@ -87,7 +90,8 @@ module _ (t l v : List ℕ) where
       (and-both (distinct base t) _ (p .numbers)
       (and-both (everyBelow (base .items) (λ x. lockGood base t (lock l x))) _ (p .locks)
       (and-both (everyBelow (base .slots) quotaTest) _ (p .quotas)
-      (and-both (versionsTest t v) _ (p .versions) (p .free)))))))
+      (and-both (versionsTest t v) _ (p .versions)
+      (and-both (ranksGood base t l) _ (p .ranks) (p .free))))))))
 
   -- one part that fails
   pub fails : (Parts t l v → ⊥) → false ≡ good base (tables t l v)

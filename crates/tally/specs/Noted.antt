@@ -1,26 +1,36 @@
--- What a wait notes: "only the caller's awaited fields".
+-- What a wait notes; request E4: the caller's place in the line, and the ranks behind it.
 use Prim.Native.Nat.{ℕ}
-use mathlib.Core.Bool.{cond}
+use mathlib.Core.Bool.{Bool, cond}
 use mathlib.Core.List.{List}
 use lib.ListN.{length}
-use lib.Dec.{eqb}
+use lib.Dec.{eqb, leb, ltb}
 use Rattle.names.specs.Sizes.{base}
-use Rattle.rules.specs.Tables.{txnWords, slotOf, setAwaited, sharedLock, exclusiveLock}
+use Rattle.rules.specs.Words.{everyBelow}
+use Rattle.rules.specs.Tables.{txnWords, lockWords, slotOf, txn, sharedLock, exclusiveLock}
+use Rattle.rules.specs.Waits.{noted}
 use Rattle.rules.specs.Answers.{Call, BeginUpdate, BeginQuery, Read, Write, Commit, Abort}
 
--- the transactions with the awaited lock and item of the live transaction n; where there is none, as they are
-unfoldable pub awaited : List ℕ → ℕ → ℕ → ℕ → List ℕ
-awaited t n k x = cond (eqb (slotOf base t n) (base .slots)) t (setAwaited t (slotOf base t n) k x)
+-- the transactions with the wait of the live transaction n noted; where there is none, or no such item, as they are
+unfoldable pub awaited : List ℕ → List ℕ → ℕ → ℕ → ℕ → List ℕ
+awaited t l n k x =
+    cond (eqb (slotOf base t n) (base .slots)) t (cond (ltb x (base .items)) (noted base t l (slotOf base t n) k x) t)
 
 -- the transactions as a call leaves them that waits
-unfoldable pub notedIn : Call → List ℕ → List ℕ
-notedIn BeginUpdate t = t
-notedIn BeginQuery t = t
-notedIn (Read n x) t = awaited t n sharedLock x
-notedIn (Write n x v) t = awaited t n exclusiveLock x
-notedIn (Commit n) t = t
-notedIn (Abort n) t = t
+unfoldable pub waitedIn : Call → List ℕ → List ℕ → List ℕ
+waitedIn BeginUpdate t l = t
+waitedIn BeginQuery t l = t
+waitedIn (Read n x) t l = awaited t l n sharedLock x
+waitedIn (Write n x v) t l = awaited t l n exclusiveLock x
+waitedIn (Commit n) t l = t
+waitedIn (Abort n) t l = t
 
--- on words of any length
-unfoldable pub noted : Call → List ℕ → List ℕ
-noted c t = cond (eqb (length t) (txnWords base)) (notedIn c t) t
+-- nobody waits in words of another length, nor where a rank is above the number of slots
+unfoldable pub rankSmall : List ℕ → ℕ → Bool
+rankSmall t s = leb ((txn t s) .rank) (base .slots)
+
+unfoldable pub ranksSmall : List ℕ → Bool
+ranksSmall t = everyBelow (base .slots) (rankSmall t)
+
+unfoldable pub waited : Call → List ℕ → List ℕ → List ℕ
+waited c t l =
+    cond (eqb (length t) (txnWords base)) (cond (eqb (length l) (lockWords base)) (cond (ranksSmall t) (waitedIn c t l) t) t) t

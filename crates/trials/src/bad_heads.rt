@@ -38,35 +38,35 @@ on 0
 lend 0 192 2112
 damage: no words of transactions
 on 0
-lend 81 192 2112
-damage: 81 words of transactions
+lend 97 192 2112
+damage: 97 words of transactions
 on 0
-lend 83 192 2112
-damage: 83 words of transactions
+lend 99 192 2112
+damage: 99 words of transactions
 on 0
-lend 82 0 2112
+lend 98 0 2112
 damage: no words of locks
 on 0
-lend 82 191 2112
+lend 98 191 2112
 damage: 191 words of locks
 on 0
-lend 82 193 2112
+lend 98 193 2112
 damage: 193 words of locks
 on 0
-lend 82 192 0
+lend 98 192 0
 damage: no words of versions
 on 0
-lend 82 192 2111
+lend 98 192 2111
 damage: 2111 words of versions
 on 0
-lend 82 192 2113
+lend 98 192 2113
 damage: 2113 words of versions
 on 0
 lend 0 0 0
 damage: no words at all
 on 0
-lend 82 192 2112
-good: 82, 192 and 2112 words
+lend 98 192 2112
+good: 98, 192 and 2112 words
 ",
         tally,
     )

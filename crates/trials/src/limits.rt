@@ -42,21 +42,21 @@ update: 8 0 0 0
 query: 8 0 0 0
 trial N: a transaction table of one word less, one more, and the right size
 update: 0 0 1 0
-lend 81 192 2112
+lend 97 192 2112
 update: 10 0 0 0
 query: 10 0 0 0
 read 1 0: 10 0 0 0
 write 1 0 5: 10 0 0 0
 commit 1: 10 0 0 0
 abort 1: 10 0 0 0
-lend 83 192 2112
+lend 99 192 2112
 update: 10 0 0 0
 query: 10 0 0 0
 read 1 0: 10 0 0 0
 write 1 0 5: 10 0 0 0
 commit 1: 10 0 0 0
 abort 1: 10 0 0 0
-lend 82 192 2112
+lend 98 192 2112
 update: 0 0 2 0
 read 1 0: 0 0 0 1
 write 1 0 5: 0 0 0 0

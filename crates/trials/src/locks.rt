@@ -36,11 +36,13 @@ read 2 8: 0 0 0 1
 read 2 7: 1 0 0 0
 see transactions 1 3: 1
 see transactions 1 4: 7
+see transactions 1 5: 1
 read 2 7: 1 0 0 0
 commit 1: 0 0 1 0
 read 2 7: 0 42 0 1
 see transactions 1 3: 0
 see transactions 1 4: 0
+see transactions 1 5: 0
 trial D: the own shared lock is exchanged for the exclusive one
 update: 0 0 1 0
 read 1 9: 0 0 0 1
@@ -61,6 +63,7 @@ read 2 3: 0 0 0 1
 write 1 3 8: 1 0 0 0
 see transactions 0 3: 2
 see transactions 0 4: 3
+see transactions 0 5: 1
 write 2 3 9: 2 0 0 0
 read 2 3: 0 0 0 1
 abort 2: 0 0 0 0
@@ -82,6 +85,7 @@ update: 0 0 1 0
 update: 0 0 2 0
 write 1 3 8: 0 0 0 0
 read 2 3: 1 0 0 0
+see transactions 1 5: 1
 commit 2: 6 0 0 0
 read 2 4: 6 0 0 0
 write 2 3 1: 6 0 0 0

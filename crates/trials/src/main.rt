@@ -1,5 +1,5 @@
-// The trials of document 01, all of them, and those of request E2, on the keeper as it is compiled; then
-// every kind of damage to good tables, one by one.
+// The trials of document 01, all of them, and those of requests E2 and E4, on the keeper as it is
+// compiled; then every kind of damage to good tables, one by one.
 //
 // A line for each step says what was expected and what was found, and ends in DIFFERS where the two
 // are not the same; the last line counts. What is expected is written in the texts of the trials,
@@ -20,6 +20,7 @@ mod set;
 mod stamps;
 mod state;
 mod steps;
+mod waiters;
 
 use tally::Tally;
 
@@ -27,7 +28,7 @@ fn trials(tally: Tally) -> Tally {
     let mut t = locks::f_to_h(locks::a_to_e(tally));
     t = stamps::j_to_l(stamps::i(t));
     t = limits::p(limits::o(limits::m_and_n(t)));
-    quota::r(quota::q(t))
+    waiters::s_to_v(quota::r(quota::q(t)))
 }
 
 fn damages(tally: Tally) -> Tally {

@@ -151,6 +151,7 @@ write 2 50 8: 0 0 0 0
 write 1 50 7: 1 0 0 0
 see transactions 0 3: 2
 see transactions 0 4: 50
+see transactions 0 5: 1
 write 1 50 7: 1 0 0 0
 write 1 51 7: 6 0 0 0
 read 2 0: 2 0 0 0
@@ -220,6 +221,7 @@ holder locks 39 1: 0
 holder locks 40 1: 0
 put transactions 0 3: 2
 put transactions 0 4: 1
+put transactions 0 5: 2
 good: an update holds 31 items exclusively, and awaits one more so
 holder locks 41 1: 0
 damage: an update holds 32 items exclusively, and awaits one more so
@@ -227,6 +229,7 @@ put transactions 0 3: 1
 good: an update holds 32 items exclusively, and awaits one more shared
 put transactions 0 3: 0
 put transactions 0 4: 0
+put transactions 0 5: 0
 good: an update holds 32 items exclusively
 bit locks 2 0: 0
 bit locks 3 0: 0

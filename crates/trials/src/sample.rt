@@ -62,6 +62,7 @@ put transactions 1 0: 12
 put transactions 2 0: 50
 put transactions 2 3: 1
 put transactions 2 4: 1
+put transactions 2 5: 1
 put transactions 3 0: 14
 put transactions 3 1: 1
 put transactions 3 2: 3

@@ -81,9 +81,10 @@ fn make_on(
 }
 
 // What a call that waits notes in so many words.
-fn note_on(txns: &mut [u64], lent: Lent, call: Call) {
+fn note_on(txns: &mut [u64], locks: &[u64], lent: Lent, call: Call) {
     let t = least(lent.txns, txns.len());
-    tally::note(&mut txns[..t], call);
+    let l = least(lent.locks, locks.len());
+    tally::note(&mut txns[..t], &locks[..l], call);
 }
 
 // Where a word of a row stands in its table.
@@ -190,7 +191,7 @@ impl Tables {
         let versions = self.versions;
         let lent = self.lent;
         if code == WAIT {
-            note_on(&mut txns, lent, call);
+            note_on(&mut txns, &locks, lent, call);
         }
         Tables {
             txns,

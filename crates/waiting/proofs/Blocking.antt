@@ -3,18 +3,19 @@ use Prim.Native.Nat.{ℕ, zero, suc, _-_, _^_, _<_, _≤_}
 use mathlib.Core.Path.{_≡_, refl, sym, ap, ap₂, _∙_, subst}
 use mathlib.Core.Logic.{_≢_, _⊎_, inl, inr}
 use mathlib.Core.Bool.{Bool, true, false, _&&_, _||_, not}
+use mathlib.Core.List.{List}
 use native.Mathlib.Omega.{arith}
 use lib.Bits.{bitAnd, bitOr, bitXor}
 use lib.Dec.{T, eqb, eqb·suc-suc, eqb·zero-suc, eqb→eq}
 use borrow.Author.Tests.{eq-eqb, ne-eqb}
 use Rattle.names.specs.Sizes.{base}
 use Rattle.rules.specs.Words.{bit}
-use Rattle.rules.specs.Tables.{Lock, exclusiveLock, holdsShared, holdsExclusive}
-use Rattle.rules.specs.Waits.{conflicts, blocks}
-use Rattle.rules.proofs.Tests.{and-right, or-cases}
+use Rattle.rules.specs.Tables.{txn, Lock, lock, exclusiveLock, holdsShared, holdsExclusive}
+use Rattle.rules.specs.Waits.{conflicts, ahead, blocks}
+use Rattle.rules.proofs.Tests.{and-left, and-right, or-cases}
 use Rattle.rules.proofs.Bits.{bit-none, bit-below, below-bits, one-bit-at}
 use Rattle.words.proofs.SlotWords.{or-at, sans-at, shifted}
-use Rattle.waiting.specs.Waiting.{Blockers}
+use Rattle.waiting.specs.Waiting.{Holders, Ahead, Blockers}
 use Rattle.words.proofs.SlotWords.{oneShifted}
 
 -- the word w holds the exclusive holder
@@ -48,26 +49,45 @@ pub conflicting-one : (s x k v : ℕ) → k ≢ exclusiveLock → {w : ℕ} → 
 conflicting-one s x k v h {w} o e =
     λ b. ap (λ (m : ℕ). bit m b) e ∙ o b ∙ rw (ne-eqb k exclusiveLock h) (or-false (eqb x (suc b)))
 
+-- those in conflict are slots
+pub holders-of : (h : Lock) (k w : ℕ) → h .shared < 2 ^ base .slots → h .exclusive ≤ base .slots → Conflicting (h .shared) (h .exclusive) k w → Holders h k w
+unfolding conflicts holdsShared holdsExclusive
+holders-of h k w ls lx o = record { small = below-bits (base .slots) w within; at = o }
+  where
+    holder : (b : ℕ) → T (eqb (h .exclusive) (suc b)) ⊎ T (eqb k exclusiveLock && bit (h .shared) b) → b < base .slots
+    holder b (inl p) = let e = eqb→eq (h .exclusive) (suc b) p in omega arith
+    holder b (inr p) = bit-below (h .shared) b (base .slots) ls (and-right (eqb k exclusiveLock) _ p)
+
+    within : (b : ℕ) → T (bit w b) → b < base .slots
+    within b p = holder b (or-cases (eqb (h .exclusive) (suc b)) _ (subst T (o b) p))
+
 and-swap : (a b : Bool) → (a && b) ≡ (b && a)
 and-swap true true = refl
 and-swap true false = refl
 and-swap false true = refl
 and-swap false false = refl
 
--- without the slot itself
-pub blockers-of : (h : Lock) (k i w : ℕ) → h .shared < 2 ^ base .slots → h .exclusive ≤ base .slots → i < base .slots → Conflicting (h .shared) (h .exclusive) k w → Blockers h k i (bitXor w (bitAnd w (oneShifted i)))
-unfolding blocks conflicts holdsShared holdsExclusive
-blockers-of h k i w ls lx li o = rw (shifted i (omega arith)) (record { small = below-bits (base .slots) (bitXor w (bitAnd w (2 ^ i))) within; at = at })
+-- holders and earlier waiters, without the slot itself
+pub blockers-of :
+    (t l : List ℕ) (k x p i v w : ℕ) → i < base .slots → Holders (lock l x) k v → Ahead t k x p w
+    → Blockers t l k x p i (bitXor (bitOr v w) (bitAnd (bitOr v w) (oneShifted i)))
+unfolding blocks
+blockers-of t l k x p i v w li h o =
+    rw (shifted i (omega arith)) (record { small = below-bits (base .slots) (bitXor (bitOr v w) (bitAnd (bitOr v w) (2 ^ i))) within; at = at })
   where
-    at : (b : ℕ) → bit (bitXor w (bitAnd w (2 ^ i))) b ≡ (not (eqb i b) && (eqb (h .exclusive) (suc b) || (eqb k exclusiveLock && bit (h .shared) b)))
+    both : (b : ℕ) → bit (bitOr v w) b ≡ (conflicts (lock l x) k b || ahead x k p (txn t b))
+    both b = or-at v w b ∙ ap₂ _||_ (h .at b) (o .at b)
+
+    at : (b : ℕ) → bit (bitXor (bitOr v w) (bitAnd (bitOr v w) (2 ^ i))) b ≡ (not (eqb i b) && (conflicts (lock l x) k b || ahead x k p (txn t b)))
     at b =
-        sans-at w (2 ^ i) b
-        ∙ ap₂ (λ (c d : Bool). c && not d) (o b) (one-bit-at i b)
-        ∙ and-swap (eqb (h .exclusive) (suc b) || (eqb k exclusiveLock && bit (h .shared) b)) (not (eqb i b))
+        sans-at (bitOr v w) (2 ^ i) b
+        ∙ ap₂ (λ (c d : Bool). c && not d) (both b) (one-bit-at i b)
+        ∙ and-swap (conflicts (lock l x) k b || ahead x k p (txn t b)) (not (eqb i b))
 
-    holder : (b : ℕ) → T (eqb (h .exclusive) (suc b)) ⊎ T (eqb k exclusiveLock && bit (h .shared) b) → b < base .slots
-    holder b (inl p) = let e = eqb→eq (h .exclusive) (suc b) p in omega arith
-    holder b (inr p) = bit-below (h .shared) b (base .slots) ls (and-right (eqb k exclusiveLock) _ p)
+    slot : (b : ℕ) → T (bit v b) ⊎ T (bit w b) → b < base .slots
+    slot b (inl q) = bit-below v b (base .slots) (h .small) q
+    slot b (inr q) = bit-below w b (base .slots) (o .small) q
 
-    within : (b : ℕ) → T (bit (bitXor w (bitAnd w (2 ^ i))) b) → b < base .slots
-    within b p = holder b (or-cases (eqb (h .exclusive) (suc b)) _ (and-right (not (eqb i b)) _ (subst T (at b) p)))
+    within : (b : ℕ) → T (bit (bitXor (bitOr v w) (bitAnd (bitOr v w) (2 ^ i))) b) → b < base .slots
+    within b q =
+        slot b (or-cases (bit v b) (bit w b) (subst T (or-at v w b) (and-left (bit (bitOr v w) b) (not (bit (2 ^ i) b)) (subst T (sans-at (bitOr v w) (2 ^ i) b) q))))

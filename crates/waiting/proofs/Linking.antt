@@ -14,7 +14,7 @@ use borrow.Author.Tests.{eq-eqb, ne-eqb, ltb-true, ltb-false}
 use Rattle.names.specs.Sizes.{base}
 use Rattle.rules.specs.Words.{bit, implies, everyBelow}
 use Rattle.rules.specs.Tables.{Txn, txn, Lock, lock, noLock, sharedLock, exclusiveLock, holds, holdsShared, holdsExclusive}
-use Rattle.rules.specs.Waits.{blocks, waitsFor}
+use Rattle.rules.specs.Waits.{awaits, blocks, waitsFor}
 use Rattle.rules.specs.Tested.{awaiterGood}
 use Rattle.rules.proofs.Tests.{or-left, or-right, eq-make, same?}
 use Rattle.rules.proofs.Counts.{split-le}
@@ -64,11 +64,11 @@ module _ (s : ℕ) (r : Txn) (h : Lock) where
 -- ---- whom one waits for
 module _ (t l : List ℕ) (a b : ℕ) where
   pub waits-none : (txn t a) .awaitedLock ≡ noLock → waitsFor t l a b ≡ false
-  unfolding waitsFor
+  unfolding waitsFor awaits
   waits-none e = rw (eq-eqb ((txn t a) .awaitedLock) noLock e)
 
-  waits-some : (txn t a) .awaitedLock ≢ noLock → waitsFor t l a b ≡ blocks (lock l ((txn t a) .awaitedItem)) ((txn t a) .awaitedLock) a b
-  unfolding waitsFor
+  waits-some : (txn t a) .awaitedLock ≢ noLock → waitsFor t l a b ≡ blocks t l ((txn t a) .awaitedLock) ((txn t a) .awaitedItem) ((txn t a) .rank) a b
+  unfolding waitsFor awaits
   waits-some d = rw (ne-eqb ((txn t a) .awaitedLock) noLock d)
 
 -- ---- locks that can be read
@@ -123,7 +123,7 @@ module _ (t l w : List ℕ) (ok : Bool) (i : ℕ) (k : i < base .slots) (h : Lin
   -- slot i awaits a lock
   pub linking-waits :
       (txn t i) .awaitedLock ≢ noLock → {c : Bool} {v : ℕ} → c ≡ awaiterGood i (txn t i) (lock l ((txn t i) .awaitedItem))
-      → Blockers (lock l ((txn t i) .awaitedItem)) ((txn t i) .awaitedLock) i v
+      → Blockers t l ((txn t i) .awaitedLock) ((txn t i) .awaitedItem) ((txn t i) .rank) i v
       → {w′ : List ℕ} {ok′ : Bool} → w′ ≡ set w i v → ok′ ≡ (c && ok) → Linking t l w′ ok′ (i + 1)
   linking-waits d {c} {v} e g {w′} {ok′} p q =
       let z = h .size in

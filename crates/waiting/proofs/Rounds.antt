@@ -7,11 +7,12 @@ use mathlib.Core.List.{List}
 use lib.Dec.{T}
 use Rattle.names.specs.Sizes.{base}
 use Rattle.rules.specs.Tables.{txn, noLock, lock}
-use Rattle.rules.specs.Waits.{waitsFor, Walk, noCircle}
-use Rattle.rules.specs.Tested.{awaiterGood}
+use Rattle.rules.specs.Waits.{awaits, waitsFor, Walk, noCircle}
+use Rattle.rules.specs.Tested.{awaiterGood, ranksGood}
 use Rattle.rules.proofs.Tests.{false-is, same?, true-is}
 use Rattle.rules.proofs.Counts.{→everyBelow}
 use Rattle.rules.proofs.Bits.{bit-none}
+use Rattle.rules.proofs.EqualRanks.{awaits→, awaitsOn→, Good→ranks}
 use Rattle.rules.proofs.Walks.{walk-map, waits-for→, waiter-within, no-circle→, →no-circle}
 use Rattle.circles.specs.Links.{linked, LinkWords, Waiting, NoCircle}
 use Rattle.words.proofs.Turns.{iff-eq}
@@ -55,6 +56,19 @@ module _ (t l : List ℕ) (o : Readable t l) (h : Awaiting t 0) where
   pub none-awaits : T (awaitersGood base t l)
   unfolding awaitersGood
   none-awaits = →everyBelow (base .slots) (λ s. awaiterGood s (txn t s) (lock l ((txn t s) .awaitedItem))) (λ s i. true-is (awaiter-none s (txn t s) (lock l ((txn t s) .awaitedItem)) (none s i)))
+
+  pub none-ranked : T (ranksGood base t l)
+  none-ranked =
+      Good→ranks base t l
+      (record {
+        least = λ s i a. absurd (idle s i a);
+        most = λ s i a. absurd (idle s i a);
+        apart = λ x r s i j d a. absurd (idle r i (awaitsOn→ x (txn t r) a .0));
+        exchangers = λ x r s i j a. absurd (idle r i (awaitsOn→ x (txn t r) a .0));
+      })
+    where
+      idle : (s : ℕ) → s < base .slots → T (awaits (txn t s)) → ⊥
+      idle s i a = awaits→ (txn t s) a (none s i)
 
   pub none-circles : T (noCircle base t l)
   none-circles = →no-circle base t l (o .txnsExact) (o .itemKnown) (o .inside) (λ a y. stuck y)

@@ -10,7 +10,7 @@ use Rattle.names.specs.declared.Sizes.{Sizes}
 use Rattle.names.specs.Sizes.{base}
 use Rattle.rules.specs.Words.{bit, everyBelow}
 use Rattle.rules.specs.Tables.{txn, txnWords, Lock, lock, lockWords, holds, noLock, sharedLock, exclusiveLock}
-use Rattle.rules.specs.Waits.{blocks, waitsFor}
+use Rattle.rules.specs.Waits.{conflicts, ahead, blocks, waitsFor}
 use Rattle.rules.specs.Tested.{awaiterGood}
 
 -- ---- what is known of the tables when the waits are read
@@ -27,10 +27,20 @@ pub record Awaiting (t : List ℕ) (waiting : ℕ) : Type 0 where
   pub all : (s : ℕ) → s < base .slots → (txn t s) .awaitedLock ≢ noLock → T (bit waiting s)
 
 -- ---- the answers
--- the word w holds the slots that hold a lock in conflict with slot s's request for one of kind k
-pub record Blockers (h : Lock) (k s w : ℕ) : Type 0 where
+-- the word w holds the slots whose hold on a lock conflicts with a request for one of kind k
+pub record Holders (h : Lock) (k w : ℕ) : Type 0 where
   pub small : w < 2 ^ base .slots
-  pub at : (b : ℕ) → bit w b ≡ blocks h k s b
+  pub at : (b : ℕ) → bit w b ≡ conflicts h k b
+
+-- the word w holds the slots that wait on item x before the rank p, in conflict with a request for a lock of kind k
+pub record Ahead (t : List ℕ) (k x p w : ℕ) : Type 0 where
+  pub small : w < 2 ^ base .slots
+  pub at : (b : ℕ) → bit w b ≡ ahead x k p (txn t b)
+
+-- the word w holds the slots that block slot s's request, at the rank p, for a lock of kind k on item x
+pub record Blockers (t l : List ℕ) (k x p s w : ℕ) : Type 0 where
+  pub small : w < 2 ^ base .slots
+  pub at : (b : ℕ) → bit w b ≡ blocks t l k x p s b
 
 -- the words w say whom each slot waits for
 pub record Links (t l w : List ℕ) : Type 0 where

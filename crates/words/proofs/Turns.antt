@@ -1,25 +1,16 @@
 -- Loops that test words: two tests that say the same are equal; one turn more of a loop that tests every number, or looks for
 -- one; a test that fails; an or that is zero.
-use Prim.Native.Nat.{ℕ, _+_, _<_}
+use Prim.Native.Nat.{ℕ, _<_}
 use mathlib.Core.Path.{_≡_, ap, _∙_}
-use mathlib.Core.Bool.{Bool, false, _&&_, _||_}
-use native.Mathlib.Numerals.{add-one}
+use mathlib.Core.Bool.{Bool, false, _&&_}
 use native.Mathlib.Omega.{arith}
 use lib.Bits.{bitOr, or-zero-l, or-add-and, and-le-r, and-le-l}
 use lib.Dec.{eqb, eqb→eq}
-use Rattle.rules.specs.Words.{everyBelow, someBelow}
+use Rattle.rules.specs.Words.{everyBelow}
 pub use Rattle.rules.proofs.Tests.{iff-eq}
+pub use Rattle.rules.proofs.Counts.{every-more, some-more}
 use Rattle.rules.proofs.Tests.{and-left, and-right, and-both, is-false, false-is, eq-make}
 use Rattle.rules.proofs.Counts.{everyBelow→}
-
--- one turn of a loop that tests every number, or looks for one
-pub every-more : (p : ℕ → Bool) (n : ℕ) → everyBelow (n + 1) p ≡ (p n && everyBelow n p)
-unfolding everyBelow
-every-more p n = rw add-one
-
-pub some-more : (p : ℕ → Bool) (n : ℕ) → someBelow (n + 1) p ≡ (p n || someBelow n p)
-unfolding someBelow
-some-more p n = rw add-one
 
 -- one that fails
 pub every-false : (p : ℕ → Bool) (n k : ℕ) → k < n → p k ≡ false → everyBelow n p ≡ false

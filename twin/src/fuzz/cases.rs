@@ -5,13 +5,13 @@ use std::time::Duration;
 
 use super::damage::{self, Damage};
 use super::director::Director;
-use super::jobs;
 use super::made::made;
 use super::odd_cases::{self, odd_case};
 use super::process::Program;
 use super::scene::Scene;
 use super::shrink::{smallest, Budget};
 use super::stats::Stats;
+use super::{jobs, waiters};
 use crate::answer::code;
 use crate::clauses::{self, Clause};
 use crate::keeper::{Call, Keeper};
@@ -157,8 +157,8 @@ fn prepare(rng: &mut Rng, samples: &[Keeper], director: &mut Director) -> Prepar
         };
         let (_, damage): (_, Damage) = damage::KINDS[kind];
         if damage(rng, &mut tables) {
-            if let Some(at_limit) = call_at_limit(rng, &tables) {
-                call = at_limit;
+            if let Some(telling) = telling_call(rng, &tables) {
+                call = telling;
             }
             let case = Case { call, tables };
             return Prepared {
@@ -170,13 +170,15 @@ fn prepare(rng: &mut Rng, samples: &[Keeper], director: &mut Director) -> Prepar
     }
 }
 
-/// Where an update has as many items as it may, or one less: often a call that
-/// shows it.
-fn call_at_limit(rng: &mut Rng, tables: &Tables) -> Option<Call> {
+/// Where an update has as many items as it may, or one less, and where there are
+/// waiters: often a call that shows it.
+fn telling_call(rng: &mut Rng, tables: &Tables) -> Option<Call> {
     let keeper = tables.as_keeper().filter(Keeper::is_good)?;
-    match rng.percent(50) {
-        true => jobs::at_limit(rng, &Scene::of(&keeper)),
-        false => None,
+    let scene = Scene::of(&keeper);
+    match rng.below(4) {
+        0..=1 => jobs::at_limit(rng, &scene).or_else(|| waiters::telling(rng, &scene)),
+        2 => waiters::telling(rng, &scene),
+        _ => None,
     }
 }
 

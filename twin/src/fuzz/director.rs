@@ -1,10 +1,11 @@
 //! What to call next, so that much happens: moods that change, and in each the
-//! actions that lead to waits, circles, full slots, full rows and full jobs.
+//! actions that lead to waits, long lines, circles, full slots, full rows and full
+//! jobs.
 
-use super::jobs;
 use super::moods::Action::{self, *};
 use super::moods::{Mood, MIXED, MOODS};
 use super::scene::{Held, Scene, Txn};
+use super::{jobs, waiters};
 use crate::keeper::{Call, Keeper};
 use crate::rng::Rng;
 use crate::sizes::*;
@@ -88,10 +89,7 @@ impl Director {
             }
             Retry => {
                 let txn = scene.pick(rng, |txn| txn.awaits.is_some())?;
-                match txn.awaits? {
-                    (true, item) => Some(write(rng, txn, item)),
-                    (false, item) => Some(read(txn, item)),
-                }
+                Some(ask(rng, txn, txn.awaits?))
             }
             Stray => {
                 let txn = scene.pick(rng, |txn| txn.awaits.is_some())?;
@@ -146,6 +144,9 @@ impl Director {
             Hoard => jobs::hoard(rng, scene),
             AtLimit => jobs::at_limit(rng, scene),
             BesideFull => jobs::beside(rng, scene),
+            QueueUp => waiters::queue_up(rng, scene, item),
+            InLine => waiters::in_line(rng, scene, item),
+            Pass => waiters::pass(rng, scene, item),
         }
     }
 
@@ -195,6 +196,14 @@ pub fn write(rng: &mut Rng, txn: Txn, item: u64) -> Call {
         number: txn.number,
         item,
         value: rng.odd_word(),
+    }
+}
+
+/// The call that asks for a lock on an item.
+pub fn ask(rng: &mut Rng, txn: Txn, (is_write, item): (bool, u64)) -> Call {
+    match is_write {
+        true => write(rng, txn, item),
+        false => read(txn, item),
     }
 }
 
@@ -274,7 +283,7 @@ pub fn close(rng: &mut Rng, scene: &Scene) -> Option<Call> {
     ask_for_what_is_held(rng, scene, end, first)
 }
 
-fn ask_for_what_is_held(rng: &mut Rng, scene: &Scene, txn: Txn, other: Txn) -> Option<Call> {
+pub fn ask_for_what_is_held(rng: &mut Rng, scene: &Scene, txn: Txn, other: Txn) -> Option<Call> {
     let item = scene.pick_held(rng, &other, |_| true)?;
     if scene.held(&other, item) == Held::Exclusive && rng.percent(50) {
         return Some(read(txn, item));

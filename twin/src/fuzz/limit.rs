@@ -73,7 +73,7 @@ impl Standing {
             Call::Write { item, .. } if standing.is_full() && item < ITEMS as u64 => {
                 let against = scene.against(txn, true, item);
                 standing.conflict = against != 0;
-                standing.circle = scene.circle(txn, against).is_some();
+                standing.circle = scene.circle(txn, true, item).is_some();
                 standing.beside_full = scene.count(full) > 0;
             }
             _ => {}

@@ -1,7 +1,8 @@
 //! Good tables that no run need ever come to: made by chance, any stamps, any
 //! numbers, any locks and waits.
 
-use super::scene::{Held, Scene, Txn};
+use super::line::step_in;
+use super::scene::{Scene, Txn};
 use crate::keeper::Keeper;
 use crate::rng::Rng;
 use crate::sizes::*;
@@ -30,13 +31,28 @@ pub fn made(rng: &mut Rng) -> Keeper {
             }
         }
         let waiting = rng.below(100);
-        for &slot in &updates {
+        // Few items have long lines.
+        let hot: Vec<u64> = (0..rng.within(1, 4)).map(|_| rng.below(64)).collect();
+        let crowded = rng.one_of(&[0, 50, 90, 100]);
+        for slot in shuffled(rng, updates) {
             if rng.percent(waiting) {
-                wait(rng, &mut keeper, slot);
+                let item = match rng.percent(crowded) {
+                    true => rng.one_of(&hot),
+                    false => rng.below(ITEMS as u64),
+                };
+                wait(rng, &mut keeper, slot, item);
             }
         }
     }
     keeper
+}
+
+/// Who steps into a line first need not have the lowest slot.
+fn shuffled(rng: &mut Rng, mut slots: Vec<usize>) -> Vec<usize> {
+    for last in (1..slots.len()).rev() {
+        slots.swap(last, rng.index(last + 1));
+    }
+    slots
 }
 
 fn slots(keeper: &Keeper, kind: u64) -> Vec<usize> {
@@ -151,18 +167,11 @@ fn take(rng: &mut Rng, keeper: &mut Keeper, item: usize, slot: usize) {
 /// Whether an update may await this: it does not hold it, and no circle would
 /// close.
 pub fn may_wait(scene: &Scene, txn: &Txn, is_write: bool, item: u64) -> bool {
-    let fits = match scene.held(txn, item) {
-        Held::Nothing => true,
-        Held::Shared => is_write,
-        Held::Exclusive => false,
-    };
-    let against = scene.against(txn, is_write, item);
-    fits && scene.circle(txn, against).is_none()
+    scene.needs(txn, is_write, item) && scene.circle(txn, is_write, item).is_none()
 }
 
 /// Lets an update wait, unless it may not.
-fn wait(rng: &mut Rng, keeper: &mut Keeper, slot: usize) {
-    let item = rng.below(ITEMS as u64);
+fn wait(rng: &mut Rng, keeper: &mut Keeper, slot: usize, item: u64) {
     let is_write = rng.percent(50);
     let scene = Scene::of(keeper);
     let number = keeper.txns[TXN_HEAD + slot * TXN_ROW + NUMBER];
@@ -172,13 +181,12 @@ fn wait(rng: &mut Rng, keeper: &mut Keeper, slot: usize) {
     };
     let has_room = !is_write || scene.exclusives(&txn) < QUOTA;
     if has_room && may_wait(&scene, &txn, is_write, item) {
-        let row = &mut keeper.txns[TXN_HEAD + slot * TXN_ROW..][..TXN_ROW];
-        row[AWAITED_LOCK] = if is_write {
-            AWAITS_EXCLUSIVE
-        } else {
-            AWAITS_SHARED
+        let lock = match is_write {
+            true => AWAITS_EXCLUSIVE,
+            false => AWAITS_SHARED,
         };
-        row[AWAITED_ITEM] = item;
+        let Keeper { txns, locks, .. } = keeper;
+        step_in(txns, locks, slot, lock, item as usize);
     }
 }
 

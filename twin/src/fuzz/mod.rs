@@ -4,9 +4,11 @@
 pub mod cases;
 pub mod damage;
 pub mod director;
+pub mod in_line;
 pub mod jobs;
 pub mod journals;
 pub mod limit;
+pub mod line;
 pub mod made;
 pub mod moods;
 pub mod odd_cases;
@@ -16,6 +18,7 @@ pub mod scripts;
 pub mod shrink;
 pub mod spoil;
 pub mod stats;
+pub mod waiters;
 
 use std::time::{Duration, Instant};
 

@@ -35,6 +35,12 @@ pub enum Action {
     AtLimit,
     /// Another one does something beside it.
     BesideFull,
+    /// The next step towards a long line of waiters.
+    QueueUp,
+    /// One in a line, or one that it waits for, does something.
+    InLine,
+    /// The next step towards an exchanger that passes waiters.
+    Pass,
 }
 
 use Action::*;
@@ -130,6 +136,29 @@ const TWO_JOBS: Mood = (
         (EndQuery, 2),
     ],
 );
+const LINES: Mood = (
+    2,
+    &[
+        (QueueUp, 50),
+        (InLine, 20),
+        (Retry, 3),
+        (Stray, 2),
+        (Close, 4),
+        (Upgrade, 2),
+        (EndQuery, 10),
+    ],
+);
+const PASSES: Mood = (
+    1,
+    &[
+        (Pass, 60),
+        (Update, 10),
+        (InLine, 3),
+        (CommitUpdate, 2),
+        (Close, 2),
+        (EndQuery, 6),
+    ],
+);
 const CROWD: Mood = (
     6,
     &[
@@ -172,6 +201,7 @@ const DRAIN: Mood = (
 );
 
 /// Some moods are more fruitful than others.
-pub const MOODS: [Mood; 12] = [
-    MIXED, MIXED, HOT, HOT, CIRCLES, CIRCLES, ROWS, JOBS, TWO_JOBS, CROWD, REFUSED, DRAIN,
+pub const MOODS: [Mood; 15] = [
+    MIXED, MIXED, HOT, HOT, CIRCLES, CIRCLES, LINES, LINES, PASSES, ROWS, JOBS, TWO_JOBS, CROWD,
+    REFUSED, DRAIN,
 ];

@@ -13,6 +13,8 @@ pub struct Txn {
     pub start: u64,
     /// Whether an exclusive lock is awaited, and on which item.
     pub awaits: Option<(bool, u64)>,
+    /// Its place in the line of that item, from 1.
+    pub rank: u64,
 }
 
 impl Txn {
@@ -48,6 +50,7 @@ impl<'a> Scene<'a> {
             is_query: false,
             start: 0,
             awaits: None,
+            rank: 0,
         };
         let mut scene = Scene {
             keeper,
@@ -65,6 +68,7 @@ impl<'a> Scene<'a> {
                     AWAITS_NONE => None,
                     lock => Some((lock == AWAITS_EXCLUSIVE, row[AWAITED_ITEM])),
                 },
+                rank: row[RANK],
             };
             scene.len += 1;
         }
@@ -144,39 +148,6 @@ impl<'a> Scene<'a> {
 
     pub fn holds_any(&self, txn: &Txn) -> bool {
         (0..ITEMS as u64).any(|item| self.held(txn, item) != Held::Nothing)
-    }
-
-    /// The others that stand against a transaction's wish.
-    pub fn against(&self, txn: &Txn, is_write: bool, item: u64) -> u64 {
-        let (all, exclusive) = self.holders(item);
-        let conflicting = if is_write { all } else { exclusive };
-        conflicting & !txn.bit()
-    }
-
-    pub fn waits_for(&self, txn: &Txn) -> u64 {
-        match txn.awaits {
-            Some((is_write, item)) => self.against(txn, is_write, item),
-            None => 0,
-        }
-    }
-
-    /// The number of transactions on the shortest circle that would close if
-    /// this one waited for those slots; none if none would.
-    pub fn circle(&self, txn: &Txn, against: u64) -> Option<usize> {
-        let mut reached = against;
-        let mut length = 2;
-        loop {
-            let members = self.live().iter().filter(|txn| reached & txn.bit() != 0);
-            let further = members.fold(reached, |slots, txn| slots | self.waits_for(txn));
-            if further & txn.bit() != 0 {
-                return Some(length);
-            }
-            if further == reached {
-                return None;
-            }
-            reached = further;
-            length += 1;
-        }
     }
 
     pub fn version_count(&self, item: usize) -> u64 {

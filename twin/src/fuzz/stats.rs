@@ -3,7 +3,7 @@
 use std::fmt;
 
 use super::scene::{Held, Scene, Txn};
-use super::{damage, journals, limit, odd_cases, spoil};
+use super::{damage, in_line, journals, limit, odd_cases, spoil};
 use crate::answer::{code, Answer};
 use crate::clauses::Clause;
 use crate::keeper::{Call, Keeper};
@@ -20,7 +20,7 @@ enum Event {
     WaitToUpgrade,
     DeadlockUpgrading,
     ReadBesideReaders,
-    ReadPastWriter,
+    ReadAheadOfWriter,
     OwnValueRead,
     StillWaitingRead,
     StillWaitingWrite,
@@ -44,7 +44,7 @@ const EVENTS: [&str; 20] = [
     "waits to upgrade",
     "deadlocks when upgrading",
     "reads beside other readers",
-    "reads past a waiting writer",
+    "reads ahead of a waiting writer",
     "own working values read",
     "still waiting: read",
     "still waiting: write",
@@ -68,6 +68,7 @@ pub struct Before {
     versions: u64,
     value: Option<u64>,
     at_limit: Option<limit::Standing>,
+    in_line: Option<in_line::Standing>,
 }
 
 impl Before {
@@ -83,6 +84,7 @@ impl Before {
             versions: 0,
             value: caller.map(|txn| waited_value[txn.slot]),
             at_limit: None,
+            in_line: None,
         };
         let item = match call {
             Call::Read { item, .. } | Call::Write { item, .. } => item,
@@ -100,6 +102,7 @@ impl Before {
         }
         if let Some(txn) = caller.filter(|txn| !txn.is_query) {
             before.at_limit = Some(limit::Standing::of(&scene, &txn, call, before.held));
+            before.in_line = in_line::Standing::of(&scene, &txn, call);
         }
         before
     }
@@ -113,6 +116,7 @@ pub struct Stats {
     pub codes: [u64; code::NAMES.len()],
     events: [u64; EVENTS.len()],
     at_limit: limit::Counts,
+    in_line: in_line::Counts,
     looked: [u64; PLACES + 1],
     circles: [u64; SLOTS + 1],
     full_rows: u64,
@@ -141,6 +145,7 @@ impl Stats {
             codes: [0; code::NAMES.len()],
             events: [0; EVENTS.len()],
             at_limit: limit::Counts::default(),
+            in_line: in_line::Counts::default(),
             looked: [0; PLACES + 1],
             circles: [0; SLOTS + 1],
             full_rows: 0,
@@ -191,6 +196,9 @@ impl Stats {
         };
         if let Some(standing) = before.at_limit {
             self.at_limit.see(call, standing, answer);
+        }
+        if let Some(standing) = before.in_line {
+            self.in_line.see(call, standing, answer);
         }
         match (call, answer.code) {
             (Call::Read { .. }, code::GRANTED) => self.see_read(&txn, before, answer),
@@ -248,7 +256,7 @@ impl Stats {
         }
         match before.held {
             Held::Exclusive => self.event(Event::OwnValueRead),
-            Held::Nothing if before.writer_waits => self.event(Event::ReadPastWriter),
+            Held::Nothing if before.writer_waits => self.event(Event::ReadAheadOfWriter),
             Held::Nothing if before.readers != 0 => self.event(Event::ReadBesideReaders),
             _ => {}
         }
@@ -276,8 +284,7 @@ impl Stats {
     ) {
         let upgrading = before.held == Held::Shared;
         if answer.code == code::DEADLOCK {
-            let against = scene.against(txn, is_write, item);
-            self.circles[scene.circle(txn, against).unwrap_or(0)] += 1;
+            self.circles[scene.circle(txn, is_write, item).unwrap_or(0)] += 1;
             if upgrading {
                 self.event(Event::DeadlockUpgrading);
             }
@@ -326,6 +333,14 @@ impl Stats {
         writeln!(out, "  updates with as many items as they may write")?;
         for (name, count) in self.at_limit.each() {
             show(out, &format!("  {}", name), count)?;
+        }
+        writeln!(out, "  waiters in line")?;
+        for (name, count) in self.in_line.each() {
+            show(out, &format!("  {}", name), count)?;
+        }
+        writeln!(out, "  new waits by length of the line")?;
+        for (length, count) in self.in_line.lengths() {
+            show(out, &format!("  {}", length), count)?;
         }
         writeln!(out, "  deadlocks by length of the circle")?;
         for (length, &count) in self.circles.iter().enumerate() {

@@ -21,8 +21,6 @@ pub enum WrongCall {
     KeepYounger,
     /// Rows are trimmed when written; a query's end frees nothing.
     NoTrim,
-    /// A reader queues behind a waiting writer.
-    Queue,
     /// A commit that wrote nothing takes no stamp.
     IdleStamp,
     /// The number of an aborted transaction is given again.
@@ -34,14 +32,13 @@ pub enum WrongCall {
 }
 
 impl WrongCall {
-    pub const ALL: [(&'static str, WrongCall); 11] = [
+    pub const ALL: [(&'static str, WrongCall); 10] = [
         ("late-snapshot", WrongCall::LateSnapshot),
         ("short-locks", WrongCall::ShortLocks),
         ("circles-of-two", WrongCall::CirclesOfTwo),
         ("own-lock", WrongCall::OwnLock),
         ("keep-younger", WrongCall::KeepYounger),
         ("no-trim", WrongCall::NoTrim),
-        ("queue", WrongCall::Queue),
         ("idle-stamp", WrongCall::IdleStamp),
         ("number-again", WrongCall::NumberAgain),
         ("first-value", WrongCall::FirstValue),
@@ -79,7 +76,6 @@ impl WrongKeeper {
             WrongCall::OwnLock => self.own_lock(call),
             WrongCall::KeepYounger => self.with_rows(call, keep_younger),
             WrongCall::NoTrim => self.with_rows(call, keep_unless_written),
-            WrongCall::Queue => self.queue(call),
             WrongCall::IdleStamp => self.idle_stamp(call),
             WrongCall::NumberAgain => self.number_again(call),
             WrongCall::FirstValue => self.first_value(call),
@@ -147,10 +143,10 @@ impl WrongKeeper {
         let caller = self.caller(call);
         if let (code::DEADLOCK, Some(slot), Some(item)) = (answer.code, caller, Item::new(item)) {
             let mut view = self.view();
-            let against = Holders::of(view.lock(item)).against(slot, lock);
+            let against = view.against(slot, lock, item);
             let waits_back = |other: Slot| view.waits_for(other).contains(slot);
             if !against.into_iter().any(waits_back) {
-                view.set_awaited(slot, lock, item);
+                view.step_in(slot, lock, item);
                 return Answer::bare(code::WAIT);
             }
         }
@@ -198,23 +194,6 @@ impl WrongKeeper {
             }
         }
         answer
-    }
-
-    fn queue(&mut self, call: Call) -> Answer {
-        let caller = self.caller(call);
-        if let (Call::Read { item, .. }, Some(slot)) = (call, caller) {
-            if let Some(item) = Item::new(item) {
-                let mut view = self.view();
-                let held = Holders::of(view.lock(item)).held_by(slot);
-                let free = !view.is_query(slot) && view.awaited(slot).is_none() && held.is_none();
-                let wanted = Some((Lock::Exclusive, item));
-                if free && Slot::all().any(|other| view.awaited(other) == wanted) {
-                    view.set_awaited(slot, Lock::Shared, item);
-                    return Answer::bare(code::WAIT);
-                }
-            }
-        }
-        self.right(call)
     }
 
     fn idle_stamp(&mut self, call: Call) -> Answer {

@@ -8,12 +8,14 @@ mod judges;
 mod lines;
 mod quota;
 mod tables;
+mod waits;
 
 pub use calls::{WrongCall, WrongKeeper};
 pub use judges::WrongJudge;
 pub use lines::{run, WrongLine};
 pub use quota::WrongQuota;
 pub use tables::WrongTables;
+pub use waits::WrongWait;
 
 use std::io::{self, BufRead, Write};
 
@@ -64,6 +66,7 @@ fn right(view: &mut View, call: Call) -> Answer {
 pub enum WrongRunner {
     Call(WrongCall),
     Quota(WrongQuota),
+    Wait(WrongWait),
     Line(WrongLine),
 }
 
@@ -72,12 +75,18 @@ impl WrongRunner {
         named(&WrongCall::ALL, name)
             .map(WrongRunner::Call)
             .or_else(|| named(&WrongQuota::ALL, name).map(WrongRunner::Quota))
+            .or_else(|| named(&WrongWait::ALL, name).map(WrongRunner::Wait))
             .or_else(|| named(&WrongLine::ALL, name).map(WrongRunner::Line))
     }
 
     pub fn names() -> Vec<&'static str> {
-        let calls = [names(&WrongCall::ALL), names(&WrongQuota::ALL)].concat();
-        [calls, names(&WrongLine::ALL)].concat()
+        [
+            names(&WrongCall::ALL),
+            names(&WrongQuota::ALL),
+            names(&WrongWait::ALL),
+            names(&WrongLine::ALL),
+        ]
+        .concat()
     }
 
     /// Runs a script wrongly.
@@ -88,6 +97,12 @@ impl WrongRunner {
                 script::run(input, output, |call| keeper.call(call))
             }
             WrongRunner::Quota(kind) => {
+                let mut keeper = Keeper::fresh();
+                script::run(input, output, |call| {
+                    kind.call(&mut view(&mut keeper), call)
+                })
+            }
+            WrongRunner::Wait(kind) => {
                 let mut keeper = Keeper::fresh();
                 script::run(input, output, |call| {
                     kind.call(&mut view(&mut keeper), call)

@@ -90,7 +90,7 @@ impl WrongQuota {
         let is_further = is_write && view.is_further(slot, item);
         match self {
             WrongQuota::AfterConflict => {
-                is_further && held >= QUOTA && holders.against(slot, lock).is_empty()
+                is_further && held >= QUOTA && view.against(slot, lock, item).is_empty()
             }
             WrongQuota::BeforeWaiting | WrongQuota::BeforeItem => is_further && held >= QUOTA,
             WrongQuota::OneMore => is_further && held > QUOTA,

@@ -7,7 +7,7 @@ use crate::protocol::Tables;
 use crate::sizes::*;
 use crate::view::View;
 
-use super::WrongQuota;
+use super::{WrongQuota, WrongWait};
 
 /// A wrong treatment of tables.
 #[derive(Clone, Copy, Debug, PartialEq, Eq)]
@@ -26,13 +26,25 @@ pub enum WrongTables {
     QuotaWaits,
     /// A wrong rule of such writes.
     Quota(WrongQuota),
+    /// A wrong rule of lines.
+    Wait(WrongWait),
+    /// The rank of one that is granted stays.
+    StaleRank,
+    /// A deadlock of an exchanger moves those whom it would have passed.
+    DeadlockMoves,
+    /// Circles that need the line of an item are not noticed.
+    BlindCircle,
+    /// Good tables with a line of more waiters than this are called bad.
+    StrictLine(u64),
+    /// So are those where a later waiter has the lower slot.
+    StrictOrder,
     /// Good tables where an update holds so many items exclusively and awaits
     /// this lock are called bad.
     Strict(usize, u64),
 }
 
 impl WrongTables {
-    const OTHERS: [(&'static str, WrongTables); 8] = [
+    const OTHERS: [(&'static str, WrongTables); 13] = [
         ("high-slot", WrongTables::HighSlot),
         ("freed-pair", WrongTables::FreedPair),
         ("stale-item", WrongTables::StaleItem),
@@ -44,19 +56,26 @@ impl WrongTables {
             "strict-31-exclusive",
             WrongTables::Strict(31, AWAITS_EXCLUSIVE),
         ),
+        ("stale-rank", WrongTables::StaleRank),
+        ("deadlock-moves", WrongTables::DeadlockMoves),
+        ("circle-in-line", WrongTables::BlindCircle),
+        ("strict-line", WrongTables::StrictLine(6)),
+        ("strict-order", WrongTables::StrictOrder),
     ];
 
     pub fn named(name: &str) -> Option<WrongTables> {
         super::named(&WrongTables::OTHERS, name)
             .or_else(|| Clause::named(name).map(WrongTables::Blind))
             .or_else(|| super::named(&WrongQuota::ALL, name).map(WrongTables::Quota))
+            .or_else(|| super::named(&WrongWait::ALL, name).map(WrongTables::Wait))
     }
 
     pub fn names() -> Vec<&'static str> {
         let clauses = Clause::ALL.iter().map(|clause| clause.name());
         let others = super::names(&WrongTables::OTHERS);
         let quotas = super::names(&WrongQuota::ALL);
-        clauses.chain(others).chain(quotas).collect()
+        let waits = super::names(&WrongWait::ALL);
+        clauses.chain(others).chain(quotas).chain(waits).collect()
     }
 
     pub fn call(self, call: Call, tables: &mut Tables) -> Answer {
@@ -80,14 +99,37 @@ impl WrongTables {
             }
             (WrongTables::Quota(kind), code) if code != code::BAD_TABLES => {
                 *tables = before;
-                let Tables {
-                    txns,
-                    locks,
-                    versions,
-                } = tables;
-                if let Some(mut view) = View::new(txns, locks, versions) {
-                    return kind.call(&mut view, call);
+                return on_view(tables, |view| kind.call(view, call));
+            }
+            (WrongTables::Wait(kind), code) if code != code::BAD_TABLES => {
+                *tables = before;
+                return on_view(tables, |view| kind.call(view, call));
+            }
+            (WrongTables::StaleRank, code::GRANTED) => {
+                if let Call::Read { number, .. } | Call::Write { number, .. } = call {
+                    if let Some(at) = row_of(&before, number) {
+                        tables.txns[at + RANK] = before.txns[at + RANK];
+                    }
                 }
+            }
+            (WrongTables::DeadlockMoves, code::DEADLOCK) => deadlock_moves(call, tables),
+            (WrongTables::BlindCircle, code::BAD_TABLES) => {
+                let broken = clauses::broken(&tables.txns, &tables.locks, &tables.versions);
+                if broken == [Clause::Circle] && !has_circle_of_holders(tables) {
+                    return Answer::granted();
+                }
+            }
+            (WrongTables::StrictLine(longest), code)
+                if code != code::BAD_TABLES && rows(&before).any(|row| row[RANK] > longest) =>
+            {
+                *tables = before;
+                return Answer::bare(code::BAD_TABLES);
+            }
+            (WrongTables::StrictOrder, code)
+                if code != code::BAD_TABLES && !lines_follow_slots(&before) =>
+            {
+                *tables = before;
+                return Answer::bare(code::BAD_TABLES);
             }
             (WrongTables::Strict(held, lock), code)
                 if code != code::BAD_TABLES && some_update(&before, held, lock) =>
@@ -113,6 +155,50 @@ impl WrongTables {
 fn row_of(tables: &Tables, number: u64) -> Option<usize> {
     let mut rows = (0..SLOTS).map(|slot| TXN_HEAD + slot * TXN_ROW);
     rows.find(|&at| tables.txns[at + NUMBER] == number)
+}
+
+fn rows(tables: &Tables) -> impl Iterator<Item = &[u64]> {
+    tables.txns[TXN_HEAD..].chunks(TXN_ROW)
+}
+
+fn on_view(tables: &mut Tables, call: impl FnOnce(&mut View) -> Answer) -> Answer {
+    let Tables {
+        txns,
+        locks,
+        versions,
+    } = tables;
+    let mut view = View::new(txns, locks, versions).expect("good tables have their sizes");
+    call(&mut view)
+}
+
+fn deadlock_moves(call: Call, tables: &mut Tables) {
+    if let Call::Write { number, item, .. } = call {
+        let slot = row_of(tables, number).map_or(0, |at| (at - TXN_HEAD) / TXN_ROW);
+        if tables.locks[item as usize * LOCK_ROW + SHARED] >> slot & 1 != 0 {
+            for row in tables.txns[TXN_HEAD..].chunks_mut(TXN_ROW) {
+                row[RANK] += u64::from(row[RANK] > 0 && row[AWAITED_ITEM] == item);
+            }
+        }
+    }
+}
+
+/// Without ranks nobody is ahead of anybody.
+fn has_circle_of_holders(tables: &Tables) -> bool {
+    let mut txns = tables.txns.clone();
+    for row in txns[TXN_HEAD..].chunks_mut(TXN_ROW) {
+        row[RANK] = 0;
+    }
+    clauses::broken(&txns, &tables.locks, &tables.versions).contains(&Clause::Circle)
+}
+
+fn lines_follow_slots(tables: &Tables) -> bool {
+    let waiters: Vec<&[u64]> = rows(tables).filter(|row| row[RANK] > 0).collect();
+    let in_order = |(at, row): (usize, &&[u64])| {
+        let later = waiters[at..].iter();
+        let mut line = later.filter(|other| other[AWAITED_ITEM] == row[AWAITED_ITEM]);
+        line.all(|other| other[RANK] >= row[RANK])
+    };
+    waiters.iter().enumerate().all(in_order)
 }
 
 /// Whether one holds so many items exclusively and awaits this lock.

@@ -78,6 +78,12 @@ impl Trial {
         self.call(Call::Abort { number })
     }
 
+    /// The ranks of the first so many slots.
+    pub fn ranks(&self, slots: u64) -> Vec<u64> {
+        let rows = self.0.txns[TXN_HEAD..].chunks(TXN_ROW);
+        rows.take(slots as usize).map(|row| row[RANK]).collect()
+    }
+
     pub fn count(&self, item: usize) -> u64 {
         self.0.versions[item * VERSION_ROW]
     }

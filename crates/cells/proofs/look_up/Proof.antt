@@ -1,7 +1,8 @@
 -- Each code is one row and one column of the table.
-use mathlib.Core.Path.{_≡_}
+use mathlib.Core.Path.{_≡_, sym, ap}
+use mathlib.Core.Bool.{Bool, cond}
 use native.Mathlib.Omega.{arith}
-use Rattle.rules.specs.Locks.{decide}
+use Rattle.rules.specs.Locks.{decide, Conflict, TakeShared}
 use borrow.Author.Needs.{needs}
 use Rattle.cells.proofs.look_up.Statement.{statement}
 use Rattle.cells.proofs.look_up.Tie as tie
@@ -34,7 +35,7 @@ returns-3 c =
     let a = c .before .before .args in
     let p : a .asked ≡ 0 = omega arith in
     let q : a .held ≡ 2 = omega arith in
-    rw (p, q, c .if1 .taken)
+    rw (p, q) (ap (λ (b : Bool). cond b Conflict TakeShared) (sym (c .if1 .taken)))
 
 returns-4 : tie.Need-returns-4
 unfolding decide
@@ -42,7 +43,7 @@ returns-4 c =
     let a = c .before .before .args in
     let p : a .asked ≡ 0 = omega arith in
     let q : a .held ≡ 2 = omega arith in
-    rw (p, q, c .if1 .left)
+    rw (p, q) (ap (λ (b : Bool). cond b Conflict TakeShared) (sym (c .if1 .left)))
 
 returns-5 : tie.Need-returns-5
 unfolding decide

@@ -6,7 +6,7 @@ use Rattle.rules.specs.Answers.{outcome}
 use Rattle.rules.specs.Step.{done}
 use Rattle.choices.proofs.Handed.{good-found}
 use Rattle.done.specs.Able.{Able}
-use Rattle.deeds.proofs.Deeds.{told, lockable, has-newest}
+use Rattle.deeds.proofs.Deeds.{told, lockable, waitable, has-newest}
 use borrow.Author.Needs.{needs}
 use Rattle.done.proofs.done.Statement.{statement}
 use Rattle.done.proofs.done.Tie as tie
@@ -26,10 +26,10 @@ enum-known-deed-2 c = search needs
 
 waits-requires : tie.Need-waits-requires
 waits-requires c κs =
-    let G = before (c .before .before .before .before .before .before .before) in
-    let g = c .before .before .before .before .before .before .before .pre .0 in
-    let a = subst (Able G) (c .before .before .deed2 .given .1) (c .before .before .before .before .before .before .before .pre .1) in
-    (g .txnsExact, a)
+    let G = before (c .before .before .before .before .before .before .before .before) in
+    let g = c .before .before .before .before .before .before .before .before .pre .0 in
+    let a = subst (Able G) (c .before .before .before .deed2 .given .1) (c .before .before .before .before .before .before .before .before .pre .1) in
+    waitable G g _ _ (a .0) (a .1)
 
 enum-known-deed-3 : tie.Need-enum-known-deed-3
 enum-known-deed-3 c = search needs
@@ -139,49 +139,50 @@ returns c =
 same-length : tie.Need-same-length
 same-length c = search needs
 
-returns-2 : tie.Need-returns-2
-returns-2 c =
-    told (before (c .before .before .before .before .before .before .before .before .before .before)) (c .before .before .before .before .before .deed2 .given .1) (c .before .before .waits .ensures ((before (c .before .before .before .before .before .before .before .before .before .before)) .locks) ((before (c .before .before .before .before .before .before .before .before .before .before)) .versions))
-
 same-length-2 : tie.Need-same-length-2
 same-length-2 c = search needs
+
+returns-2 : tie.Need-returns-2
+returns-2 c =
+    let G = before (c .before .before .before .before .before .before .before .before .before .before .before) in
+    told G (c .before .before .before .before .before .before .deed2 .given .1) (c .before .before .waits .ensures (G .versions))
+
+same-length-3 : tie.Need-same-length-3
+same-length-3 c = search needs
 
 returns-3 : tie.Need-returns-3
 returns-3 c =
     told (before (c .before .before .before .before .before .before .before .before .before .before)) (c .before .before .before .before .before .deed3 .given .1) (c .before .before .begins .ensures ((before (c .before .before .before .before .before .before .before .before .before .before)) .locks) ((before (c .before .before .before .before .before .before .before .before .before .before)) .versions))
 
-same-length-3 : tie.Need-same-length-3
-same-length-3 c = search needs
-
 same-length-4 : tie.Need-same-length-4
 same-length-4 c = search needs
+
+same-length-5 : tie.Need-same-length-5
+same-length-5 c = search needs
 
 returns-4 : tie.Need-returns-4
 returns-4 c =
     told (before (c .before .before .before .before .before .before .before .before .before)) (c .before .before .before .before .deed4 .given .1) (c .by-start .ensures ((before (c .before .before .before .before .before .before .before .before .before)) .locks))
 
-same-length-5 : tie.Need-same-length-5
-same-length-5 c = search needs
-
 same-length-6 : tie.Need-same-length-6
 same-length-6 c = search needs
+
+same-length-7 : tie.Need-same-length-7
+same-length-7 c = search needs
 
 returns-5 : tie.Need-returns-5
 returns-5 c =
     told (before (c .before .before .before .before .before .before .before .before .before .before .before)) (c .before .before .before .before .before .before .deed5 .given .1) (c .before .before .own .ensures ((before (c .before .before .before .before .before .before .before .before .before .before .before)) .versions))
 
-same-length-7 : tie.Need-same-length-7
-same-length-7 c = search needs
-
 same-length-8 : tie.Need-same-length-8
 same-length-8 c = search needs
+
+same-length-9 : tie.Need-same-length-9
+same-length-9 c = search needs
 
 returns-6 : tie.Need-returns-6
 returns-6 c =
     told (before (c .before .before .before .before .before .before .before .before .before .before .before)) (c .before .before .before .before .before .before .deed6 .given .1) (c .before .before .newest .ensures ((before (c .before .before .before .before .before .before .before .before .before .before .before)) .locks))
-
-same-length-9 : tie.Need-same-length-9
-same-length-9 c = search needs
 
 same-length-10 : tie.Need-same-length-10
 same-length-10 c = search needs
@@ -189,32 +190,32 @@ same-length-10 c = search needs
 same-length-11 : tie.Need-same-length-11
 same-length-11 c = search needs
 
+same-length-12 : tie.Need-same-length-12
+same-length-12 c = search needs
+
 returns-7 : tie.Need-returns-7
 returns-7 c =
     told (before (c .before .before .before .before .before .before .before .before .before .before .before .before .before .before)) (c .before .before .before .before .before .before .before .before .before .deed7 .given .1) (c .before .before .before .before .takes-shared .ensures)
 
-same-length-12 : tie.Need-same-length-12
-same-length-12 c = search needs
-
 same-length-13 : tie.Need-same-length-13
 same-length-13 c = search needs
+
+same-length-14 : tie.Need-same-length-14
+same-length-14 c = search needs
 
 returns-8 : tie.Need-returns-8
 returns-8 c =
     told (before (c .before .before .before .before .before .before .before .before .before .before .before .before .before)) (c .before .before .before .before .before .before .before .before .deed8 .given .1) (c .before .before .before .before .replaces .ensures ((before (c .before .before .before .before .before .before .before .before .before .before .before .before .before)) .versions))
 
-same-length-14 : tie.Need-same-length-14
-same-length-14 c = search needs
-
 same-length-15 : tie.Need-same-length-15
 same-length-15 c = search needs
+
+same-length-16 : tie.Need-same-length-16
+same-length-16 c = search needs
 
 returns-9 : tie.Need-returns-9
 returns-9 c =
     told (before (c .before .before .before .before .before .before .before .before .before .before .before .before .before)) (c .before .before .before .before .before .before .before .before .deed9 .given .1) (c .before .before .before .before .takes-exclusive .ensures ((before (c .before .before .before .before .before .before .before .before .before .before .before .before .before)) .versions))
-
-same-length-16 : tie.Need-same-length-16
-same-length-16 c = search needs
 
 same-length-17 : tie.Need-same-length-17
 same-length-17 c = search needs
@@ -222,25 +223,28 @@ same-length-17 c = search needs
 same-length-18 : tie.Need-same-length-18
 same-length-18 c = search needs
 
+same-length-19 : tie.Need-same-length-19
+same-length-19 c = search needs
+
 returns-10 : tie.Need-returns-10
 returns-10 c =
     told (before (c .before .before .before .before .before .before .before .before .before .before .before .before .before .before .before .before)) (c .before .before .before .before .before .before .before .before .before .before .before .deed10 .given .1) (c .before .before .before .before .before .before .commits .ensures)
 
-same-length-19 : tie.Need-same-length-19
-same-length-19 c = search needs
-
 same-length-20 : tie.Need-same-length-20
 same-length-20 c = search needs
+
+same-length-21 : tie.Need-same-length-21
+same-length-21 c = search needs
 
 returns-11 : tie.Need-returns-11
 returns-11 c =
     told (before (c .before .before .before .before .before .before .before .before .before .before .before .before .before)) (c .before .before .before .before .before .before .before .before .deed11 .given .1) (c .before .before .before .before .ends .ensures ((before (c .before .before .before .before .before .before .before .before .before .before .before .before .before)) .locks))
 
-same-length-21 : tie.Need-same-length-21
-same-length-21 c = search needs
-
 same-length-22 : tie.Need-same-length-22
 same-length-22 c = search needs
+
+same-length-23 : tie.Need-same-length-23
+same-length-23 c = search needs
 
 returns-12 : tie.Need-returns-12
 returns-12 c =
@@ -276,35 +280,36 @@ done-spec =
     aborts-requires
     returns
     same-length
-    returns-2
     same-length-2
-    returns-3
+    returns-2
     same-length-3
+    returns-3
     same-length-4
-    returns-4
     same-length-5
+    returns-4
     same-length-6
-    returns-5
     same-length-7
+    returns-5
     same-length-8
-    returns-6
     same-length-9
+    returns-6
     same-length-10
     same-length-11
-    returns-7
     same-length-12
+    returns-7
     same-length-13
-    returns-8
     same-length-14
+    returns-8
     same-length-15
-    returns-9
     same-length-16
+    returns-9
     same-length-17
     same-length-18
-    returns-10
     same-length-19
+    returns-10
     same-length-20
-    returns-11
     same-length-21
+    returns-11
     same-length-22
+    same-length-23
     returns-12)

@@ -79,6 +79,15 @@ mul-item c = omega arith
 shared-slice-read-item : tie.Need-shared-slice-read-item Inv-loop μ-loop
 shared-slice-read-item c = omega arith
 
+add-rank : tie.Need-add-rank Inv-loop μ-loop
+add-rank c = omega arith
+
+mul-rank : tie.Need-mul-rank Inv-loop μ-loop
+mul-rank c = omega arith
+
+shared-slice-read-rank : tie.Need-shared-slice-read-rank Inv-loop μ-loop
+shared-slice-read-rank c = omega arith
+
 free-ok-requires : tie.Need-free-ok-requires Inv-loop μ-loop
 free-ok-requires c κs = tt
 
@@ -103,10 +112,10 @@ loop-less c = omega arith
 loop-again : tie.Need-loop-again Inv-loop μ-loop
 unfolding txn
 loop-again c =
-    let t = c .before .before .before .before .before .before .before .before .before .before .before .args .txns .now in
-    let r = txn t (c .before .before .before .before .before .before .before .loop .slot) in
-    let h = c .before .before .before .before .before .before .before .loop .inv in
-    let l = c .before .before .before .before .before .before .loop-test .taken in
+    let t = c .before .before .before .before .before .before .before .before .before .before .before .before .args .txns .now in
+    let r = txn t (c .before .before .before .before .before .before .before .before .loop .slot) in
+    let h = c .before .before .before .before .before .before .before .before .loop .inv in
+    let l = c .before .before .before .before .before .before .before .loop-test .taken in
     ⊎-elim
     (λ w. passed-other t h l (w .2) (w .1 .ensures ∙ free-same t r (w .0 .taken)) (free-idle r (w .0 .taken)) (w .3) (w .4))
     (⊎-elim
@@ -152,6 +161,9 @@ rows-spec =
     add-item
     mul-item
     shared-slice-read-item
+    add-rank
+    mul-rank
+    shared-slice-read-rank
     free-ok-requires
     update-ok-requires
     shl-updates

@@ -9,7 +9,7 @@ use borrow.Author.Tests.{not-true, not-false}
 use borrow.Author.Needs.{needs}
 use Rattle.names.specs.Sizes.{base}
 use Rattle.rules.specs.Tables.{starts}
-use Rattle.rules.specs.Tested.{distinct}
+use Rattle.rules.specs.Tested.{distinct, ranksGood}
 use Rattle.rules.specs.Waits.{noCircle}
 use Rattle.rules.proofs.Tests.{and-left, and-right, and-both, true-is, false-is}
 use Rattle.shapes.specs.declared.Seen.{Seen}
@@ -18,7 +18,7 @@ use Rattle.holdings.specs.Holding.{locksGood, quotasGood}
 use Rattle.waiting.specs.Waiting.{Readable, Awaiting, awaitersGood}
 use Rattle.holdings.proofs.Holders.{updates-lt}
 use Rattle.tables.proofs.Reading.{awaiting, readable}
-use Rattle.waiting.proofs.Rounds.{none-awaits, none-circles}
+use Rattle.waiting.proofs.Rounds.{none-awaits, none-ranked, none-circles}
 use Rattle.tables.proofs.Whole.{fails, decides}
 use Rattle.tables.proofs.good.Statement.{statement}
 use Rattle.tables.proofs.good.Tie as tie
@@ -88,7 +88,7 @@ waits-pass-requires c κs =
 returns-7 : tie.Need-returns-7
 returns-7 c =
     fails _ _ _
-    (λ p. false-is (sym (c .before .waits-pass .ensures) ∙ not-true _ (c .if8 .taken)) (and-both (awaitersGood base _ _) _ (p .awaiters) (p .free)))
+    (λ p. false-is (sym (c .before .waits-pass .ensures) ∙ not-true _ (c .if8 .taken)) (and-both (awaitersGood base _ _) _ (p .awaiters) (and-both (ranksGood base _ _) _ (p .ranks) (p .free))))
 
 starts-in-order-requires : tie.Need-starts-in-order-requires
 starts-in-order-requires c κs = c .before .before .before .before .before .before .before .before .before .if1 .left
@@ -110,12 +110,12 @@ returns-8 c =
     let held = held-passed (c .before .before .before .before .before .before .before) in
     let can = readable-here (c .before .before .before .before .before .before .before) in
     let e = ap (λ (s : Seen). s .waiting) (c .before .before .before .before .before .before .before .before .before .before .rows .ensures) in
-    let waits : T (awaitersGood base t l && noCircle base t l) =
+    let waits : T (awaitersGood base t l && (ranksGood base t l && noCircle base t l)) =
     ⊎-elim
     (λ w. true-is (sym (w .1 .ensures) ∙ not-false _ (w .2 .left)))
     (λ w.
     let none : Awaiting t 0 = subst (λ (u : ℕ). Awaiting t u) (sym e ∙ w .left) (awaiting t rows) in
-    and-both (awaitersGood base t l) _ (none-awaits t l can none) (none-circles t l can none))
+    and-both (awaitersGood base t l) _ (none-awaits t l can none) (and-both (ranksGood base t l) _ (none-ranked t l can none) (none-circles t l can none)))
     (c .before .before .before .before .if7 .came) in
     decides t l _ (c .all-good .ensures (starts base t) (c .before .before .before .starts-in-order .ensures))
     (λ x.
@@ -128,7 +128,8 @@ returns-8 c =
       quotas = and-right (locksGood base t l) _ held;
       numbers = true-is (sym (c .before .before .before .before .before .before .distinct .ensures) ∙ not-false _ (c .before .before .before .before .before .if6 .left));
       awaiters = and-left (awaitersGood base t l) _ waits;
-      free = and-right (awaitersGood base t l) _ waits;
+      ranks = and-left (ranksGood base t l) _ (and-right (awaitersGood base t l) _ waits);
+      free = and-right (ranksGood base t l) _ (and-right (awaitersGood base t l) _ waits);
       versions = x;
     })
 

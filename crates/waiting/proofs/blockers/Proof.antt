@@ -1,45 +1,39 @@
--- The word of those who block a request.
-use mathlib.Core.Logic.{⊎-elim}
+-- Holders in conflict and earlier waiters, without the slot itself.
+use Prim.Native.Nat.{ℕ, _^_, _<_, _≤_}
+use mathlib.Core.Path.{_≡_, sym, ap, subst}
+use Rattle.names.specs.Sizes.{base}
+use Rattle.rules.specs.Tables.{Lock}
+use Rattle.waiting.specs.Waiting.{Holders}
+use Rattle.waiting.proofs.Blocking.{blockers-of}
+use Rattle.waiting.proofs.Linking.{shared-small, exclusive-small}
 use borrow.Author.Needs.{needs}
-use Rattle.waiting.proofs.Blocking.{Owner, Conflicting, owner-some, owner-none, conflicting-all, conflicting-one, blockers-of}
 use Rattle.waiting.proofs.blockers.Statement.{statement}
 use Rattle.waiting.proofs.blockers.Tie as tie
 
-sub-all : tie.Need-sub-all
-sub-all c = search needs
+lock-at-requires : tie.Need-lock-at-requires
+lock-at-requires c κs = search needs
 
-shl-all : tie.Need-shl-all
-shl-all c = search needs
+holders-requires : tie.Need-holders-requires
+holders-requires c κs = let a = c .before .before .before .args in
+    let p = c .before .before .before .pre in (
+      subst (λ (n : ℕ). n < 2 ^ base .slots) (sym (ap (λ (h : Lock). h .shared) (c .lock-at .ensures))) (shared-small (a .txns .now) (a .locks .now) (p .0) (a .item .0) (p .1)),
+      subst (λ (n : ℕ). n ≤ base .slots) (sym (ap (λ (h : Lock). h .exclusive) (c .lock-at .ensures))) (exclusive-small (a .txns .now) (a .locks .now) (p .0) (a .item .0) (p .1)),
+    )
+
+ahead-requires : tie.Need-ahead-requires
+ahead-requires c κs = search needs
 
 shl-result : tie.Need-shl-result
 shl-result c = search needs
 
-owner : (c : tie.After-row-known2) → Owner (c .before .before .before .before .args .exclusive) (c .before .before .before .if1 .all)
-owner c =
-    let x = c .before .before .before .before .args .exclusive in
-    ⊎-elim
-    (λ w. owner-some x (c .before .before .before .before .pre .1) (w .0 .taken) (w .1))
-    (λ w. owner-none x (w .0 .left) (w .1))
-    (c .before .before .before .if1 .came)
-
-conflicting :
-    (c : tie.After-row-known2)
-    → Conflicting (c .before .before .before .before .args .shared) (c .before .before .before .before .args .exclusive) (c .before .before .before .before .args .wanted) (c .before .before .if2 .all)
-conflicting c =
-    let a = c .before .before .before .before .args in
-    let v = c .before .before .before .if1 .all in
-    ⊎-elim
-    (λ w. conflicting-all (a .shared) (a .exclusive) (a .wanted) v (w .0 .taken) (owner c) (w .2))
-    (λ w. conflicting-one (a .shared) (a .exclusive) (a .wanted) v (w .0 .left) (owner c) (w .1))
-    (c .before .before .if2 .came)
-
 returns : tie.Need-returns
-returns c =
-    let a = c .before .before .before .before .args in
-    let p = c .before .before .before .before .pre in
-    λ v.
-    blockers-of (record { shared = a .shared; exclusive = a .exclusive; working = v }) (a .wanted) (a .slot .0) (c .before .before .if2 .all) (p .0) (p .1) (p .2)
-    (conflicting c)
+returns c = let a = c .before .before .before .before .before .before .args in
+    let h = c .before .before .before .lock-at in
+    let v = c .before .before .holders in
+    blockers-of (a .txns .now) (a .locks .now) (a .wanted) (a .item .0) (a .rank) (a .slot .0) (v .result) (c .before .ahead .result) (c .before .before .before .before .before .before .pre .2)
+    (subst (λ (o : Lock). Holders o (a .wanted) (v .result)) (h .ensures) (v .ensures (h .result .working)))
+    (c .before .ahead .ensures)
 
 pub blockers-spec : {M : Type 1} → statement M
-blockers-spec = tie.close (tie.spec sub-all shl-all shl-result returns)
+blockers-spec =
+    tie.close (tie.spec lock-at-requires holders-requires ahead-requires shl-result returns)

@@ -1,14 +1,14 @@
 -- The pass over the rows that await a lock.
 use Prim.Native.Nat.{ℕ, _<_, _-_, _+_, _*_}
-use mathlib.Core.Path.{_≡_, _∙_, subst}
+use mathlib.Core.Path.{_≡_, ap, _∙_, subst}
 use mathlib.Core.Logic.{⊎-elim}
 use native.Mathlib.Omega.{arith}
 use lib.ListN.{getD}
 use Rattle.names.specs.Sizes.{base}
 use Rattle.names.specs.Layout.{txnItemAt}
-use Rattle.rules.specs.Tables.{txnAt, txn, lock}
-use Rattle.waiting.proofs.Linking.{Linking, linking-begin, linking-still, linking-waits, linking-end, linking-right}
-use Rattle.waiting.proofs.Linking.{awaiter-same, shared-small, exclusive-small}
+use Rattle.rules.specs.Tables.{txnAt, txn, Lock, lock}
+use Rattle.waiting.specs.Waiting.{awaiterOk}
+use Rattle.waiting.proofs.Linking.{Linking, linking-begin, linking-still, linking-waits, linking-end, linking-right, awaiter-same}
 use Rattle.waiting.proofs.waits.Statement.{statement}
 use Rattle.waiting.proofs.waits.Tie as tie
 
@@ -45,42 +45,28 @@ mul-item c = omega arith
 shared-slice-read-item : tie.Need-shared-slice-read-item Inv-loop μ-loop
 shared-slice-read-item c = let z = c .before .before .before .before .before .before .before .pre .txnsExact in omega arith
 
+add-rank : tie.Need-add-rank Inv-loop μ-loop
+add-rank c = omega arith
+
+mul-rank : tie.Need-mul-rank Inv-loop μ-loop
+mul-rank c = omega arith
+
+shared-slice-read-rank : tie.Need-shared-slice-read-rank Inv-loop μ-loop
+shared-slice-read-rank c = let z = c .before .before .before .before .before .before .before .before .pre .txnsExact in omega arith
+
 -- the awaited item is one
-known : (c : tie.After-shared-slice-known4 Inv-loop μ-loop) → getD (c .before .before .before .before .before .before .before .args .txns .now) (txnAt (c .before .before .before .before .loop .slot) + txnItemAt) 0 < base .items
+known : (c : tie.After-shared-slice-known5 Inv-loop μ-loop) → getD (c .before .before .before .before .before .before .before .before .args .txns .now) (txnAt (c .before .before .before .before .before .loop .slot) + txnItemAt) 0 < base .items
 unfolding txn
-known c = c .before .before .before .before .before .before .before .pre .itemKnown (c .before .before .before .before .loop .slot) (c .before .before .before .loop-test .taken) (c .before .if1 .taken)
+known c = c .before .before .before .before .before .before .before .before .pre .itemKnown (c .before .before .before .before .before .loop .slot) (c .before .before .before .before .loop-test .taken) (c .before .before .if1 .taken)
 
-mul-shared : tie.Need-mul-shared Inv-loop μ-loop
-mul-shared c = let i = known c in let z = c .before .before .before .before .before .before .before .pre .locksExact in omega arith
-
-mul-shared-2 : tie.Need-mul-shared-2 Inv-loop μ-loop
-mul-shared-2 c = let i = known c in let z = c .before .before .before .before .before .before .before .pre .locksExact in omega arith
-
-shared-slice-read-shared : tie.Need-shared-slice-read-shared Inv-loop μ-loop
-shared-slice-read-shared c = let i = known (c .before) in let z = c .before .before .before .before .before .before .before .before .pre .locksExact in omega arith
-
-mul-exclusive : tie.Need-mul-exclusive Inv-loop μ-loop
-mul-exclusive c = let i = known (c .before) in let z = c .before .before .before .before .before .before .before .before .pre .locksExact in omega arith
-
-add-exclusive : tie.Need-add-exclusive Inv-loop μ-loop
-add-exclusive c = let i = known (c .before) in let z = c .before .before .before .before .before .before .before .before .pre .locksExact in omega arith
-
-mul-exclusive-2 : tie.Need-mul-exclusive-2 Inv-loop μ-loop
-mul-exclusive-2 c = let i = known (c .before) in let z = c .before .before .before .before .before .before .before .before .pre .locksExact in omega arith
-
-shared-slice-read-exclusive : tie.Need-shared-slice-read-exclusive Inv-loop μ-loop
-shared-slice-read-exclusive c = let i = known (c .before .before) in let z = c .before .before .before .before .before .before .before .before .before .pre .locksExact in omega arith
+lock-at-requires : tie.Need-lock-at-requires Inv-loop μ-loop
+lock-at-requires c κs = (c .before .before .before .before .before .before .before .before .pre .locksExact, known c)
 
 awaiter-ok-requires : tie.Need-awaiter-ok-requires Inv-loop μ-loop
 awaiter-ok-requires c κs = c .before .before .before .before .before .loop-test .taken
 
 blockers-requires : tie.Need-blockers-requires Inv-loop μ-loop
-unfolding lock
-blockers-requires c κs =
-    let t = c .before .before .before .before .before .before .before .before .before .before .args .txns .now in
-    let l = c .before .before .before .before .before .before .before .before .before .before .args .locks .now in
-    let x = getD t (txnAt (c .before .before .before .before .before .before .before .loop .slot) + txnItemAt) 0 in
-    (shared-small t l (c .before .before .before .before .before .before .before .before .before .before .pre) x (known (c .before .before .before)), exclusive-small t l (c .before .before .before .before .before .before .before .before .before .before .pre) x (known (c .before .before .before)), c .before .before .before .before .before .before .loop-test .taken)
+blockers-requires c κs = (c .before .before .before .before .before .before .before .before .before .before .pre, known (c .before .before), c .before .before .before .before .before .before .loop-test .taken)
 
 mul-links : tie.Need-mul-links Inv-loop μ-loop
 mul-links c = omega arith
@@ -95,21 +81,24 @@ loop-less : tie.Need-loop-less Inv-loop μ-loop
 loop-less c = omega arith
 
 loop-again : tie.Need-loop-again Inv-loop μ-loop
-unfolding txn lock
-loop-again c =
-    let t = c .before .before .before .before .before .before .args .txns .now in
+unfolding txn
+loop-again c = let t = c .before .before .before .before .before .before .args .txns .now in
     let l = c .before .before .before .before .before .before .args .locks .now in
     let g = c .before .before .before .loop in
     let s = g .slot in
     let k = c .before .before .loop-test .taken in
+    let r = txn t s in
     ⊎-elim
-    (λ w. linking-waits t l (g .links) (g .ok) s k (g .inv) (w .0 .taken) (w .4 .ensures ∙ awaiter-same s (txn t s) (lock l ((txn t s) .awaitedItem)) (w .0 .taken) (c .before .before .before .before .before .before .pre .lockListed s k)) (w .5 .ensures (getD l (3 * (txn t s) .awaitedItem + 2) 0)) (w .6) (w .7))
+    (λ w.
+    linking-waits t l (g .links) (g .ok) s k (g .inv) (w .0 .taken)
+    (w .4 .ensures ∙ ap (λ (h : Lock). awaiterOk (h .shared) (h .exclusive) (r .awaitedLock) s) (w .3 .ensures)
+    ∙ awaiter-same s r (lock l (r .awaitedItem)) (w .0 .taken) (c .before .before .before .before .before .before .pre .lockListed s k))
+    (w .5 .ensures) (w .6) (w .7))
     (λ w. linking-still t l (g .links) (g .ok) s k (g .inv) (w .0 .left) (w .1) (w .2))
     (c .if1 .came)
 
 returns : tie.Need-returns Inv-loop μ-loop
-returns c =
-    let t = c .before .before .before .before .args .txns .now in
+returns c = let t = c .before .before .before .before .args .txns .now in
     let l = c .before .before .before .before .args .locks .now in
     let g = c .before .loop in
     let e : g .slot ≡ base .slots = (let k = g .inv .within in omega arith) in
@@ -131,13 +120,10 @@ waits-spec =
     add-item
     mul-item
     shared-slice-read-item
-    mul-shared
-    mul-shared-2
-    shared-slice-read-shared
-    mul-exclusive
-    add-exclusive
-    mul-exclusive-2
-    shared-slice-read-exclusive
+    add-rank
+    mul-rank
+    shared-slice-read-rank
+    lock-at-requires
     awaiter-ok-requires
     blockers-requires
     mul-links

@@ -1,7 +1,7 @@
 //! Damage to locks, and to the waits for them.
 
-use super::set;
 use super::txns::{pick_slot, update};
+use super::{set, waits};
 use crate::fuzz::director;
 use crate::fuzz::scene::Scene;
 use crate::keeper::Call;
@@ -28,11 +28,7 @@ pub fn awaits_held(rng: &mut Rng, t: &mut Tables, lock: u64) -> bool {
         shared || row[EXCLUSIVE] == slot as u64 + 1
     };
     match pick_item(rng, t, holds) {
-        Some(item) => {
-            let row = &mut t.txns[TXN_HEAD + slot * TXN_ROW..][..TXN_ROW];
-            row[AWAITED_LOCK] = lock;
-            set(&mut row[AWAITED_ITEM], item as u64)
-        }
+        Some(item) => waits(t, slot, lock, item),
         None => false,
     }
 }
@@ -131,9 +127,7 @@ pub fn circle_of_two(rng: &mut Rng, t: &mut Tables) -> bool {
     );
     if let (Some(wanted), Some(held)) = items {
         for (slot, item) in [(one, wanted), (other, held)] {
-            let row = &mut t.txns[TXN_HEAD + slot * TXN_ROW..][..TXN_ROW];
-            row[AWAITED_LOCK] = AWAITS_EXCLUSIVE;
-            row[AWAITED_ITEM] = item as u64;
+            waits(t, slot, AWAITS_EXCLUSIVE, item);
         }
     }
     items.0.is_some() && items.1.is_some()
@@ -152,11 +146,7 @@ pub fn circle_along_waits(rng: &mut Rng, t: &mut Tables) -> bool {
         _ => return false,
     };
     match scene.find(number) {
-        Some(txn) => {
-            let row = &mut t.txns[TXN_HEAD + txn.slot * TXN_ROW..][..TXN_ROW];
-            row[AWAITED_LOCK] = lock;
-            set(&mut row[AWAITED_ITEM], item)
-        }
+        Some(txn) => waits(t, txn.slot, lock, item as usize),
         None => false,
     }
 }

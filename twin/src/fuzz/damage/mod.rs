@@ -2,15 +2,18 @@
 
 mod locks;
 mod quota;
+mod ranks;
 mod txns;
 mod versions;
 
+use crate::fuzz::line::{step_in, step_out};
 use crate::protocol::Tables;
 use crate::rng::Rng;
 use crate::sizes::*;
 
 use locks::*;
 use quota::*;
+use ranks::*;
 use txns::*;
 use versions::*;
 
@@ -18,7 +21,7 @@ use versions::*;
 pub type Damage = fn(&mut Rng, &mut Tables) -> bool;
 
 /// The kinds of damage by name. The first ones leave good tables good.
-pub const KINDS: [(&str, Damage); 45] = [
+pub const KINDS: [(&str, Damage); 54] = [
     ("none", |_, _| true),
     ("numbers or clock nearly spent", nearly_spent),
     ("32 held exclusively", |rng, t| holds(rng, t, QUOTA)),
@@ -28,6 +31,8 @@ pub const KINDS: [(&str, Damage); 45] = [
     ("31 held, exclusive awaited", |rng, t| {
         holds_and_awaits(rng, t, QUOTA - 1, AWAITS_EXCLUSIVE)
     }),
+    ("a line of waiters", |rng, t| long_line(rng, t).is_some()),
+    ("an exchange would close a circle", exchange_closes),
     ("one word", one_word),
     ("some words", some_words),
     ("one size off by one", size_off_by_one),
@@ -54,9 +59,7 @@ pub const KINDS: [(&str, Damage); 45] = [
     ("query's start above the clock", |rng, t| {
         on_txn(rng, t, query, START, above_clock)
     }),
-    ("query awaits", |rng, t| {
-        on_txn(rng, t, query, AWAITED_LOCK, |rng, _| rng.within(1, 2))
-    }),
+    ("query awaits", query_awaits),
     ("awaited item 64", |rng, t| {
         on_txn(rng, t, waiting, AWAITED_ITEM, |rng, _| {
             rng.odd_word().max(64)
@@ -96,6 +99,14 @@ pub const KINDS: [(&str, Damage); 45] = [
     ("32 held, exclusive awaited", |rng, t| {
         holds_and_awaits(rng, t, QUOTA, AWAITS_EXCLUSIVE)
     }),
+    ("rank where nothing is awaited", |rng, t| {
+        on_txn(rng, t, not_waiting, RANK, |rng, _| some_rank(rng))
+    }),
+    ("a waiter without a rank", no_rank),
+    ("a rank twice", rank_twice),
+    ("a gap between ranks", rank_gap),
+    ("a rank far above", rank_far_above),
+    ("an exchanger behind a reader", exchanger_behind),
     ("count 0", |rng, t| count(rng, t, |_| 0)),
     ("count 17 and above", |rng, t| {
         count(rng, t, |rng| rng.odd_word().max(17))
@@ -113,15 +124,23 @@ pub const KINDS: [(&str, Damage); 45] = [
     ("a version nobody reads", unread_version),
     ("a circle of two", circle_of_two),
     ("a circle along waits", circle_along_waits),
+    ("a circle through an earlier waiter", circle_in_line),
 ];
 
 /// How many of the kinds leave the tables good.
-pub const HARMLESS: usize = 5;
+pub const HARMLESS: usize = 7;
 /// How many come before the kinds that break one clause on purpose.
-pub const UNAIMED: usize = 7;
+pub const UNAIMED: usize = 9;
 
 fn set(word: &mut u64, value: u64) -> bool {
     *word = value;
+    true
+}
+
+/// Lets a slot await a lock on an item, and nothing else.
+fn waits(t: &mut Tables, slot: usize, lock: u64, item: usize) -> bool {
+    step_out(&mut t.txns, slot);
+    step_in(&mut t.txns, &t.locks, slot, lock, item);
     true
 }
 

@@ -2,6 +2,7 @@
 //! good.
 
 use super::txns::{pick_slot, update};
+use crate::fuzz::line::step_out;
 use crate::fuzz::made::may_wait;
 use crate::fuzz::scene::{Scene, Txn};
 use crate::protocol::Tables;
@@ -36,12 +37,8 @@ pub fn holds_and_awaits(rng: &mut Rng, t: &mut Tables, count: usize, lock: u64) 
         may_wait(&scene, &txn, is_write, *item) && is_free == stale
     };
     let items: Vec<u64> = (0..ITEMS as u64).filter(like).collect();
-    let row = &mut t.txns[TXN_HEAD + slot * TXN_ROW..][..TXN_ROW];
     match rng.pick(&items) {
-        Some(item) => {
-            row[AWAITED_LOCK] = lock;
-            super::set(&mut row[AWAITED_ITEM], item)
-        }
+        Some(item) => super::waits(t, slot, lock, item as usize),
         None => false,
     }
 }
@@ -51,7 +48,7 @@ pub fn holds_and_awaits(rng: &mut Rng, t: &mut Tables, count: usize, lock: u64) 
 fn held_by(rng: &mut Rng, t: &mut Tables, count: usize) -> Option<usize> {
     let slot = pick_slot(rng, t, update)?;
     let holder = slot as u64 + 1;
-    t.txns[TXN_HEAD + slot * TXN_ROW..][AWAITED_LOCK..TXN_ROW].fill(0);
+    step_out(&mut t.txns, slot);
     let is_held = |row: &&[u64]| row[EXCLUSIVE] == holder;
     let mut held = t.locks.chunks(LOCK_ROW).filter(is_held).count();
     // An odd step leads to every item.

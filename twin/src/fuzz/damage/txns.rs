@@ -66,7 +66,7 @@ pub fn above_clock(rng: &mut Rng, clock: u64) -> u64 {
 }
 
 pub fn free_row(rng: &mut Rng, t: &mut Tables) -> bool {
-    let place = rng.one_of(&[KIND, START, AWAITED_LOCK, AWAITED_ITEM]);
+    let place = rng.one_of(&[KIND, START, AWAITED_LOCK, AWAITED_ITEM, RANK]);
     on_txn(rng, t, free, place, |rng, _| rng.odd_word().max(1))
 }
 

@@ -4,8 +4,8 @@ use borrow.Author.Needs.{needs}
 use Rattle.deeds.proofs.begins.waits.Statement.{statement}
 use Rattle.deeds.proofs.begins.waits.Tie as tie
 
-set-awaited-requires : tie.Need-set-awaited-requires
-set-awaited-requires c κs = search needs
+note-requires : tie.Need-note-requires
+note-requires c κs = search needs
 
 refused-requires : tie.Need-refused-requires
 refused-requires c κs = search needs
@@ -14,8 +14,8 @@ same-length : tie.Need-same-length
 same-length c = search needs
 
 returns : tie.Need-returns
-returns c =
-    λ l v. waits-done (c .before .before .before .before .before .before .args .txns .now) l v _ _ _ (c .before .before .before .set-awaited .ensures) (c .refused .ensures)
+returns c = let a = c .before .before .before .before .before .before .before .args in
+    λ v. waits-done (a .txns .now) (a .locks .now) v (a .slot) (a .lock) (a .item) (c .before .before .before .note .ensures) (c .refused .ensures)
 
 pub waits-spec : {M : Type 1} → statement M
-waits-spec = tie.close (tie.spec set-awaited-requires refused-requires same-length returns)
+waits-spec = tie.close (tie.spec note-requires refused-requires same-length returns)

@@ -4,8 +4,8 @@ use borrow.Author.Needs.{needs}
 use Rattle.deeds.proofs.reads.newest.Statement.{statement}
 use Rattle.deeds.proofs.reads.newest.Tie as tie
 
-set-awaited-requires : tie.Need-set-awaited-requires
-set-awaited-requires c κs = search needs
+clear-requires : tie.Need-clear-requires
+clear-requires c κs = search needs
 
 newest-requires : tie.Need-newest-requires
 newest-requires c κs = search needs
@@ -18,8 +18,8 @@ same-length c = search needs
 
 returns : tie.Need-returns
 returns c =
-    λ l. newest-done (c .before .before .before .before .before .before .before .before .args .txns .now) l (c .before .before .before .before .before .before .before .before .args .versions .now) _ _ (c .before .before .before .before .set-awaited .ensures) (c .before .newest .ensures) (c .found .ensures)
+    λ l. newest-done (c .before .before .before .before .before .before .before .before .args .txns .now) l (c .before .before .before .before .before .before .before .before .args .versions .now) _ _ (c .before .before .before .before .clear .ensures) (c .before .newest .ensures) (c .found .ensures)
 
 pub newest-spec : {M : Type 1} → statement M
 newest-spec =
-    tie.close (tie.spec set-awaited-requires newest-requires found-requires same-length returns)
+    tie.close (tie.spec clear-requires newest-requires found-requires same-length returns)

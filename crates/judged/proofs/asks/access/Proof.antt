@@ -1,32 +1,32 @@
 -- Each cell comes to its deed.
-use mathlib.Core.Path.{_≡_, sym, ap, _∙_, subst}
+use mathlib.Core.Path.{_≡_, sym, ap, _∙_}
 use Prim.Native.Nat.{ℕ}
 use native.Mathlib.Omega.{arith}
 use Rattle.names.specs.Sizes.{base}
-use Rattle.rules.specs.Tables.{Tables, tables, lock}
-use Rattle.rules.specs.Locks.{Cell, decision, wanted}
+use Rattle.rules.specs.Tables.{Tables, tables}
+use Rattle.rules.specs.Locks.{Cell, wanted}
 use Rattle.rules.specs.Step.{access, cellDeed, conflicted}
-use Rattle.cells.specs.Cells.{askedOf, SlotsOnly}
-use Rattle.cells.proofs.Others.{cell-told, lock-slots, wanted-is}
+use Rattle.cells.specs.Cells.{askedOf}
+use Rattle.cells.proofs.Others.{lock-slots, wanted-is}
 use borrow.Author.Needs.{needs}
 use Rattle.judged.proofs.asks.access.Statement.{statement}
 use Rattle.judged.proofs.asks.access.Tie as tie
 
 -- where the cell is decided
 abbrev G : tie.After-decision → Tables
-G c = let a = c .before .before .before .before .before .args in tables (a .txns .now) (a .locks .now) (a .versions .now)
+G c = let a = c .before .before .before .before .args in tables (a .txns .now) (a .locks .now) (a .versions .now)
 
 abbrev slot : tie.After-decision → ℕ
-slot c = c .before .before .before .before .before .args .slot .0
+slot c = c .before .before .before .before .args .slot .0
 
 abbrev item : tie.After-decision → ℕ
-item c = c .before .before .before .before .before .args .item .0
+item c = c .before .before .before .before .args .item .0
 
 abbrev asked : tie.After-decision → ℕ
-asked c = c .before .before .before .before .before .args .asked
+asked c = c .before .before .before .before .args .asked
 
 abbrev value : tie.After-decision → ℕ
-value c = c .before .before .before .before .before .args .value
+value c = c .before .before .before .before .args .value
 
 -- what a cell comes to is what the request comes to
 comes :
@@ -35,16 +35,13 @@ comes :
 unfolding access
 comes c {q} e =
     ap (cellDeed base (slot c) (wanted (askedOf (asked c))) (item c) (value c) (G c))
-    (sym (cell-told (askedOf (asked c)) (lock (G c .locks) (item c)) (slot c) (c .before .lock-at .result) (c .before .lock-at .ensures) (c .decision .ensures) e))
-
-lock-at-requires : tie.Need-lock-at-requires
-lock-at-requires c κs = search needs
+    (sym e ∙ c .decision .ensures)
 
 decision-requires : tie.Need-decision-requires
 decision-requires c κs =
-    let a = c .before .before .before .before .args in
-    let p = c .before .before .before .before .pre in
-    (p .3, subst SlotsOnly (sym (c .lock-at .ensures)) (lock-slots (a .txns .now) (a .locks .now) (a .versions .now) (p .0) (a .item .0) (p .2)), p .1)
+    let a = c .before .before .before .args in
+    let p = c .before .before .before .pre in
+    (p .3, p .0 .txnsExact, p .0 .locksExact, p .1, p .2, lock-slots (a .txns .now) (a .locks .now) (a .versions .now) (p .0) (a .item .0) (p .2))
 
 enum-told : tie.Need-enum-told
 enum-told c = search needs
@@ -72,8 +69,8 @@ add-conflict c = search needs
 
 conflict-requires : tie.Need-conflict-requires
 conflict-requires c κs =
-    let p = c .before .before .before .before .before .before .before .pre in
-    record { versions = c .before .before .before .before .before .before .before .args .versions .now; good = p .0; inside = p .1; known = p .2; some = λ e. omega arith; listed = let i = p .3 in omega arith }
+    let p = c .before .before .before .before .before .before .pre in
+    record { versions = c .before .before .before .before .before .before .args .versions .now; good = p .0; inside = p .1; known = p .2; some = λ e. omega arith; listed = let i = p .3 in omega arith }
 
 returns : tie.Need-returns
 unfolding cellDeed
@@ -104,14 +101,13 @@ unfolding conflicted cellDeed
 returns-7 c =
     let at = c .before .before .before in
     c .conflict .ensures
-    ∙ ap (λ (k : ℕ). conflicted base (slot at) k (item at) (G at)) (wanted-is (asked at) (at .before .before .before .before .before .pre .3))
+    ∙ ap (λ (k : ℕ). conflicted base (slot at) k (item at) (G at)) (wanted-is (asked at) (at .before .before .before .before .pre .3))
     ∙ comes at (c .before .enum-told7 .given .1)
 
 pub access-spec : {M : Type 1} → statement M
 access-spec =
     tie.close
     (tie.spec
-    lock-at-requires
     decision-requires
     enum-told
     enum-told-2

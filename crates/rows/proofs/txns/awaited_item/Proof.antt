@@ -1,29 +1,15 @@
--- A word of a row is what the view reads there.
+-- One word of the row.
 use Rattle.rules.specs.Tables.{txn}
-use mathlib.Core.Path.{refl}
 use borrow.Author.Needs.{needs}
 use Rattle.rows.proofs.txns.awaited_item.Statement.{statement}
 use Rattle.rows.proofs.txns.awaited_item.Tie as tie
 
-mul-at : tie.Need-mul-at
-mul-at c = search needs
-
-add-at : tie.Need-add-at
-add-at c = search needs
-
-add-result : tie.Need-add-result
-add-result c = search needs
-
-mul-result : tie.Need-mul-result
-mul-result c = search needs
-
-shared-slice-read-result : tie.Need-shared-slice-read-result
-shared-slice-read-result c = search needs
+row-word-requires : tie.Need-row-word-requires
+row-word-requires c κs = search needs
 
 returns : tie.Need-returns
 unfolding txn
-returns c = refl
+returns c = c .row-word .ensures
 
 pub awaited-item-spec : {M : Type 1} → statement M
-awaited-item-spec =
-    tie.close (tie.spec mul-at add-at add-result mul-result shared-slice-read-result returns)
+awaited-item-spec = tie.close (tie.spec row-word-requires returns)

@@ -1,4 +1,4 @@
--- Two words stored are the awaited fields written.
+-- Three words stored are the awaited fields written.
 use mathlib.Core.Path.{refl}
 use native.Mathlib.Omega.{arith}
 use lib.ListN.{length-set}
@@ -31,6 +31,15 @@ mul-txns-2 c = search needs
 slice-write-txns-2 : tie.Need-slice-write-txns-2
 slice-write-txns-2 c = simp length-set (omega arith)
 
+add-txns-3 : tie.Need-add-txns-3
+add-txns-3 c = search needs
+
+mul-txns-3 : tie.Need-mul-txns-3
+mul-txns-3 c = search needs
+
+slice-write-txns-3 : tie.Need-slice-write-txns-3
+slice-write-txns-3 c = simp length-set (omega arith)
+
 same-length : tie.Need-same-length
 same-length c = search needs
 
@@ -50,5 +59,8 @@ set-awaited-spec =
     add-txns-2
     mul-txns-2
     slice-write-txns-2
+    add-txns-3
+    mul-txns-3
+    slice-write-txns-3
     same-length
     returns)

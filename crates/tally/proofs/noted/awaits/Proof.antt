@@ -1,9 +1,11 @@
--- The row of the transaction that is found gets the awaited fields, and none where nobody is found.
+-- The wait of the transaction that is found is noted, and none where nobody is found or the item is none.
 use Prim.Native.Nat.{ℕ}
 use mathlib.Core.Path.{sym, ap, _∙_}
 use mathlib.Core.List.{List}
+use borrow.Author.Tests.{lt-ltb, le-ltb}
 use Rattle.names.specs.Sizes.{base}
-use Rattle.rules.specs.Tables.{slotOf, setAwaited}
+use Rattle.rules.specs.Tables.{slotOf}
+use Rattle.rules.specs.Waits.{noted}
 use Rattle.callers.proofs.Founds.{FoundSlot, found-slot, found-nobody, slot-most}
 use Rattle.tally.specs.Noted.{awaited}
 use borrow.Author.Needs.{needs}
@@ -25,22 +27,23 @@ same-length c = search needs
 returns : tie.Need-returns
 unfolding awaited
 returns c =
-    let a = c .before .before .before .before .before .args in
+    let a = c .before .before .before .before .before .before .args in
     rw (found-nobody (slotOf base (a .txns .now) (a .number)) (sym (c .before .before .slot-of .ensures) ∙ c .enum-told .given .1))
 
 -- the slot that was found
-abbrev txns : tie.After-set-awaited-arg → List ℕ
-txns c = c .before .before .before .before .before .before .before .args .txns .now
+abbrev txns : tie.After-note-arg → List ℕ
+txns c = c .before .before .before .before .before .before .before .before .before .args .txns .now
 
-abbrev number : tie.After-set-awaited-arg → ℕ
-number c = c .before .before .before .before .before .before .before .args .number
+abbrev number : tie.After-note-arg → ℕ
+number c = c .before .before .before .before .before .before .before .before .before .args .number
 
-slot : (c : tie.After-set-awaited-arg) → FoundSlot (slotOf base (txns c) (number c)) (c .before .before .found .given .0 .0)
-slot c = found-slot (slotOf base (txns c) (number c)) _ (sym (c .before .before .before .before .slot-of .ensures) ∙ c .before .before .found .given .1)
+slot : (c : tie.After-note-arg) → FoundSlot (slotOf base (txns c) (number c)) (c .before .before .before .found .given .0 .0)
+slot c = found-slot (slotOf base (txns c) (number c)) _ (sym (c .before .before .before .before .before .slot-of .ensures) ∙ c .before .before .before .found .given .1)
 
-set-awaited-requires : tie.Need-set-awaited-requires
-set-awaited-requires c κs =
-    (c .before .before .before .before .before .before .before .pre, slot c .inside (slot-most (txns c) (number c)))
+note-requires : tie.Need-note-requires
+note-requires c κs =
+    let p = c .before .before .before .before .before .before .before .before .before .pre in
+    (p .0, p .1, slot c .inside (slot-most (txns c) (number c)), c .before .if1 .taken, p .2)
 
 same-length-2 : tie.Need-same-length-2
 same-length-2 c = search needs
@@ -49,8 +52,18 @@ returns-2 : tie.Need-returns-2
 unfolding awaited
 returns-2 c =
     let d = c .before .before .before in
-    let a = d .before .before .before .before .before .before .before .args in
-    rw (slot d .some) (c .before .before .set-awaited .ensures ∙ ap (λ (s : ℕ). setAwaited (a .txns .now) s (a .lock) (a .item)) (slot d .is))
+    let a = d .before .before .before .before .before .before .before .before .before .args in
+    rw (slot d .some, lt-ltb _ _ (d .before .if1 .taken)) (c .before .before .note .ensures ∙ ap (λ (s : ℕ). noted base (a .txns .now) (a .locks .now) s (a .lock) (a .item)) (slot d .is))
+
+same-length-3 : tie.Need-same-length-3
+same-length-3 c = search needs
+
+returns-3 : tie.Need-returns-3
+unfolding awaited
+returns-3 c =
+    let a = c .before .before .before .before .before .before .before .before .args in
+    let at = found-slot (slotOf base (a .txns .now) (a .number)) _ (sym (c .before .before .before .before .slot-of .ensures) ∙ c .before .before .found .given .1) in
+    rw (at .some, le-ltb _ _ (c .if1 .left))
 
 pub awaits-spec : {M : Type 1} → statement M
 awaits-spec =
@@ -61,6 +74,8 @@ awaits-spec =
     enum-told
     same-length
     returns
-    set-awaited-requires
+    note-requires
     same-length-2
-    returns-2)
+    returns-2
+    same-length-3
+    returns-3)

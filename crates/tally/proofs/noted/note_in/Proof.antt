@@ -1,7 +1,8 @@
 -- Each call's own words.
-use mathlib.Core.Path.{sym, ap, _∙_}
+use mathlib.Core.Path.{_≡_, sym, ap, _∙_}
+use Rattle.rules.specs.Tables.{sharedLock, exclusiveLock}
 use Rattle.rules.specs.Answers.{Call}
-use Rattle.tally.specs.Noted.{notedIn}
+use Rattle.tally.specs.Noted.{awaited, waitedIn}
 use borrow.Author.Needs.{needs}
 use Rattle.tally.proofs.noted.note_in.Statement.{statement}
 use Rattle.tally.proofs.noted.note_in.Tie as tie
@@ -34,35 +35,39 @@ same-length : tie.Need-same-length
 same-length c = search needs
 
 returns : tie.Need-returns
-unfolding notedIn
+unfolding waitedIn
 returns c =
-    c .before .before .awaits .ensures
-    ∙ ap (λ (m : Call). notedIn m (c .before .before .before .before .before .before .before .before .args .txns .now)) (sym (c .before .before .before .before .before .call .given .1))
+    let a = c .before .before .before .before .before .before .before .before .before .args in
+    let w = c .before .before .before .before .before .call .given in
+    let e : c .before .before .awaits .last .0 ≡ awaited (a .txns .now) (a .locks .now) (w .0 .0) sharedLock (w .0 .1 .0) = c .before .before .awaits .ensures in
+    e ∙ ap (λ (m : Call). waitedIn m (a .txns .now) (a .locks .now)) (sym (w .1))
 
 same-length-2 : tie.Need-same-length-2
 same-length-2 c = search needs
 
 returns-2 : tie.Need-returns-2
-unfolding notedIn
+unfolding waitedIn
 returns-2 c =
-    c .before .before .awaits2 .ensures
-    ∙ ap (λ (m : Call). notedIn m (c .before .before .before .before .before .before .before .before .args .txns .now)) (sym (c .before .before .before .before .before .call2 .given .1))
+    let a = c .before .before .before .before .before .before .before .before .before .args in
+    let w = c .before .before .before .before .before .call2 .given in
+    let e : c .before .before .awaits2 .last .0 ≡ awaited (a .txns .now) (a .locks .now) (w .0 .0) exclusiveLock (w .0 .1 .0) = c .before .before .awaits2 .ensures in
+    e ∙ ap (λ (m : Call). waitedIn m (a .txns .now) (a .locks .now)) (sym (w .1))
 
 returns-3 : tie.Need-returns-3
-unfolding notedIn
-returns-3 c = ap (λ (m : Call). notedIn m (c .before .before .before .args .txns .now)) (sym (c .enum-told .given .1))
+unfolding waitedIn
+returns-3 c = ap (λ (m : Call). waitedIn m (c .before .before .before .before .args .txns .now) (c .before .before .before .before .args .locks .now)) (sym (c .enum-told .given .1))
 
 returns-4 : tie.Need-returns-4
-unfolding notedIn
-returns-4 c = ap (λ (m : Call). notedIn m (c .before .before .before .args .txns .now)) (sym (c .enum-told2 .given .1))
+unfolding waitedIn
+returns-4 c = ap (λ (m : Call). waitedIn m (c .before .before .before .before .args .txns .now) (c .before .before .before .before .args .locks .now)) (sym (c .enum-told2 .given .1))
 
 returns-5 : tie.Need-returns-5
-unfolding notedIn
-returns-5 c = ap (λ (m : Call). notedIn m (c .before .before .before .args .txns .now)) (sym (c .enum-told3 .given .1))
+unfolding waitedIn
+returns-5 c = ap (λ (m : Call). waitedIn m (c .before .before .before .before .args .txns .now) (c .before .before .before .before .args .locks .now)) (sym (c .enum-told3 .given .1))
 
 returns-6 : tie.Need-returns-6
-unfolding notedIn
-returns-6 c = ap (λ (m : Call). notedIn m (c .before .before .before .args .txns .now)) (sym (c .enum-told4 .given .1))
+unfolding waitedIn
+returns-6 c = ap (λ (m : Call). waitedIn m (c .before .before .before .before .args .txns .now) (c .before .before .before .before .args .locks .now)) (sym (c .enum-told4 .given .1))
 
 pub note-in-spec : {M : Type 1} → statement M
 note-in-spec =

@@ -3,7 +3,7 @@ use Prim.Native.Nat.{ℕ, zero, suc, _-_}
 use mathlib.Core.List.{List, [], _∷_, _++_}
 use Rattle.names.specs.Sizes.{base}
 use Rattle.rules.specs.Answers.{BeginUpdate, Read, Write, Commit, Abort}
-use Rattle.starred.specs.Plays.{Line, _⇒_}
+use Rattle.plays.specs.Plays.{Line, _⇒_}
 
 -- T1 writes the items x, x + 1, .., as many as said
 unfoldable pub writes : ℕ → ℕ → List Line

@@ -1,0 +1,7 @@
+-- Why who waits in line is served.
+pub mod Kept
+pub mod InOrder
+pub mod Outsiders
+pub mod Ends
+pub mod Turns
+pub mod Served

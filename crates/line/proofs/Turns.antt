@@ -1,0 +1,343 @@
+-- Every way that a call can go leaves those outside harmless: a case for each.
+use Prim.Native.Nat.{ℕ, suc, _+_, _<_}
+use mathlib.Core.Path.{_≡_, refl, sym, ap, _∙_, subst}
+use mathlib.Core.Logic.{_≢_, _⊎_, inl, inr, ⊎-elim}
+use mathlib.Core.Bool.{Bool, true, false, _&&_, cond}
+use mathlib.Core.List.{List}
+use native.Mathlib.Omega.{arith}
+use lib.Dec.{T, leb, eqb→eq}
+use borrow.Author.Tests.{lt-leb, ne-eqb}
+use Rattle.names.specs.declared.Sizes.{Sizes}
+use Rattle.rules.specs.Tables.{Tables, tables, Txn, txn, live, liveUpdate, Lock, lock, setLock, holds, holdsShared, holdsExclusive}
+use Rattle.rules.specs.Tables.{noLock, sharedLock, exclusiveLock, exclusivesOf}
+use Rattle.rules.specs.Waits.{awaits, awaitsOn, rankFor, raised, noted, conflicts}
+use Rattle.rules.specs.Good.{Good}
+use Rattle.rules.specs.Locks.{Asked, toRead, toWrite, wanted}
+use Rattle.rules.specs.Answers.{Outcome, Call, BeginUpdate, BeginQuery, Read, Write, Commit, Abort, Deed, granted, code, Wait}
+use Rattle.rules.specs.Step.{step, done, cleared, locked, replaced, sharedToo, taken, queryRead, withTxns, writesFurther}
+use Rattle.rules.specs.Conditions.{Caller, Updater, Names, Wants}
+use Rattle.rules.specs.Promises.{codeOf, after, Conflicting}
+use Rattle.rules.proofs.Tests.{true-is, false-is, or-left, or-right, same?}
+use Rattle.rules.proofs.Carried.{NoMore}
+use Rattle.rules.proofs.Callers.{caller-found}
+use Rattle.rules.proofs.EqualRanks.{awaitsOn→}
+use Rattle.rules.proofs.Views.{awaiting, lock-setLock}
+use Rattle.rules.proofs.Walks.{→ahead, →blocks}
+use Rattle.rules.proofs.Decisions.{conflicts-cases}
+use Rattle.rules.proofs.Grants.{conflicts-fewer, shared-others, replaced-others, taken-others}
+use Rattle.rules.proofs.Noting.{noted-known, noted-there, noted-here}
+use Rattle.rules.proofs.Waited.{only-this, cleared-here, cleared-there, cleared-idle}
+use Rattle.rules.proofs.Granted.{granted-exactly}
+use Rattle.rules.proofs.InOrder.{raised-before}
+use Rattle.rules.proofs.Ways.{Way, Waiter, refused, waited, beganUpdate, beganQuery, readOwn, readNewest, readShared, readQuery}
+use Rattle.rules.proofs.Ways.{wroteOwn, wroteTaken, committedUpdate, committedQuery, abortedUpdate, abortedQuery}
+use Rattle.line.specs.Served.{Exchange}
+use Rattle.line.proofs.Kept.{Kept, same-locks, set-other, left-kept, came-kept}
+use Rattle.line.proofs.Ends.{begins, commits, query-ends, aborts}
+use Rattle.line.proofs.Outsiders.{Outside, Harmless, Inv, waits-here, asks-behind, carried}
+
+-- a call for an exclusive lock is a write
+writes : (c : Call) (m k y : ℕ) → Names c m → Wants c k y → k ≡ exclusiveLock → (v : ℕ) × (c ≡ Write m y v)
+writes BeginUpdate m k y h w e = absurd h
+writes BeginQuery m k y h w e = absurd h
+writes (Read i z) m k y h w e = absurd (let q = w .0 in omega arith)
+writes (Write i z v) m k y h w e = (v, ap (λ (j : ℕ). Write j z v) h ∙ ap (λ (j : ℕ). Write m j v) (w .1))
+writes (Commit i) m k y h w e = absurd w
+writes (Abort i) m k y h w e = absurd w
+
+-- a request is to read or to write
+kinds : (a : Asked) → (wanted a ≡ sharedLock) ⊎ (wanted a ≡ exclusiveLock)
+kinds toRead = inl refl
+kinds toWrite = inr refl
+
+-- ---- the call c on the good tables G, in which the transaction n waits, in slot s, for the item x
+module _
+    (S : Sizes) (D : ℕ → Type 0) (a : Asked) (n s x : ℕ) (G : Tables) (g : Good S G) (I : Inv S D a n s x G) (known : x < S .items)
+  where
+    abbrev t : List ℕ
+    t = G .txns
+
+    abbrev l : List ℕ
+    l = G .locks
+
+    abbrev J : Tables → Type 0
+    J = Inv S D a n s x
+
+    abbrev O : Tables → ℕ → Type 0
+    O = Outside S D a n s x
+
+    abbrev H : Tables → ℕ → Type 0
+    H = Harmless S D a n s x
+
+    -- whoever bears the number n is in slot s
+    is-s : (m r : ℕ) → m ≡ n → Caller S G m r → r ≡ s
+    is-s m r e C =
+        let W = I .waiting .caller in
+        sym (caller-found S G g r m (C .inside) (C .alive) (C .name)) ∙ caller-found S G g s m (W .inside) (W .alive) (W .name ∙ sym e)
+
+    -- ---- what a slot r outside, that calls, holds and awaits afterwards
+    -- it awaits nothing, bears the same number and holds no more
+    no-more : (G′ : Tables) (r : ℕ) → (txn (G′ .txns) r) .number ≡ (txn t r) .number → (T (live (txn (G′ .txns) r)) → T (live (txn t r)))
+        → (T (awaits (txn (G′ .txns) r)) → ⊥) → NoMore r (lock l x) (lock (G′ .locks) x) → O G′ r → H G′ r
+    no-more G′ r e v idle m o =
+        record {
+          free = λ c.
+              I .harmless r (record { inside = o .inside; other = o .other; alive = v (o .alive); out = λ z. o .out (subst D (sym e) z) }) .free
+              (conflicts-fewer (wanted a) r (lock l x) (lock (G′ .locks) x) m c);
+          behind = λ u. absurd (idle (awaitsOn→ x (txn (G′ .txns) r) u .0));
+        }
+
+    -- ---- what the call c of another is answered
+    module _ (c : Call) (quiet : Names c n → codeOf S c G ≢ granted) (none : (m : ℕ) → Exchange S G x c m → (m ≡ n) ⊎ D m) where
+      -- a granted call is another's
+      apart : (m r : ℕ) → Names c m → Caller S G m r → codeOf S c G ≡ granted → s ≢ r
+      apart m r h C z e =
+          quiet (subst (Names c) (sym (C .name) ∙ ap (λ (i : ℕ). (txn t i) .number) (sym e) ∙ I .waiting .caller .name) h) z
+
+      -- who is outside exchanges nothing
+      no-exchange : (m r v : ℕ) → O G r → Caller S G m r → c ≡ Write m x v → (codeOf S c G ≡ granted) ⊎ (codeOf S c G ≡ code Wait) → T (holdsShared (lock l x) r) → ⊥
+      no-exchange m r v o C e z h =
+          ⊎-elim (λ q. o .other (is-s m r q C)) (λ d. o .out (subst D (sym (C .name)) d))
+          (none m (record { slot = r; value = v; caller = C; shares = h; asks = e; heard = z }))
+
+    -- ---- a request from outside, of one that holds nothing on the item, is in conflict with the one that waits, if one of them writes
+    stopped : (r : ℕ) → O G r → (b : Asked) → (T (holds (lock l x) r) → ⊥) → (wanted b ≡ exclusiveLock) ⊎ (wanted a ≡ exclusiveLock) → Conflicting S G b r x
+    stopped r o b h w = (
+      (λ e. h (unfold holds in (or-right (holdsShared (lock l x) r) _ e)), λ q e. h (unfold holds in (or-left (holdsShared (lock l x) r) _ e))),
+      (
+        s,
+        I .waiting .caller .inside,
+        →blocks t l (wanted b) x (rankFor S t l r x) r s (o .other)
+            (inr (→ahead x (wanted b) (rankFor S t l r x) (txn t s) (waits-here S D a n s x G (I .waiting))
+            (asks-behind S D a n s x G g I r o (λ e. h (unfold holds in (or-left (holdsShared (lock l x) r) _ e))))
+            (⊎-elim (λ q. inl q) (λ q. inr (I .waiting .lockKind ∙ q)) w))),
+      ),
+    )
+
+    -- ---- a grant to slot r: its wait is cleared, and the lock of item y is h′
+    module _ (r : ℕ) (inside : r < S .slots) where
+      abbrev u : List ℕ
+      u = cleared S t r
+
+      row : txn (cleared S t r) r ≡ awaiting (txn t r) noLock 0 0
+      row = cleared-here S t (g .txnsExact) r inside
+
+      clears : (l′ : List ℕ) → ((b : ℕ) → b ≢ r → NoMore b (lock l x) (lock l′ x)) → Kept S G (tables (cleared S t r) l′ (G .versions)) x r
+      clears l′ m =
+          left-kept S G (tables u l′ (G .versions)) g x r inside (cleared-there S t (g .txnsExact) r inside) (cleared-idle S t (g .txnsExact) r inside) m
+
+      -- the caller is as it was outside, and holds no more
+      as-before : (l′ : List ℕ) → NoMore r (lock l x) (lock l′ x) → let G′ = tables (cleared S t r) l′ (G .versions) in O G′ r → H G′ r
+      as-before l′ m = no-more (tables u l′ (G .versions)) r (ap (λ (w : Txn). w .number) row) (λ h. unfold live in (subst (λ (w : Txn). T (live w)) row h)) (cleared-idle S t (g .txnsExact) r inside) m
+
+      -- no lock changes
+      clears-only : s ≢ r → Good S (withTxns G (cleared S t r)) → J (withTxns G (cleared S t r))
+      clears-only d g′ = carried S D a n s x G (withTxns G u) g′ I r d (clears l (λ b e. same-locks (lock l x) b)) (as-before l (same-locks (lock l x) r))
+
+      module _ (y : ℕ) (h′ : Lock) (there : y < S .items) (others : (b : ℕ) → b ≢ r → NoMore b (lock l y) h′) where
+        same-item : x ≡ y → lock (setLock l y h′) x ≡ h′
+        same-item e = ap (lock (setLock l y h′)) e ∙ lock-setLock l y h′ S (g .locksExact) there
+
+        fewer : (b : ℕ) → b ≢ r → NoMore b (lock l x) (lock (setLock l y h′) x)
+        fewer b d = go (same? x y)
+          where
+            go : (x ≡ y) ⊎ (x ≢ y) → NoMore b (lock l x) (lock (setLock l y h′) x)
+            go (inl e) = subst (NoMore b (lock l x)) (sym (same-item e)) (subst (λ (z : ℕ). NoMore b (lock l z) h′) (sym e) (others b d))
+            go (inr n) = set-other l x y h′ n b
+
+        -- the caller must be harmless where the lock is that of the item x
+        locks : s ≢ r → Good S (locked S r y h′ G) → (x ≡ y → O (locked S r y h′ G) r → H (locked S r y h′ G) r) → J (locked S r y h′ G)
+        unfolding locked
+        locks d g′ own = carried S D a n s x G (locked S r y h′ G) g′ I r d (clears (setLock l y h′) fewer) (λ o. go o (same? x y))
+          where
+            go : O (locked S r y h′ G) r → (x ≡ y) ⊎ (x ≢ y) → H (locked S r y h′ G) r
+            go o (inl e) = own e o
+            go o (inr n) = as-before (setLock l y h′) (set-other l x y h′ n r) o
+
+        -- a caller outside afterwards was outside before
+        was-out : O (locked S r y h′ G) r → O G r
+        unfolding locked live
+        was-out o =
+            record {
+              inside = inside;
+              other = o .other;
+              alive = subst (λ (w : Txn). T (live w)) row (o .alive);
+              out = λ z. o .out (subst D (sym (ap (λ (w : Txn). w .number) row)) z);
+            }
+
+        -- and awaits nothing now
+        idle-now : T (awaitsOn x (txn ((locked S r y h′ G) .txns) r)) → ⊥
+        unfolding locked
+        idle-now v = cleared-idle S t (g .txnsExact) r inside (awaitsOn→ x (txn u r) v .0)
+
+        lock-now : x ≡ y → lock ((locked S r y h′ G) .locks) x ≡ h′
+        unfolding locked
+        lock-now e = same-item e
+
+    -- ---- a wait
+    module _
+        (c : Call) (quiet : Names c n → codeOf S c G ≢ granted) (none : (m : ℕ) → Exchange S G x c m → (m ≡ n) ⊎ D m)
+        (r k y : ℕ) (w : Waiter c S G r k y) (z : codeOf S c G ≡ code Wait) (g′ : Good S (withTxns G (noted S t l r k y)))
+      where
+        abbrev t′ : List ℕ
+        t′ = noted S t l r k y
+
+        -- it stood in no line
+        module _ (new : T (awaitsOn y (txn t r)) → ⊥) where
+          idle : T (awaits (txn t r)) → ⊥
+          idle h = new (only-this t r k y (w .free) h .1)
+
+          d : s ≢ r
+          d e = idle (subst (λ (m : ℕ). T (awaits (txn t m))) e (awaitsOn→ x (txn t s) (waits-here S D a n s x G (I .waiting)) .0))
+
+          here : txn t′ r ≡ awaiting (txn t r) k y (rankFor S t l r y)
+          here = noted-here S t l r k y new (g .txnsExact) (w .caller .inside)
+
+          was : O (withTxns G t′) r → O G r
+          unfolding live
+          was o =
+              record {
+                inside = o .inside;
+                other = o .other;
+                alive = subst (λ (w : Txn). T (live w)) here (o .alive);
+                out = λ q. o .out (subst D (sym (ap (λ (w : Txn). w .number) here)) q);
+              }
+
+          -- one that shares the item would wait to exchange
+          not-sharing : O G r → y ≡ x → T (holdsShared (lock l x) r) → ⊥
+          not-sharing o e h =
+              let C : Caller S G ((txn t r) .number) r = record { inside = w .caller .inside; alive = w .caller .alive; name = refl } in
+              let q = writes c ((txn t r) .number) k y (w .caller .named) (w .wants) exclusive in
+              no-exchange c quiet none ((txn t r) .number) r (q .0) o C (q .1 ∙ ap (λ (j : ℕ). Write ((txn t r) .number) j (q .0)) e) (inr z) h
+            where
+              exclusive : k ≡ exclusiveLock
+              exclusive = go (same? k sharedLock)
+                where
+                  go : (k ≡ sharedLock) ⊎ (k ≢ sharedLock) → k ≡ exclusiveLock
+                  go (inl q) =
+                      absurd (w .may .shared q (subst (λ (j : ℕ). T (holds (lock l j) r)) (sym e) (unfold holds in (or-left (holdsShared (lock l x) r) _ h))))
+                  go (inr q) = let i = w .may .listed in let j = w .some in omega arith
+
+          comes : J (withTxns G t′)
+          comes =
+              carried S D a n s x G (withTxns G t′) g′ I r d (came-kept S G g x r k y (w .caller .inside) (w .some) idle (G .versions))
+              (λ o. record {
+                free = λ u. I .harmless r (was o) .free u;
+                behind = λ v.
+                    let e : y ≡ x = sym (ap (λ (w : Txn). w .awaitedItem) here) ∙ awaitsOn→ x (txn t′ r) v .1 in
+                    let low : (txn t s) .rank < rankFor S t l r y = subst (λ (j : ℕ). (txn t s) .rank < rankFor S t l r j) (sym e) (asks-behind S D a n s x G g I r (was o) (not-sharing (was o) e)) in
+                    let its : (txn t′ r) .rank ≡ rankFor S t l r y = ap (λ (w : Txn). w .rank) here in
+                    let ours : (txn t′ s) .rank ≡ (txn t s) .rank =
+                    ap (λ (w : Txn). w .rank) (noted-there S t l r k y new (g .txnsExact) s (I .waiting .caller .inside) d) ∙ raised-before y (rankFor S t l r y) (txn t s) low in
+                    omega arith;
+              })
+
+        waits : J (withTxns G (noted S t l r k y))
+        waits = go (awaitsOn y (txn t r)) refl
+          where
+            go : (b : Bool) → awaitsOn y (txn t r) ≡ b → J (withTxns G t′)
+            go true e = subst (λ (u : List ℕ). J (withTxns G u)) (sym (noted-known S t l r k y (true-is e))) I
+            go false e = comes (false-is e)
+
+    -- ---- a shared lock is taken
+    shares : (m r y : ℕ) → Updater S G m r sharedLock y → (T (holds (lock l y) r) → ⊥) → (lock l y) .exclusive ≡ 0 → codeOf S (Read m y) G ≡ granted
+        → s ≢ r → Good S (locked S r y (sharedToo (lock l y) r) G) → J (locked S r y (sharedToo (lock l y) r) G)
+    shares m r y U h f z d g′ =
+        locks r i y h′ (U .known) others d g′
+        (λ e o. record {
+          free = λ c. own e o (kinds a) (subst (λ (w : Lock). T (conflicts w (wanted a) r)) (lock-now r i y h′ (U .known) others e) c);
+          behind = λ v. absurd (idle-now r i y h′ (U .known) others v);
+        })
+      where
+        i : r < S .slots
+        i = U .caller .inside
+
+        h′ : Lock
+        h′ = sharedToo (lock l y) r
+
+        others : (b : ℕ) → b ≢ r → NoMore b (lock l y) h′
+        others = shared-others S t (lock l y) (g .lockGood y (U .known)) r i (U .update)
+
+        -- nobody holds it exclusively
+        unheld : T (holdsExclusive h′ r) → ⊥
+        unheld c = let e : (lock l y) .exclusive ≡ suc r = unfold holdsExclusive in (eqb→eq ((lock l y) .exclusive) (suc r) c) in omega arith
+
+        own : x ≡ y → O (locked S r y h′ G) r → (wanted a ≡ sharedLock) ⊎ (wanted a ≡ exclusiveLock) → T (conflicts h′ (wanted a) r) → ⊥
+        own e o (inl q) c = ⊎-elim unheld (λ p. let j = p .0 in omega arith) (conflicts-cases h′ (wanted a) r c)
+        own e o (inr q) c =
+            granted-exactly S G toRead m r x 0 g
+            (record { asks = subst (λ (j : ℕ). Updater S G m r sharedLock j) (sym e) U; room = λ p. absurd (let j : _≡_ {A = ℕ} 0 1 = cc in omega arith) })
+            .0 (subst (λ (j : ℕ). codeOf S (Read m j) G ≡ granted) (sym e) z)
+            (stopped r (was-out r i y h′ (U .known) others o) toRead (subst (λ (j : ℕ). T (holds (lock l j) r) → ⊥) (sym e) h) (inr q))
+
+    -- ---- an exclusive lock is taken: if on this item, by none outside
+    takes :
+        (m r y v : ℕ) → Updater S G m r exclusiveLock y → T (holdsShared (lock l y) r) ⊎ (T (holds (lock l y) r) → ⊥)
+        → ((b : ℕ) → b ≢ r → T (holds (lock l y) b) → ⊥) → exclusivesOf S l r ≢ S .quota → codeOf S (Write m y v) G ≡ granted
+        → (Names (Write m y v) n → codeOf S (Write m y v) G ≢ granted) → ((i : ℕ) → Exchange S G x (Write m y v) i → (i ≡ n) ⊎ D i)
+        → s ≢ r → Good S (locked S r y (taken (lock l y) r v) G) → J (locked S r y (taken (lock l y) r v) G)
+    takes m r y v U h alone room z quiet none d g′ =
+        locks r i y h′ (U .known) others d g′ (λ e o. absurd (never e (was-out r i y h′ (U .known) others o) h))
+      where
+        i : r < S .slots
+        i = U .caller .inside
+
+        h′ : Lock
+        h′ = taken (lock l y) r v
+
+        others : (b : ℕ) → b ≢ r → NoMore b (lock l y) h′
+        others = taken-others S t (lock l y) (g .lockGood y (U .known)) r i (U .update) alone v
+
+        never : x ≡ y → O G r → T (holdsShared (lock l y) r) ⊎ (T (holds (lock l y) r) → ⊥) → ⊥
+        never e o (inl p) =
+            no-exchange (Write m y v) quiet none m r v o (U .caller) (ap (λ (j : ℕ). Write m j v) (sym e)) (inl z)
+            (subst (λ (j : ℕ). T (holdsShared (lock l j) r)) (sym e) p)
+        never e o (inr p) =
+            granted-exactly S G toWrite m r x v g
+            (record { asks = subst (λ (j : ℕ). Updater S G m r exclusiveLock j) (sym e) U; room = λ q. unfold writesFurther in (rw (ne-eqb (exclusivesOf S l r) (S .quota) room)) })
+            .0 (subst (λ (j : ℕ). codeOf S (Write m j v) G ≡ granted) (sym e) z)
+            (stopped r o toWrite (subst (λ (j : ℕ). T (holds (lock l j) r) → ⊥) (sym e) p) (inl refl))
+
+    -- ---- a working value is replaced
+    replaces : (r y v : ℕ) → r < S .slots → T (liveUpdate (txn t r)) → y < S .items → s ≢ r → Good S (locked S r y (replaced (lock l y) v) G) → J (locked S r y (replaced (lock l y) v) G)
+    replaces r y v i u there d g′ = locks r i y h′ there (λ b e. no b) d g′ (λ e o. unfold locked in (as-before r i (setLock l y h′) (own e) o))
+      where
+        h′ : Lock
+        h′ = replaced (lock l y) v
+
+        no : (b : ℕ) → NoMore b (lock l y) h′
+        no b = replaced-others S t (lock l y) (g .lockGood y there) r i u v b
+
+        own : x ≡ y → NoMore r (lock l x) (lock (setLock l y h′) x)
+        own e = subst (NoMore r (lock l x)) (sym (same-item r i y h′ there (λ b d. no b) e)) (subst (λ (j : ℕ). NoMore r (lock l j) h′) (sym e) (no r))
+
+    -- ---- every way
+    pub turn :
+        (c : Call) (d : Deed) → Way S G c d → step S c G ≡ done S d G → (Names c n → codeOf S c G ≢ granted)
+        → ((m : ℕ) → Exchange S G x c m → (m ≡ n) ⊎ D m) → Good S ((done S d G) .after) → Inv S D a n s x ((done S d G) .after)
+    unfolding done queryRead
+    turn c d (refused r m) e quiet none g′ = I
+    turn c d (waited r k y w) e quiet none g′ = waits c quiet none r k y w (ap (λ (o : Outcome). o .answer .code) e) g′
+    turn c d (beganUpdate r F l) e quiet none g′ = begins S D a n s x G g I known r F _ _ g′
+    turn c d (beganQuery r F l) e quiet none g′ = begins S D a n s x G g I known r F _ _ g′
+    turn c d (readOwn m r y U h) e quiet none g′ =
+        clears-only r (U .caller .inside) (apart c quiet none m r refl (U .caller) (ap (λ (o : Outcome). o .answer .code) e)) g′
+    turn c d (readNewest m r y U h) e quiet none g′ =
+        clears-only r (U .caller .inside) (apart c quiet none m r refl (U .caller) (ap (λ (o : Outcome). o .answer .code) e)) g′
+    turn c d (readShared m r y U h f) e quiet none g′ =
+        let z = ap (λ (o : Outcome). o .answer .code) e in
+        shares m r y U h f z (apart c quiet none m r refl (U .caller) z) g′
+    turn c d (readQuery m r y C q i) e quiet none g′ = I
+    turn c d (wroteOwn m r y v U h) e quiet none g′ =
+        replaces r y v (U .caller .inside) (U .update) (U .known) (apart c quiet none m r refl (U .caller) (ap (λ (o : Outcome). o .answer .code) e)) g′
+    turn c d (wroteTaken m r y v U h alone room) e quiet none g′ =
+        let z = ap (λ (o : Outcome). o .answer .code) e in
+        takes m r y v U h alone room z quiet none (apart c quiet none m r refl (U .caller) z) g′
+    turn c d (committedUpdate m r C u i f) e quiet none g′ =
+        commits S D a n s x G g I known r (C .inside) (apart c quiet none m r refl C (ap (λ (o : Outcome). o .answer .code) e)) g′
+    turn c d (committedQuery m r C q) e quiet none g′ =
+        query-ends S D a n s x G g I known r (C .inside) (apart c quiet none m r refl C (ap (λ (o : Outcome). o .answer .code) e)) g′
+    turn c d (abortedUpdate m r C u) e quiet none g′ =
+        aborts S D a n s x G g I known r (C .inside) (apart c quiet none m r refl C (ap (λ (o : Outcome). o .answer .code) e)) g′
+    turn c d (abortedQuery m r C q) e quiet none g′ =
+        query-ends S D a n s x G g I known r (C .inside) (apart c quiet none m r refl C (ap (λ (o : Outcome). o .answer .code) e)) g′

@@ -1,0 +1,3 @@
+-- Request E4's promise over runs.
+pub mod InOrder
+pub mod Served

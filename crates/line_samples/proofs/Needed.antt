@@ -1,0 +1,181 @@
+-- The promise is false without each of its suppositions: an update waits to read item 5, which update 1 wrote, asks again and is not granted.
+use Prim.Native.Nat.{ℕ, _<_}
+use mathlib.Core.List.{[], _∷_}
+use mathlib.Core.Bool.{Bool, _&&_}
+use mathlib.Core.Logic.{_⊎_, inl, inr}
+use mathlib.Core.Path.{_≡_, refl, sym, ap, _∙_}
+use native.Mathlib.Omega.{arith}
+use lib.Dec.{T, eqb, eqb→eq}
+use Rattle.names.specs.Sizes.{base}
+use Rattle.rules.specs.Tables.{Tables, fresh, txn, live, slotOf, lock, holds, holdsExclusive, sharedLock}
+use Rattle.rules.specs.Waits.{awaitsOn}
+use Rattle.rules.specs.Good.{Good}
+use Rattle.rules.specs.Locks.{toRead}
+use Rattle.rules.specs.Answers.{Read, Write, Commit, Abort, code, Wait, UnknownTransaction}
+use Rattle.rules.specs.Promises.{codeOf}
+use Rattle.rules.proofs.Tests.{and-left, and-right}
+use Rattle.rules.proofs.EqualRanks.{awaitsOn→}
+use Rattle.rules.proofs.Decisions.{holder-alone}
+use Rattle.rules.proofs.Callers.{caller-found}
+use Rattle.history.specs.Runs.{endOf}
+use Rattle.history.proofs.Happens.{run-good, good-run}
+use Rattle.line.specs.Served.{Waiting, Before, Gone, EveryCall, StillWaits, AllEnded, NoneExchanges}
+use Rattle.line_samples.specs.Samples.{held, queued, exchange, givenUp, HoldersEnded, EndsNeeded, WaitersNeeded, ExchangesNeeded, WaitNeeded}
+use Rattle.line_samples.proofs.Computed.{computed}
+
+-- ---- what is computed of tables, each time as one test: that the update n, in slot s, waits to read item 5, which update 1 holds
+-- exclusively, in slot 0, and has the rank p
+unfoldable waitsAt : ℕ → ℕ → ℕ → Tables → Bool
+waitsAt n s p G =
+    (live (txn (G .txns) s) && eqb ((txn (G .txns) s) .number) n)
+    && ((eqb ((txn (G .txns) s) .awaitedLock) sharedLock && eqb ((txn (G .txns) s) .awaitedItem) 5)
+    && (eqb ((txn (G .txns) s) .rank) p && (eqb ((txn (G .txns) 0) .number) 1 && holdsExclusive (lock (G .locks) 5) 0)))
+
+-- that 1 is found no more, and n's asking is answered k
+unfoldable asksAt : ℕ → ℕ → Tables → Bool
+asksAt n k G = eqb (slotOf base (G .txns) 1) (base .slots) && eqb (codeOf base (Read n 5) G) k
+
+module _ (n s p : ℕ) (G : Tables) (inside : s < base .slots) (h : T (waitsAt n s p G)) where
+  abbrev A : Bool
+  A = live (txn (G .txns) s) && eqb ((txn (G .txns) s) .number) n
+
+  abbrev B : Bool
+  B = eqb ((txn (G .txns) s) .awaitedLock) sharedLock && eqb ((txn (G .txns) s) .awaitedItem) 5
+
+  abbrev P : Bool
+  P = eqb ((txn (G .txns) s) .rank) p
+
+  abbrev O : Bool
+  O = eqb ((txn (G .txns) 0) .number) 1
+
+  parts : T A × T B × T P × T O × T (holdsExclusive (lock (G .locks) 5) 0)
+  unfolding waitsAt
+  parts =
+      let r = and-right A _ h in let q = and-right B _ r in let o = and-right P _ q in
+      (and-left A _ h, and-left B _ r, and-left P _ q, and-left O _ o, and-right O _ o)
+
+  waits : Waiting base G toRead n s 5
+  waits =
+      record {
+        caller = record { inside = inside; alive = and-left (live (txn (G .txns) s)) _ (parts .0); name = eqb→eq ((txn (G .txns) s) .number) n (and-right (live (txn (G .txns) s)) _ (parts .0)) };
+        lockKind = eqb→eq ((txn (G .txns) s) .awaitedLock) sharedLock (and-left (eqb ((txn (G .txns) s) .awaitedLock) sharedLock) _ (parts .1));
+        item = eqb→eq ((txn (G .txns) s) .awaitedItem) 5 (and-right (eqb ((txn (G .txns) s) .awaitedLock) sharedLock) _ (parts .1));
+      }
+
+  rank : (txn (G .txns) s) .rank ≡ p
+  rank = eqb→eq ((txn (G .txns) s) .rank) p (parts .2)
+
+  -- only update 1 holds the item
+  holder-is : Good base G → (m b : ℕ) → (txn (G .txns) b) .number ≡ m → T (holds (lock (G .locks) 5) b) → m ≡ 1
+  holder-is g m b e u =
+      sym e ∙ ap (λ (c : ℕ). (txn (G .txns) c) .number) (sym (holder-alone base G g 5 (omega arith) 0 b (parts .4) u))
+      ∙ eqb→eq ((txn (G .txns) 0) .number) 1 (parts .3)
+
+module _ (n k : ℕ) (G : Tables) (h : T (asksAt n k G)) where
+  asks : codeOf base (Read n 5) G ≡ k
+  unfolding asksAt
+  asks = eqb→eq (codeOf base (Read n 5) G) k (and-right (eqb (slotOf base (G .txns) 1) (base .slots)) _ h)
+
+  gone : Good base G → (m : ℕ) → m ≡ 1 → Gone base G m
+  unfolding asksAt
+  gone g m e b C =
+      let z = eqb→eq (slotOf base (G .txns) 1) (base .slots) (and-left (eqb (slotOf base (G .txns) 1) (base .slots)) _ h) in
+      let q = caller-found base G g b 1 (C .inside) (C .alive) (C .name ∙ e) in
+      let i = C .inside in omega arith
+
+-- a commit and an abort are no writes
+no-write : {n m x v : ℕ} → Commit n ≡ Write m x v → ⊥
+no-write e = let z : _≡_ {A = ℕ} 0 1 = cc in omega arith
+
+not-written : {n m x v : ℕ} → Abort n ≡ Write m x v → ⊥
+not-written e = let z : _≡_ {A = ℕ} 0 1 = cc in omega arith
+
+-- ---- update 2 waits for update 1
+abbrev G : Tables
+G = endOf base held (fresh base)
+
+good-G : Good base G
+good-G = run-good base (omega arith) (omega arith) held
+
+held-so : T (waitsAt 2 1 1 G)
+unfolding computed waitsAt
+held-so = tt
+
+two-waits : Waiting base G toRead 2 1 5
+two-waits = waits 2 1 1 G (omega arith) held-so
+
+-- 1 alone is before it: nobody has a smaller rank
+only-one : (m : ℕ) → Before base G 1 5 m → m ≡ 1
+only-one m B = first (B .there)
+  where
+    first :
+        T (holds (lock (G .locks) 5) (B .slot)) ⊎ (T (awaitsOn 5 (txn (G .txns) (B .slot))) × ((txn (G .txns) (B .slot)) .rank < (txn (G .txns) 1) .rank))
+        → m ≡ 1
+    first (inl h) = holder-is 2 1 1 G (omega arith) held-so good-G m (B .slot) (B .caller .name) h
+    first (inr (h, l)) =
+        let k = good-G .ranksGood .least (B .slot) (B .caller .inside) (awaitsOn→ 5 (txn (G .txns) (B .slot)) h .0) in
+        let e = rank 2 1 1 G (omega arith) held-so in absurd (omega arith)
+
+-- ---- 1 has not ended
+not-yet : codeOf base (Read 2 5) G ≡ code Wait
+unfolding computed
+not-yet = refl
+
+pub ends-needed : EndsNeeded
+unfolding EveryCall endOf
+ends-needed P = let z = P G [] toRead 2 1 5 0 good-G two-waits (tt, tt) in let w = not-yet in omega arith
+
+-- ---- 1 has ended, and 3 exchanged
+exchanged-so : T (asksAt 2 (code Wait) (endOf base exchange G))
+unfolding computed asksAt
+exchanged-so = tt
+
+still : StillWaits base G 2 exchange
+unfolding EveryCall exchange
+still = (λ e. absurd (omega arith), (λ e. absurd e, (λ e. absurd (omega arith), (λ e. absurd (omega arith), tt))))
+
+pub exchanges-needed : ExchangesNeeded
+exchanges-needed P =
+    let E = endOf base exchange G in
+    let ended : AllEnded base G 1 5 exchange = λ m B. gone 2 (code Wait) E exchanged-so (good-run base (omega arith) exchange G good-G) m (only-one m B) in
+    let z = P G exchange toRead 2 1 5 0 good-G two-waits (still, ended) in
+    let w = asks 2 (code Wait) E exchanged-so in omega arith
+
+-- ---- 1 has ended, and 2 was aborted
+aborted-so : T (asksAt 2 (code UnknownTransaction) (endOf base givenUp G))
+unfolding computed asksAt
+aborted-so = tt
+
+none-exchanges : NoneExchanges base G 2 1 5 givenUp
+unfolding EveryCall givenUp
+none-exchanges = (λ m X. absurd (no-write (X .asks)), (λ m X. absurd (not-written (X .asks)), tt))
+
+pub wait-needed : WaitNeeded
+wait-needed P =
+    let L = endOf base givenUp G in
+    let ended : AllEnded base G 1 5 givenUp = λ m B. gone 2 (code UnknownTransaction) L aborted-so (good-run base (omega arith) givenUp G good-G) m (only-one m B) in
+    let z = P G givenUp toRead 2 1 5 0 good-G two-waits (ended, none-exchanges) in
+    let w = asks 2 (code UnknownTransaction) L aborted-so in omega arith
+
+-- ---- 1 has ended, and 2 waits before 3
+abbrev Q : Tables
+Q = endOf base queued (fresh base)
+
+good-Q : Good base Q
+good-Q = run-good base (omega arith) (omega arith) queued
+
+queued-so : T (waitsAt 3 2 2 Q)
+unfolding computed waitsAt
+queued-so = tt
+
+ended-so : T (asksAt 3 (code Wait) (endOf base (Commit 1 ∷ []) Q))
+unfolding computed asksAt
+ended-so = tt
+
+pub waiters-needed : WaitersNeeded
+unfolding EveryCall
+waiters-needed P =
+    let R = endOf base (Commit 1 ∷ []) Q in
+    let ended : HoldersEnded Q 2 5 (Commit 1 ∷ []) = λ m b C d h. gone 3 (code Wait) R ended-so (good-run base (omega arith) (Commit 1 ∷ []) Q good-Q) m (holder-is 3 2 2 Q (omega arith) queued-so good-Q m b (C .name) h) in
+    let z = P Q (Commit 1 ∷ []) toRead 3 2 5 0 good-Q (waits 3 2 2 Q (omega arith) queued-so) ((λ e. absurd (omega arith), tt), ended, (λ m X. absurd (no-write (X .asks)), tt)) in
+    let w = asks 3 (code Wait) R ended-so in omega arith

@@ -1,0 +1,2 @@
+-- Small runs in which updates wait in line.
+pub mod Samples

@@ -1,0 +1,2 @@
+-- How a trial is computed.
+pub mod Computed

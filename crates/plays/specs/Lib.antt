@@ -1,0 +1,2 @@
+-- What a trial is.
+pub mod Plays

@@ -1,0 +1,2 @@
+-- Laws for the lines of waiters.
+pub mod Ranks

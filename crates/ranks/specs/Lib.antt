@@ -1,0 +1,2 @@
+-- What the contracts say of the ranks.
+pub mod Lines

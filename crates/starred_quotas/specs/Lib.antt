@@ -1,0 +1,2 @@
+-- The trials of request E2.
+pub mod Quotas

@@ -1,0 +1,2 @@
+-- Trial I: a full row of versions.
+pub mod FullRow

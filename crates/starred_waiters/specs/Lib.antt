@@ -1,0 +1,2 @@
+-- The trials of request E4.
+pub mod Waiters
