@@ -104,7 +104,8 @@ impl Counts {
     /// A call of an update was answered.
     pub fn see(&mut self, call: Call, before: Standing, answer: Answer) {
         let waited = before.rank > 0;
-        let others = before.line - u64::from(waited);
+        // One that waits for another item is answered 6, and stands in no line here.
+        let others = before.line.saturating_sub(u64::from(waited));
         let is_first = before.rank == 1 && others > 0;
         match (call, answer.code) {
             (Call::Abort { .. }, code::GRANTED) => {
