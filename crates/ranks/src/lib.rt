@@ -49,7 +49,7 @@ pub fn somebody_on(txns: &[u64], item: Item) -> bool
 }
 
 // How many wait on an item.
-pub fn waiters_on(txns: &[u64], item: Item) -> u64
+fn waiters_on(txns: &[u64], item: Item) -> u64
     requires { ⌜ length (now txns) ≡ txnWords base ⌝ }
     ensures { λ r. ⌜ r ≡ waitersOn base (now (txns .entry)) (item .0) ⌝ }
 {

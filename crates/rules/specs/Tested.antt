@@ -94,15 +94,16 @@ rankWithin S t s =
     let within = leb 1 (r .rank) && leb (r .rank) (waitersOn S t (r .awaitedItem)) in
     implies (awaits r) within
 
--- slots r and s on one item have two ranks, and one that shares the item stands ahead of one that does not
+-- slots r and s on one item have two ranks, and one that shares the item stands ahead of one that does not. What follows of waiters is
+-- bound by `let`, here and above, so that it is computed only where somebody waits
 unfoldable pub ranksApart : List ℕ → List ℕ → ℕ → ℕ → Bool
 ranksApart t l r s =
     let x = (txn t r) .awaitedItem in
-    let both = awaitsOn x (txn t s) in
+    let beside = awaitsOn x (txn t s) in
     let apart =
     not (eqb ((txn t r) .rank) ((txn t s) .rank))
     && implies (holdsShared (lock l x) r && not (holdsShared (lock l x) s)) (ltb ((txn t r) .rank) ((txn t s) .rank)) in
-    implies (awaits (txn t r) && both) apart
+    implies (awaits (txn t r) && beside) apart
 
 unfoldable pub ranksGood : Sizes → List ℕ → List ℕ → Bool
 ranksGood S t l =
