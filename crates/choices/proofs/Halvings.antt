@@ -1,9 +1,10 @@
 -- How often a number is halved: a half less often than the whole, and a number below 2 ^ j at most j times.
-use Prim.Native.Nat.{ℕ, zero, suc, _*_, _/_, _^_, _<_, _≤_}
-use mathlib.Core.Path.{_≡_}
+use Prim.Native.Nat.{ℕ, zero, suc, _-_, _*_, _/_, _^_, _<_, _≤_}
+use mathlib.Core.Path.{_≡_, refl}
 use native.Mathlib.Omega.{arith}
 use native.Mathlib.Nat.{pow-suc}
-use Rattle.choices.specs.Looks.{halvings}
+use Rattle.names.specs.Sizes.{base, sixteen}
+use Rattle.choices.specs.Looks.{halvings, mostLooks}
 
 -- a larger number is halved no less often
 more : (k m n : ℕ) → m ≤ n → halvings k m ≤ halvings k n
@@ -37,3 +38,12 @@ at-most (suc k) (suc j) (suc n) h =
     let e : 2 ^ suc j ≡ 2 ^ j * 2 = pow-suc 2 j in
     let a = at-most k j (suc n / 2) (omega arith) in
     omega arith
+
+-- in a full row the bound is met; it was 4 with the sizes of before request E5
+pub full-row : halvings (base .places) (base .places - 1) ≡ mostLooks
+unfolding halvings
+full-row = refl
+
+pub full-row-16 : halvings (sixteen .places) (sixteen .places - 1) ≡ 4
+unfolding halvings
+full-row-16 = refl

@@ -9,4 +9,4 @@ halvings (suc k) (suc n) = suc (halvings k (suc n / 2))
 
 -- in a row of as many versions as there are places, and in a shorter one
 abbrev pub mostLooks : ℕ
-mostLooks = 4
+mostLooks = 5

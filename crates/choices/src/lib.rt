@@ -25,7 +25,7 @@ pub struct Choice {
 }
 
 // At how many stamps the search looks at most, in a full row too.
-const LOOKS: usize = 4;
+const LOOKS: usize = 5;
 
 // The place, from 0, of the newest version in a row that is at most start. Stamps fall along a row, so
 // it is found by halving: every place before lo is too new, the place hi is old enough. Each turn

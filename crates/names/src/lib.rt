@@ -42,11 +42,11 @@ ghost use Rattle.names.specs.Answers.{refusal, plain, numbered, found};
 ghost use Rattle.names.specs.Words.{nextStamp, itemOf, numberOf};
 
 // Live transactions at most, items, and versions an item at most.
-pub const SLOTS: u64 = 16;
+pub const SLOTS: u64 = 32;
 
 pub const ITEMS: u64 = 64;
 
-pub const PLACES: u64 = 16;
+pub const PLACES: u64 = 32;
 
 // Items that one update may hold exclusively at most.
 pub const QUOTA: u64 = 32;

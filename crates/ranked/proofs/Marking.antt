@@ -1,5 +1,5 @@
 -- The pass that marks: one slot more is marked, or it is seen that the ranks are not good.
-use Prim.Native.Nat.{ℕ, _+_, _*_, _/_, _%_, _^_, _≤_, _<_}
+use Prim.Native.Nat.{ℕ, suc, _+_, _-_, _*_, _/_, _%_, _^_, _≤_, _<_}
 use mathlib.Core.Path.{_≡_, refl, sym, ap, ap₂, _∙_, subst}
 use mathlib.Core.Logic.{_≢_, _⊎_, inl, inr, ⊎-elim}
 use mathlib.Core.Bool.{Bool, true, false, _&&_, _||_}
@@ -15,6 +15,7 @@ use Rattle.rules.specs.Words.{bit, someBelow}
 use Rattle.rules.specs.Tables.{txn, lock, holdsShared, noLock}
 use Rattle.rules.specs.Waits.{awaits, awaitsOn}
 use Rattle.rules.specs.Tested.{ranksGood}
+use borrow.Author.Tests.{eq-eqb, ne-eqb}
 use Rattle.rules.proofs.Tests.{and-left, and-right, and-both, or-cases, or-left, or-right, eq-make, is-true, is-false, same?}
 use Rattle.rules.proofs.Counts.{someBelow→, →someBelow}
 use Rattle.rules.proofs.Bits.{bit-none, one-bit-at}
@@ -62,6 +63,14 @@ marked-none t l w e =
       apart = λ x r s h. absurd (not-suc-le-zero h);
     })
 
+-- a bit's number is its mark's, less 1
+eqb-suc : (d q : ℕ) {p : ℕ} → suc d ≡ p → eqb d q ≡ eqb p (suc q)
+eqb-suc d q {p} e = go (same? d q)
+  where
+    go : (d ≡ q) ⊎ (d ≢ q) → eqb d q ≡ eqb p (suc q)
+    go (inl z) = eq-eqb d q z ∙ sym (eq-eqb p (suc q) (omega arith))
+    go (inr n) = ne-eqb d q n ∙ sym (ne-eqb p (suc q) (λ z. n (omega arith)))
+
 -- the second mark: a digit moved up
 digit-at : (d k q : ℕ) → d < 2 → k < 64 → bit (d * 2 ^ k % 2 ^ 64) q ≡ (eqb d 1 && eqb k q)
 digit-at d k q h i = go (same? d 1)
@@ -86,7 +95,7 @@ module _ {t l w : List ℕ} {n : ℕ} (i : n < base .slots) (m : Marked t l w n)
         size = m .size;
         at = λ x q h.
             m .at x q h
-            ∙ sym (some-more (marks t l x q) n ∙ ap (λ (b : Bool). b || someBelow n (marks t l x q)) (is-false (marks t l x q n) (λ u. idle n refl (awaitsOn→ x (txn t n) (marks→ t l x q n u .0) .0))));
+            ∙ sym (some-more (marks t l x (suc q)) n ∙ ap (λ (b : Bool). b || someBelow n (marks t l x (suc q))) (is-false (marks t l x (suc q) n) (λ u. idle n refl (awaitsOn→ x (txn t n) (marks→ t l x (suc q) n u .0) .0))));
         least = λ s h a. m .least s (before s h a) a;
         most = λ s h a. m .most s (before s h a) a;
         apart = λ x r s h k d a b. m .apart x r s (before r h (awaitsOn→ x (txn t r) a .0)) (before s k (awaitsOn→ x (txn t s) b .0)) d a b;
@@ -113,14 +122,18 @@ module _ {t l w : List ℕ} {n : ℕ} (i : n < base .slots) (m : Marked t l w n)
     pub rank-high : base .slots < p → T (ranksGood base t l) → ⊥
     rank-high h g = let k = ranks→Good base t l g .most n i waits in omega (arith, waiters-most t ((txn t n) .awaitedItem))
 
-    module _ (hx : x < base .items) (hp : p ≤ base .slots) where
+    -- its mark's bit is d
+    module _ (hx : x < base .items) (hp : p ≤ base .slots) {d : ℕ} (ed : suc d ≡ p) where
+      marked : (n : ℕ) → someBelow n (marks t l x (suc d)) ≡ someBelow n (marks t l x p)
+      marked n = ap (λ (q : ℕ). someBelow n (marks t l x q)) ed
+
       -- it is taken
-      pub rank-taken : getD w x 0 / 2 ^ p % 2 ≡ 1 → T (ranksGood base t l) → ⊥
+      pub rank-taken : getD w x 0 / 2 ^ d % 2 ≡ 1 → T (ranksGood base t l) → ⊥
       unfolding bit
       rank-taken e g = both (marks→ t l x p (other .0) (other .2))
         where
           other : (s : ℕ) × (s < n) × T (marks t l x p s)
-          other = someBelow→ n (marks t l x p) (subst T (m .at x p hx) (eq-make (getD w x 0 / 2 ^ p % 2) 1 e))
+          other = someBelow→ n (marks t l x p) (subst T (m .at x d hx ∙ marked n) (eq-make (getD w x 0 / 2 ^ d % 2) 1 e))
 
           both :
               T (awaitsOn x (txn t (other .0))) × (((txn t (other .0)) .rank ≡ p) ⊎ (T (holdsShared (lock l x) (other .0)) × ((txn t (other .0)) .rank + sharing ≡ p)))
@@ -130,32 +143,34 @@ module _ {t l w : List ℕ} {n : ℕ} (i : n < base .slots) (m : Marked t l w n)
               let b = other .1 in
               ⊎-elim
               (λ (r : (txn t s) .rank ≡ p). ranks→Good base t l g .apart x s n (omega arith) i (λ z. omega arith) (u .0) here (r ∙ ep))
-              (λ (v : T (holdsShared (lock l x) s) × ((txn t s) .rank + sharing ≡ p)). let r = v .1 in omega arith)
+              (λ (v : T (holdsShared (lock l x) s) × ((txn t s) .rank + sharing ≡ p)). let r = v .1 in let k = m .least s b (awaitsOn→ x (txn t s) (u .0) .0) in omega arith)
               (u .1)
 
       -- it is free, and marked
-      module _ (least : p ≢ 0) (free : getD w x 0 / 2 ^ p % 2 ≢ 1) {h : ℕ} (eh : h ≡ (lock l x) .shared) where
+      module _ (free : getD w x 0 / 2 ^ d % 2 ≢ 1) {h : ℕ} (eh : h ≡ (lock l x) .shared) where
         abbrev word : ℕ
-        word = bitOr (bitOr (getD w x 0) (oneShifted p)) (h / 2 ^ n % 2 * 2 ^ (p + sharing) % 2 ^ 64)
+        word = bitOr (bitOr (getD w x 0) (oneShifted d)) (h / 2 ^ n % 2 * 2 ^ (d + sharing) % 2 ^ 64)
 
-        said : (q : ℕ) → (eqb p q || (eqb (h / 2 ^ n % 2) 1 && eqb (p + sharing) q)) ≡ marks t l x q n
+        said : (q : ℕ) → (eqb d q || (eqb (h / 2 ^ n % 2) 1 && eqb (d + sharing) q)) ≡ marks t l x (suc q) n
         unfolding holdsShared bit
-        said q = rw (ep, eh) (sym (marks-on t l x q n here))
+        said q =
+            ap₂ _||_ (eqb-suc d q ed) (ap (λ (b : Bool). eqb (h / 2 ^ n % 2) 1 && b) (eqb-suc (d + sharing) q (let z : suc (d + sharing) ≡ p + sharing = omega arith in z)))
+            ∙ rw (ep, eh) (sym (marks-on t l x (suc q) n here))
 
-        word-at : (q : ℕ) → bit word q ≡ (marks t l x q n || bit (getD w x 0) q)
+        word-at : (q : ℕ) → bit word q ≡ (marks t l x (suc q) n || bit (getD w x 0) q)
         word-at q =
-            or-at (bitOr (getD w x 0) (oneShifted p)) (h / 2 ^ n % 2 * 2 ^ (p + sharing) % 2 ^ 64) q
-            ∙ ap₂ _||_ (or-at (getD w x 0) (oneShifted p) q ∙ ap (λ (b : Bool). bit (getD w x 0) q || b) (ap (λ (v : ℕ). bit v q) (shifted p (omega arith)) ∙ one-bit-at p q))
-            (digit-at (h / 2 ^ n % 2) (p + sharing) q (mod-lt (h / 2 ^ n) (omega arith)) (omega arith))
-            ∙ regroup (bit (getD w x 0) q) (eqb p q) (eqb (h / 2 ^ n % 2) 1 && eqb (p + sharing) q)
+            or-at (bitOr (getD w x 0) (oneShifted d)) (h / 2 ^ n % 2 * 2 ^ (d + sharing) % 2 ^ 64) q
+            ∙ ap₂ _||_ (or-at (getD w x 0) (oneShifted d) q ∙ ap (λ (b : Bool). bit (getD w x 0) q || b) (ap (λ (v : ℕ). bit v q) (shifted d (omega arith)) ∙ one-bit-at d q))
+            (digit-at (h / 2 ^ n % 2) (d + sharing) q (mod-lt (h / 2 ^ n) (omega arith)) (omega arith))
+            ∙ regroup (bit (getD w x 0) q) (eqb d q) (eqb (h / 2 ^ n % 2) 1 && eqb (d + sharing) q)
             ∙ ap (λ (b : Bool). b || bit (getD w x 0) q) (said q)
 
         fresh : (y s : ℕ) → s < n → T (awaitsOn y (txn t s)) → T (awaitsOn y (txn t n)) → (txn t s) .rank ≢ (txn t n) .rank
         unfolding bit
         fresh y s k b c e =
             let z : y ≡ x = sym (awaitsOn→ y (txn t n) c .1) ∙ sym ex in
-            free (eqb→eq (getD w x 0 / 2 ^ p % 2) 1
-            (subst T (sym (m .at x p hx)) (→someBelow n (marks t l x p) s k (mark-rank t l x p s (subst (λ (y : ℕ). T (awaitsOn y (txn t s))) z b) (e ∙ sym ep)))))
+            free (eqb→eq (getD w x 0 / 2 ^ d % 2) 1
+            (subst T (sym (m .at x d hx ∙ marked n)) (→someBelow n (marks t l x p) s k (mark-rank t l x p s (subst (λ (y : ℕ). T (awaitsOn y (txn t s))) z b) (e ∙ sym ep)))))
 
         pub marked-more : {v : List ℕ} → v ≡ set w x word → Marked t l v (n + 1)
         marked-more {v} e =
@@ -168,16 +183,16 @@ module _ {t l w : List ℕ} {n : ℕ} (i : n < base .slots) (m : Marked t l w n)
               apart = λ y r s k j d b c. pair y r s k j d b c (same? r n) (same? s n);
             })
           where
-            some : (y q : ℕ) → y < base .items → (y ≡ x) ⊎ (y ≢ x) → bit (getD (set w x word) y 0) q ≡ someBelow (n + 1) (marks t l y q)
+            some : (y q : ℕ) → y < base .items → (y ≡ x) ⊎ (y ≢ x) → bit (getD (set w x word) y 0) q ≡ someBelow (n + 1) (marks t l y (suc q))
             some y q k (inl z) =
-                subst (λ (y : ℕ). bit (getD (set w x word) y 0) q ≡ someBelow (n + 1) (marks t l y q)) (sym z)
+                subst (λ (y : ℕ). bit (getD (set w x word) y 0) q ≡ someBelow (n + 1) (marks t l y (suc q))) (sym z)
                 (ap (λ (v : ℕ). bit v q) (getD-set-same w x word 0 (let u = m .size in omega arith))
-                ∙ word-at q ∙ ap (λ (b : Bool). marks t l x q n || b) (m .at x q hx) ∙ sym (some-more (marks t l x q) n))
-            some y q k (inr d) =
-                ap (λ (v : ℕ). bit v q) (getD-set-other w x y word 0 d)
+                ∙ word-at q ∙ ap (λ (b : Bool). marks t l x (suc q) n || b) (m .at x q hx) ∙ sym (some-more (marks t l x (suc q)) n))
+            some y q k (inr e) =
+                ap (λ (v : ℕ). bit v q) (getD-set-other w x y word 0 e)
                 ∙ m .at y q k
-                ∙ sym (some-more (marks t l y q) n
-                ∙ ap (λ (b : Bool). b || someBelow n (marks t l y q)) (is-false (marks t l y q n) (λ u. d (sym (awaitsOn→ y (txn t n) (marks→ t l y q n u .0) .1) ∙ sym ex))))
+                ∙ sym (some-more (marks t l y (suc q)) n
+                ∙ ap (λ (b : Bool). b || someBelow n (marks t l y (suc q))) (is-false (marks t l y (suc q) n) (λ u. e (sym (awaitsOn→ y (txn t n) (marks→ t l y (suc q) n u .0) .1) ∙ sym ex))))
 
             pair :
                 (y r s : ℕ) → r < n + 1 → s < n + 1 → r ≢ s → T (awaitsOn y (txn t r)) → T (awaitsOn y (txn t s))

@@ -4,12 +4,12 @@
 // Two passes over the slots, with a word for each item. The first marks each rank that is taken, and
 // marks it a second time, higher up, for one who shares the item. The second looks the marks up.
 ghost use mathlib.Core.Path.{_≡_};
-ghost use Prim.Native.Nat.{_+_, _<_};
+ghost use Prim.Native.Nat.{_+_, _≤_, _<_};
 ghost use lib.ListN.{replicate};
 ghost use Rattle.names.specs.Sizes.{base};
 ghost use Rattle.rules.specs.Words.{everyBelow};
 ghost use Rattle.rules.specs.Tested.{ranksGood};
-ghost use Rattle.ranked.specs.Marks.{Known, Marked, Marking, placed};
+ghost use Rattle.ranked.specs.Marks.{Known, Marked, Marking, follows, placed};
 use names::Item;
 use names::NO_LOCK;
 use names::SLOTS;
@@ -17,8 +17,9 @@ use names::Slot;
 
 const ITEMS: usize = names::ITEMS as usize;
 
-// How much higher a rank's second mark stands: above every rank.
-const SHARING: u64 = 32;
+// How much higher a rank's second mark stands: above the marks of all ranks. A rank's mark stands a
+// place below the rank, so that both marks of each have room in one word.
+const SHARING: u64 = SLOTS;
 
 // One slot: if it waits, its rank is marked. False if that is no rank, or is taken already.
 fn mark(txns: &[u64], locks: &[u64], marks: &mut [u64], slot: Slot) -> bool
@@ -37,14 +38,15 @@ fn mark(txns: &[u64], locks: &[u64], marks: &mut [u64], slot: Slot) -> bool
     if SLOTS < rank {
         return false;
     }
+    let place = rank - 1;
     let at = item as usize;
     let word = marks[at];
-    if (word >> rank) % 2 == 1 {
+    if (word >> place) % 2 == 1 {
         return false;
     }
     let row = rows::lock_at(locks, Item(item));
     let share = (row.shared >> slot.0) % 2;
-    marks[at] = word | (1 << rank) | (share << (rank + SHARING));
+    marks[at] = word | (1 << place) | (share << (place + SHARING));
     true
 }
 
@@ -63,6 +65,17 @@ fn mark_all(txns: &[u64], locks: &[u64], marks: &mut [u64]) -> bool
     true
 }
 
+// Whether a rank is the first, or the one before it is marked.
+fn follows(word: u64, rank: u64) -> bool
+    requires { ⌜ (1 ≤ rank) × (rank ≤ base .slots) ⌝ }
+    ensures { λ r. ⌜ r ≡ follows word rank ⌝ }
+{
+    if rank == 1 {
+        return true;
+    }
+    (word >> (rank - 2)) % 2 == 1
+}
+
 // One slot, once all are marked: if it waits, the rank before its own is taken, and if it does not
 // share the item, nobody who does stands behind it.
 fn placed(txns: &[u64], locks: &[u64], marks: &[u64], slot: Slot) -> bool
@@ -78,7 +91,7 @@ fn placed(txns: &[u64], locks: &[u64], marks: &[u64], slot: Slot) -> bool
     let row = rows::lock_at(locks, Item(item));
     let word = marks[item as usize];
     let shares = ranks::shares(row, slot);
-    ((rank == 1) | ((word >> (rank - 1)) % 2 == 1)) & (shares | (word >> (rank + SHARING) == 0))
+    follows(word, rank) & (shares | (word >> (rank - 1 + SHARING) == 0))
 }
 
 // The second pass.

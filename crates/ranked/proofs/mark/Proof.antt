@@ -1,6 +1,6 @@
 -- A slot that waits is marked, or its rank is one that cannot stand.
-use Prim.Native.Nat.{ℕ, _<_}
-use mathlib.Core.Path.{refl, sym, ap, _∙_, subst}
+use Prim.Native.Nat.{ℕ, suc, _-_, _<_}
+use mathlib.Core.Path.{_≡_, refl, sym, ap, _∙_, subst}
 use mathlib.Core.Logic.{_≢_}
 use native.Mathlib.Omega.{arith}
 use Rattle.names.specs.Sizes.{base}
@@ -47,6 +47,9 @@ returns-3 c = let r = c .before .before in
     let p = (start r) .pre in
     record { yes = λ e. absurd (true-is e); no = λ e. rank-high (p .2) (p .1) (r .before .awaited-item .ensures) (r .rank .ensures) (waits (r .before .before)) (omega arith) }
 
+sub-place : tie.Need-sub-place
+sub-place c = search needs
+
 mul-word : tie.Need-mul-word
 mul-word c = let k = known (c .before .before .before) in omega arith
 
@@ -62,7 +65,8 @@ shr-if4 c = search needs
 returns-4 : tie.Need-returns-4
 returns-4 c = let r = c .before .before .before .before in
     let p = (start r) .pre in
-    record { yes = λ e. absurd (true-is e); no = λ e. rank-taken (p .2) (p .1) (r .before .awaited-item .ensures) (r .rank .ensures) (waits (r .before .before)) (known (r .before)) (omega arith) (omega arith) }
+    let d : suc (r .rank .result - 1) ≡ r .rank .result = omega arith in
+    record { yes = λ e. absurd (true-is e); no = λ e. rank-taken (p .2) (p .1) (r .before .awaited-item .ensures) (r .rank .ensures) (waits (r .before .before)) (known (r .before)) (omega arith) d (omega arith) }
 
 lock-at-requires : tie.Need-lock-at-requires
 lock-at-requires c κs = let r = c .before .before .before .before in ((start r) .pre .0 .locksExact, known (r .before))
@@ -94,10 +98,11 @@ same-length c = search needs
 returns-5 : tie.Need-returns-5
 returns-5 c = let r = c .before .before .before .before .before .before .before in
     let p = (start r) .pre in
+    let d : suc (r .rank .result - 1) ≡ r .rank .result = omega arith in
     record {
       yes = λ e.
           marked-more (p .2) (p .1) (r .before .awaited-item .ensures) (r .rank .ensures) (waits (r .before .before)) (known (r .before)) (omega arith)
-          (λ z. omega arith) (λ z. omega arith) (ap (λ (h : Lock). h .shared) (c .before .before .lock-at .ensures)) refl;
+          d (λ z. omega arith) (ap (λ (h : Lock). h .shared) (c .before .before .lock-at .ensures)) refl;
       no = λ e g. false-is e tt;
     }
 
@@ -111,6 +116,7 @@ mark-spec =
     rank-requires
     returns-2
     returns-3
+    sub-place
     mul-word
     slice-read-word
     shr-if4

@@ -55,23 +55,24 @@ shared-slice-read-word c = let k = known (c .before .before .before) in let z = 
 shares-requires : tie.Need-shares-requires
 shares-requires c κs = search needs
 
-sub-result : tie.Need-sub-result
-sub-result c = let k = ranked (c .before .before .before) in omega arith
+follows-requires : tie.Need-follows-requires
+follows-requires c κs = ranked (c .before .before .before)
 
-shr-result : tie.Need-shr-result
-shr-result c = let k = ranked (c .before .before .before) in omega arith
+sub-result : tie.Need-sub-result
+sub-result c = let k = ranked (c .before .before .before .before) in omega arith
 
 add-result : tie.Need-add-result
-add-result c = let k = ranked (c .before .before .before) in omega arith
+add-result c = let k = ranked (c .before .before .before .before) in omega arith
 
-shr-result-2 : tie.Need-shr-result-2
-shr-result-2 c = let k = ranked (c .before .before .before) in omega arith
+shr-result : tie.Need-shr-result
+shr-result c = let k = ranked (c .before .before .before .before) in omega arith
 
 returns-2 : tie.Need-returns-2
-returns-2 c = let a = c .before .before .before .before .before .before .before .before .before .before .args in
-    let r = c .before .before .before in
+returns-2 c = let a = c .before .before .before .before .before .before .before .before .before .before .before .args in
+    let r = c .before .before .before .before in
     placed-read (a .txns .now) (a .locks .now) (a .marks .now) (a .slot .0)
-    (waits (r .before .before)) (r .before .awaited-item .ensures) (r .rank .ensures) (c .before .before .lock-at .ensures) (c .shares .ensures)
+    (waits (r .before .before)) (r .before .awaited-item .ensures) (r .rank .ensures) (c .before .before .before .lock-at .ensures) (c .before .shares .ensures)
+    (c .follows .ensures)
 
 pub placed-spec : {M : Type 1} → statement M
 placed-spec =
@@ -85,8 +86,8 @@ placed-spec =
     mul-word
     shared-slice-read-word
     shares-requires
+    follows-requires
     sub-result
-    shr-result
     add-result
-    shr-result-2
+    shr-result
     returns-2)
