@@ -35,38 +35,38 @@ on 0
 put head 0 1: 4294967295
 good: the clock is 4294967295
 on 0
-lend 0 192 2112
+lend 0 192 4160
 damage: no words of transactions
 on 0
-lend 97 192 2112
-damage: 97 words of transactions
+lend 193 192 4160
+damage: 193 words of transactions
 on 0
-lend 99 192 2112
-damage: 99 words of transactions
+lend 195 192 4160
+damage: 195 words of transactions
 on 0
-lend 98 0 2112
+lend 194 0 4160
 damage: no words of locks
 on 0
-lend 98 191 2112
+lend 194 191 4160
 damage: 191 words of locks
 on 0
-lend 98 193 2112
+lend 194 193 4160
 damage: 193 words of locks
 on 0
-lend 98 192 0
+lend 194 192 0
 damage: no words of versions
 on 0
-lend 98 192 2111
-damage: 2111 words of versions
+lend 194 192 4159
+damage: 4159 words of versions
 on 0
-lend 98 192 2113
-damage: 2113 words of versions
+lend 194 192 4161
+damage: 4161 words of versions
 on 0
 lend 0 0 0
 damage: no words at all
 on 0
-lend 98 192 2112
-good: 98, 192 and 2112 words
+lend 194 192 4160
+good: 194, 192 and 4160 words
 ",
         tally,
     )

@@ -13,8 +13,11 @@ fn holders(row: u64, tally: Tally) -> Tally {
 put locks 0 0: 64
 damage: a free slot shares
 on 0
-put locks 0 0: 32768
+put locks 0 0: 2147483648
 damage: the last slot shares, which is free
+on 0
+put locks 0 0: 65536
+damage: the seventeenth slot shares, which is free
 on 0
 put transactions 0 0: 0
 put locks 0 0: 1
@@ -23,7 +26,7 @@ on 0
 put locks 0 0: 8
 damage: a query shares
 on 0
-put locks 0 0: 65536
+put locks 0 0: 4294967296
 damage: the slot after the last shares
 on 0
 put locks 0 0: 9223372036854775810
@@ -35,7 +38,7 @@ on 0
 put locks 0 1: 7
 damage: a free slot holds exclusively
 on 0
-put locks 0 1: 16
+put locks 0 1: 32
 damage: the last slot holds exclusively, which is free
 on 0
 put transactions 0 0: 0
@@ -46,7 +49,10 @@ put locks 0 1: 4
 damage: a query holds exclusively
 on 0
 put locks 0 1: 17
-damage: the exclusive holder is 17
+damage: the seventeenth slot holds exclusively, which is free
+on 0
+put locks 0 1: 33
+damage: the exclusive holder is 33
 on 0
 put locks 0 1: 64
 damage: the exclusive holder is 64
@@ -91,8 +97,8 @@ fn counts(row: u64, tally: Tally) -> Tally {
 put versions 0 0: 0
 damage: the count is 0
 on 0
-put versions 0 0: 17
-damage: the count is 17
+put versions 0 0: 33
+damage: the count is 33
 on 0
 put versions 0 0: 4294967297
 damage: the count is 4294967297
@@ -106,10 +112,13 @@ on 0
 put versions 0 4: 1
 damage: the first unused value is 1
 on 0
-put versions 0 31: 1
+put versions 0 33: 1
+damage: the seventeenth stamp, which is unused, is 1
+on 0
+put versions 0 63: 1
 damage: the last unused stamp is 1
 on 0
-put versions 0 32: 18446744073709551615
+put versions 0 64: 18446744073709551615
 damage: the last unused value is the greatest word
 on 0
 put versions 0 0: 2

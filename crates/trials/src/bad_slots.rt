@@ -190,8 +190,8 @@ on 2
 put transactions 2 5: 2
 damage: who waits alone has the rank 2
 on 2
-put transactions 2 5: 17
-damage: the rank is 17
+put transactions 2 5: 33
+damage: the rank is 33
 on 2
 put transactions 2 5: 18446744073709551615
 damage: the rank is the greatest word
@@ -269,10 +269,10 @@ pub fn slots(tally: Tally) -> Tally {
     let mut t = numbers(0, tally);
     t = waits(0, t);
     t = ranks(0, t);
-    t = numbers(7, t);
-    t = waits(7, t);
-    t = ranks(7, t);
     t = numbers(15, t);
     t = waits(15, t);
-    ranks(15, t)
+    t = ranks(15, t);
+    t = numbers(31, t);
+    t = waits(31, t);
+    ranks(31, t)
 }

@@ -9,7 +9,7 @@ pub fn m_and_n(tally: Tally) -> Tally {
     play(
         TRIALS,
         0,
-        b"trial M: the last number is given, then none, and with sixteen live there is no slot first
+        b"trial M: the last number is given, then none, and with every slot taken there is none first
 put head 0 0: 4294967294
 update: 0 0 4294967295 0
 update: 8 0 0 0
@@ -34,6 +34,22 @@ update: 0 0 13 0
 update: 0 0 14 0
 update: 0 0 15 0
 update: 0 0 16 0
+update: 0 0 17 0
+update: 0 0 18 0
+update: 0 0 19 0
+update: 0 0 20 0
+update: 0 0 21 0
+update: 0 0 22 0
+update: 0 0 23 0
+update: 0 0 24 0
+update: 0 0 25 0
+update: 0 0 26 0
+update: 0 0 27 0
+update: 0 0 28 0
+update: 0 0 29 0
+update: 0 0 30 0
+update: 0 0 31 0
+update: 0 0 32 0
 put head 0 0: 4294967295
 update: 7 0 0 0
 query: 7 0 0 0
@@ -42,21 +58,21 @@ update: 8 0 0 0
 query: 8 0 0 0
 trial N: a transaction table of one word less, one more, and the right size
 update: 0 0 1 0
-lend 97 192 2112
+lend 193 192 4160
 update: 10 0 0 0
 query: 10 0 0 0
 read 1 0: 10 0 0 0
 write 1 0 5: 10 0 0 0
 commit 1: 10 0 0 0
 abort 1: 10 0 0 0
-lend 99 192 2112
+lend 195 192 4160
 update: 10 0 0 0
 query: 10 0 0 0
 read 1 0: 10 0 0 0
 write 1 0 5: 10 0 0 0
 commit 1: 10 0 0 0
 abort 1: 10 0 0 0
-lend 98 192 2112
+lend 194 192 4160
 update: 0 0 2 0
 read 1 0: 0 0 0 1
 write 1 0 5: 0 0 0 0
@@ -72,7 +88,7 @@ pub fn o(tally: Tally) -> Tally {
     play(
         TRIALS,
         0,
-        b"trial O: three updates in a circle, one outside that waits for them, then sixteen in a circle
+        b"trial O: three updates in a circle, one outside that waits for them, then as many as there are slots in a circle
 update: 0 0 1 0
 update: 0 0 2 0
 update: 0 0 3 0
@@ -110,6 +126,22 @@ update: 0 0 13 0
 update: 0 0 14 0
 update: 0 0 15 0
 update: 0 0 16 0
+update: 0 0 17 0
+update: 0 0 18 0
+update: 0 0 19 0
+update: 0 0 20 0
+update: 0 0 21 0
+update: 0 0 22 0
+update: 0 0 23 0
+update: 0 0 24 0
+update: 0 0 25 0
+update: 0 0 26 0
+update: 0 0 27 0
+update: 0 0 28 0
+update: 0 0 29 0
+update: 0 0 30 0
+update: 0 0 31 0
+update: 0 0 32 0
 write 1 1 1: 0 0 0 0
 write 2 2 2: 0 0 0 0
 write 3 3 3: 0 0 0 0
@@ -126,6 +158,22 @@ write 13 13 13: 0 0 0 0
 write 14 14 14: 0 0 0 0
 write 15 15 15: 0 0 0 0
 write 16 16 16: 0 0 0 0
+write 17 17 17: 0 0 0 0
+write 18 18 18: 0 0 0 0
+write 19 19 19: 0 0 0 0
+write 20 20 20: 0 0 0 0
+write 21 21 21: 0 0 0 0
+write 22 22 22: 0 0 0 0
+write 23 23 23: 0 0 0 0
+write 24 24 24: 0 0 0 0
+write 25 25 25: 0 0 0 0
+write 26 26 26: 0 0 0 0
+write 27 27 27: 0 0 0 0
+write 28 28 28: 0 0 0 0
+write 29 29 29: 0 0 0 0
+write 30 30 30: 0 0 0 0
+write 31 31 31: 0 0 0 0
+write 32 32 32: 0 0 0 0
 read 1 2: 1 0 0 0
 read 2 3: 1 0 0 0
 read 3 4: 1 0 0 0
@@ -141,11 +189,27 @@ read 12 13: 1 0 0 0
 read 13 14: 1 0 0 0
 read 14 15: 1 0 0 0
 read 15 16: 1 0 0 0
-read 16 1: 2 0 0 0
-write 16 1 1: 2 0 0 0
-read 16 0: 0 0 0 1
-abort 16: 0 0 0 0
-read 15 16: 0 0 0 1
+read 16 17: 1 0 0 0
+read 17 18: 1 0 0 0
+read 18 19: 1 0 0 0
+read 19 20: 1 0 0 0
+read 20 21: 1 0 0 0
+read 21 22: 1 0 0 0
+read 22 23: 1 0 0 0
+read 23 24: 1 0 0 0
+read 24 25: 1 0 0 0
+read 25 26: 1 0 0 0
+read 26 27: 1 0 0 0
+read 27 28: 1 0 0 0
+read 28 29: 1 0 0 0
+read 29 30: 1 0 0 0
+read 30 31: 1 0 0 0
+read 31 32: 1 0 0 0
+read 32 1: 2 0 0 0
+write 32 1 1: 2 0 0 0
+read 32 0: 0 0 0 1
+abort 32: 0 0 0 0
+read 31 32: 0 0 0 1
 ",
         tally,
     )

@@ -109,7 +109,7 @@ read 2 3: 6 0 0 0
 write 2 3 7: 0 0 0 0
 read 2 3: 0 7 0 0
 commit 2: 0 0 2 0
-trial G: sixteen live, and one more
+trial G: as many live as there are slots, and one more
 update: 0 0 1 0
 update: 0 0 2 0
 update: 0 0 3 0
@@ -126,15 +126,35 @@ update: 0 0 13 0
 update: 0 0 14 0
 update: 0 0 15 0
 update: 0 0 16 0
+update: 0 0 17 0
+update: 0 0 18 0
+update: 0 0 19 0
+update: 0 0 20 0
+update: 0 0 21 0
+update: 0 0 22 0
+update: 0 0 23 0
+update: 0 0 24 0
+update: 0 0 25 0
+update: 0 0 26 0
+update: 0 0 27 0
+update: 0 0 28 0
+update: 0 0 29 0
+update: 0 0 30 0
+update: 0 0 31 0
+update: 0 0 32 0
 update: 7 0 0 0
 query: 7 0 0 0
 abort 5: 0 0 0 0
-query: 0 0 17 0
-see transactions 4 0: 17
+query: 0 0 33 0
+see transactions 4 0: 33
 update: 7 0 0 0
-commit 17: 0 0 0 0
-update: 0 0 18 0
+commit 33: 0 0 0 0
+update: 0 0 34 0
 query: 7 0 0 0
+commit 32: 0 0 1 0
+query: 0 0 35 0
+see transactions 31 0: 35
+update: 7 0 0 0
 trial H: a query may not write, an update may
 query: 0 0 1 0
 write 1 0 8: 5 0 0 0

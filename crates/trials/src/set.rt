@@ -3,7 +3,7 @@
 //     put head 0 1: 7           a word, by its table, its row and its place in the row, set
 //     bit locks 2 0: 1          in such a word the bit of a slot set
 //     holder locks 1 1: 1       such a word set to a slot as the exclusive holder
-//     lend 97 192 2112          so many words of each table are lent from now on
+//     lend 193 192 4160          so many words of each table are lent from now on
 //     fresh                     the tables are fresh again
 use crate::line::Line;
 use crate::state::HEAD;
@@ -36,9 +36,9 @@ pub struct Rows {
     pub from: u64,
 }
 
-// A slot that a text names.
+// A slot that a text names: a place in a word of bits.
 fn slot(rows: Rows, row: u64) -> u64
-    ensures { λ r. ⌜ r < 16 ⌝ }
+    ensures { λ r. ⌜ r < 64 ⌝ }
 {
     (rows.from % SLOTS + row % SLOTS) % SLOTS
 }

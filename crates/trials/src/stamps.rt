@@ -66,41 +66,121 @@ query: 0 0 27 0
 update: 0 0 28 0
 write 28 0 113: 0 0 0 0
 commit 28: 0 0 14 0
-see versions 0 0: 15
-read 1 0: 0 0 0 15
 query: 0 0 29 0
 update: 0 0 30 0
 write 30 0 114: 0 0 0 0
 commit 30: 0 0 15 0
-see versions 0 0: 16
-read 1 0: 0 0 0 16
-read 3 0: 0 100 0 15
-read 5 0: 0 101 0 14
-read 7 0: 0 102 0 13
-read 9 0: 0 103 0 12
-read 11 0: 0 104 0 11
-read 13 0: 0 105 0 10
-read 15 0: 0 106 0 9
-read 17 0: 0 107 0 8
-read 19 0: 0 108 0 7
-read 21 0: 0 109 0 6
-read 23 0: 0 110 0 5
-read 25 0: 0 111 0 4
-read 27 0: 0 112 0 3
-read 29 0: 0 113 0 2
-update: 0 0 31 0
-read 31 0: 0 114 0 1
-write 31 0 500: 0 0 0 0
-commit 31: 0 0 16 0
-see versions 0 0: 16
-read 1 0: 0 0 0 16
-commit 15: 0 0 0 0
-see versions 0 0: 15
-read 1 0: 0 0 0 15
-read 13 0: 0 105 0 9
-read 17 0: 0 107 0 8
+query: 0 0 31 0
+update: 0 0 32 0
+write 32 0 115: 0 0 0 0
+commit 32: 0 0 16 0
+query: 0 0 33 0
+update: 0 0 34 0
+write 34 0 116: 0 0 0 0
+commit 34: 0 0 17 0
+query: 0 0 35 0
+update: 0 0 36 0
+write 36 0 117: 0 0 0 0
+commit 36: 0 0 18 0
+query: 0 0 37 0
+update: 0 0 38 0
+write 38 0 118: 0 0 0 0
+commit 38: 0 0 19 0
+query: 0 0 39 0
+update: 0 0 40 0
+write 40 0 119: 0 0 0 0
+commit 40: 0 0 20 0
+query: 0 0 41 0
+update: 0 0 42 0
+write 42 0 120: 0 0 0 0
+commit 42: 0 0 21 0
+query: 0 0 43 0
+update: 0 0 44 0
+write 44 0 121: 0 0 0 0
+commit 44: 0 0 22 0
+query: 0 0 45 0
+update: 0 0 46 0
+write 46 0 122: 0 0 0 0
+commit 46: 0 0 23 0
+query: 0 0 47 0
+update: 0 0 48 0
+write 48 0 123: 0 0 0 0
+commit 48: 0 0 24 0
+query: 0 0 49 0
+update: 0 0 50 0
+write 50 0 124: 0 0 0 0
+commit 50: 0 0 25 0
+query: 0 0 51 0
+update: 0 0 52 0
+write 52 0 125: 0 0 0 0
+commit 52: 0 0 26 0
+query: 0 0 53 0
+update: 0 0 54 0
+write 54 0 126: 0 0 0 0
+commit 54: 0 0 27 0
+query: 0 0 55 0
+update: 0 0 56 0
+write 56 0 127: 0 0 0 0
+commit 56: 0 0 28 0
+query: 0 0 57 0
+update: 0 0 58 0
+write 58 0 128: 0 0 0 0
+commit 58: 0 0 29 0
+query: 0 0 59 0
+update: 0 0 60 0
+write 60 0 129: 0 0 0 0
+commit 60: 0 0 30 0
+see versions 0 0: 31
+read 1 0: 0 0 0 31
+query: 0 0 61 0
+update: 0 0 62 0
+write 62 0 130: 0 0 0 0
+commit 62: 0 0 31 0
+see versions 0 0: 32
+read 1 0: 0 0 0 32
+read 3 0: 0 100 0 31
+read 5 0: 0 101 0 30
+read 7 0: 0 102 0 29
+read 9 0: 0 103 0 28
+read 11 0: 0 104 0 27
+read 13 0: 0 105 0 26
+read 15 0: 0 106 0 25
+read 17 0: 0 107 0 24
+read 19 0: 0 108 0 23
+read 21 0: 0 109 0 22
+read 23 0: 0 110 0 21
+read 25 0: 0 111 0 20
+read 27 0: 0 112 0 19
+read 29 0: 0 113 0 18
+read 31 0: 0 114 0 17
+read 33 0: 0 115 0 16
+read 35 0: 0 116 0 15
+read 37 0: 0 117 0 14
+read 39 0: 0 118 0 13
+read 41 0: 0 119 0 12
+read 43 0: 0 120 0 11
+read 45 0: 0 121 0 10
+read 47 0: 0 122 0 9
+read 49 0: 0 123 0 8
+read 51 0: 0 124 0 7
+read 53 0: 0 125 0 6
+read 55 0: 0 126 0 5
+read 57 0: 0 127 0 4
+read 59 0: 0 128 0 3
+read 61 0: 0 129 0 2
+update: 0 0 63 0
+read 63 0: 0 130 0 1
+write 63 0 500: 0 0 0 0
+commit 63: 0 0 32 0
+see versions 0 0: 32
+read 1 0: 0 0 0 32
+commit 33: 0 0 0 0
+see versions 0 0: 31
+read 1 0: 0 0 0 31
+read 31 0: 0 114 0 16
+read 35 0: 0 116 0 15
 abort 1: 0 0 0 0
-see versions 0 0: 14
+see versions 0 0: 30
 ",
         tally,
     )
