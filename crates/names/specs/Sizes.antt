@@ -12,6 +12,10 @@ base = record { slots = 32; items = 64; places = 32; quota = 32 }
 abbrev pub sixteen : Sizes
 sixteen = record { slots = 16; items = 64; places = 16; quota = 32 }
 
+-- what is stated of both: "State the facts over the number of slots, so that 16 and 32 both follow."
+abbrev pub Both : (Sizes → Type 0) → Type 0
+Both P = P base × P sixteen
+
 -- "The first stamp is 0 and the last is 4,294,967,295. Transaction numbers run from 1 to 4,294,967,295"
 abbrev pub firstStamp : ℕ
 firstStamp = 0

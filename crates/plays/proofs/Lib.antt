@@ -1,2 +1,3 @@
 -- How a trial is computed.
 pub mod Computed
+pub mod Tested

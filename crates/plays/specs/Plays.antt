@@ -4,7 +4,7 @@ use mathlib.Core.Bool.{Bool, true, _&&_}
 use mathlib.Core.List.{List, [], _∷_}
 use lib.Dec.{T, eqb}
 use Rattle.names.specs.declared.Answer.{Answer}
-use Rattle.names.specs.Sizes.{base}
+use Rattle.names.specs.declared.Sizes.{Sizes}
 use Rattle.rules.specs.Tables.{Tables}
 use Rattle.rules.specs.Answers.{Call}
 use Rattle.rules.specs.Step.{step}
@@ -25,12 +25,12 @@ unfoldable pub answers : Line → Answer → Bool
 answers l a =
     eqb (l .code) (a .code) && (eqb (l .value) (a .value) && (eqb (l .number) (a .number) && eqb (l .looked) (a .looked)))
 
--- each line is answered as it says, and the tables at the end pass a test
-unfoldable pub passes : List Line → (Tables → Bool) → Tables → Bool
-passes [] end G = end G
-passes (l ∷ ls) end G =
-    let o = step base (l .call) G in
-    let rest = passes ls end (o .after) in
+-- each line is answered as it says, by a keeper of the sizes S, and the tables at the end pass a test
+unfoldable pub passes : Sizes → List Line → (Tables → Bool) → Tables → Bool
+passes S [] end G = end G
+passes S (l ∷ ls) end G =
+    let o = step S (l .call) G in
+    let rest = passes S ls end (o .after) in
     answers l (o .answer) && rest
 
 -- any tables will do at the end
@@ -44,6 +44,6 @@ pub record Trial : Type 0 where
   pub end : Tables → Bool
 
 -- every trial of a list passes
-pub data AllPass : List Trial → Type 0 where
-  none : AllPass []
-  also : {x : Trial} {xs : List Trial} → T (passes (x .script) (x .end) (x .from)) → AllPass xs → AllPass (x ∷ xs)
+pub data AllPass (S : Sizes) : List Trial → Type 0 where
+  none : AllPass S []
+  also : {x : Trial} {xs : List Trial} → T (passes S (x .script) (x .end) (x .from)) → AllPass S xs → AllPass S (x ∷ xs)

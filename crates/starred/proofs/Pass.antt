@@ -1,78 +1,132 @@
--- The starred trials pass.
+-- The starred trials pass, with 32 slots and with 16.
+use mathlib.Core.Logic.{inl, inr}
+use mathlib.Core.Path.{refl, sym, subst}
+use native.Mathlib.Omega.{arith}
 use lib.Dec.{T}
-use Rattle.names.specs.Sizes.{base}
-use Rattle.rules.specs.Tables.{fresh}
+use Rattle.names.specs.declared.Sizes.{Sizes}
+use Rattle.names.specs.Sizes.{base, sixteen, Both}
+use Rattle.rules.specs.Tested.{good}
+use Rattle.rules.proofs.Equal.{good→Good}
 use Rattle.plays.specs.Plays.{passes, anyEnd, AllPass, none, also}
-use Rattle.plays.proofs.Computed.{computed}
+use Rattle.plays.proofs.Computed.{played, played-passes, PlayedFresh, PassesFresh, OneOfBoth, fresh-passes, computed}
+use Rattle.plays.proofs.Tested.{tested}
 use Rattle.starred_row.proofs.Pass.{pass-I}
 use Rattle.starred_quotas.proofs.Pass.{pass-Q, pass-R}
 use Rattle.starred_waiters.specs.Waiters.{stands, nobodyStands, secondStands}
 use Rattle.starred_waiters.proofs.Pass.{pass-S, pass-T, pass-U, pass-V}
 use Rattle.starred.specs.Trials.{trialA, trialB, trialC, trialD, trialE, trialF, begins, trialG, trialH, trialJ, clockSpent, trialK, trialL, uncounted, trials}
 
-pass-A : T (passes trialA anyEnd (fresh base))
+play-A : Both (PlayedFresh (λ S. trialA) (λ S. anyEnd))
 unfolding computed trialA
-pass-A = tt
+play-A = (tt, tt)
 
-pass-B : T (passes trialB anyEnd (fresh base))
+pass-A : (S : Sizes) → OneOfBoth S → PassesFresh (λ S. trialA) (λ S. anyEnd) S
+pass-A = fresh-passes (λ S. trialA) (λ S. anyEnd) play-A
+
+play-B : Both (PlayedFresh (λ S. trialB) (λ S. anyEnd))
 unfolding computed trialB
-pass-B = tt
+play-B = (tt, tt)
 
-pass-C : T (passes trialC nobodyStands (fresh base))
+pass-B : (S : Sizes) → OneOfBoth S → PassesFresh (λ S. trialB) (λ S. anyEnd) S
+pass-B = fresh-passes (λ S. trialB) (λ S. anyEnd) play-B
+
+play-C : Both (PlayedFresh (λ S. trialC) (λ S. nobodyStands))
 unfolding computed trialC stands nobodyStands
-pass-C = tt
+play-C = (tt, tt)
 
-pass-D : T (passes trialD anyEnd (fresh base))
+pass-C : (S : Sizes) → OneOfBoth S → PassesFresh (λ S. trialC) (λ S. nobodyStands) S
+pass-C = fresh-passes (λ S. trialC) (λ S. nobodyStands) play-C
+
+play-D : Both (PlayedFresh (λ S. trialD) (λ S. anyEnd))
 unfolding computed trialD
-pass-D = tt
+play-D = (tt, tt)
 
-pass-E : T (passes trialE nobodyStands (fresh base))
+pass-D : (S : Sizes) → OneOfBoth S → PassesFresh (λ S. trialD) (λ S. anyEnd) S
+pass-D = fresh-passes (λ S. trialD) (λ S. anyEnd) play-D
+
+play-E : Both (PlayedFresh (λ S. trialE) (λ S. nobodyStands))
 unfolding computed trialE stands nobodyStands
-pass-E = tt
+play-E = (tt, tt)
 
-pass-F : T (passes trialF secondStands (fresh base))
+pass-E : (S : Sizes) → OneOfBoth S → PassesFresh (λ S. trialE) (λ S. nobodyStands) S
+pass-E = fresh-passes (λ S. trialE) (λ S. nobodyStands) play-E
+
+play-F : Both (PlayedFresh (λ S. trialF) (λ S. secondStands))
 unfolding computed trialF stands secondStands
-pass-F = tt
+play-F = (tt, tt)
 
-pass-G : T (passes trialG anyEnd (fresh base))
+pass-F : (S : Sizes) → OneOfBoth S → PassesFresh (λ S. trialF) (λ S. secondStands) S
+pass-F = fresh-passes (λ S. trialF) (λ S. secondStands) play-F
+
+play-G : Both (PlayedFresh trialG (λ S. anyEnd))
 unfolding computed begins trialG
-pass-G = tt
+play-G = (tt, tt)
 
-pass-H : T (passes trialH anyEnd (fresh base))
+pass-G : (S : Sizes) → OneOfBoth S → PassesFresh trialG (λ S. anyEnd) S
+pass-G = fresh-passes trialG (λ S. anyEnd) play-G
+
+play-H : Both (PlayedFresh (λ S. trialH) (λ S. anyEnd))
 unfolding computed trialH
-pass-H = tt
+play-H = (tt, tt)
 
-pass-J : T (passes trialJ anyEnd clockSpent)
-unfolding computed trialJ clockSpent
-pass-J = tt
+pass-H : (S : Sizes) → OneOfBoth S → PassesFresh (λ S. trialH) (λ S. anyEnd) S
+pass-H = fresh-passes (λ S. trialH) (λ S. anyEnd) play-H
 
-pass-K : T (passes trialK anyEnd (fresh base))
+play-K : Both (PlayedFresh (λ S. trialK) (λ S. anyEnd))
 unfolding computed trialK
-pass-K = tt
+play-K = (tt, tt)
 
-pass-L : T (passes trialL anyEnd uncounted)
-unfolding computed trialL uncounted
-pass-L = tt
+pass-K : (S : Sizes) → OneOfBoth S → PassesFresh (λ S. trialK) (λ S. anyEnd) S
+pass-K = fresh-passes (λ S. trialK) (λ S. anyEnd) play-K
 
-pub all-trials : AllPass trials
+-- a clock that is spent stands in good tables too
+spent-good : Both (λ S. T (good S (clockSpent S)))
+unfolding tested clockSpent
+spent-good = (tt, tt)
+
+play-J : Both (λ S. T (played S trialJ anyEnd (clockSpent S)))
+unfolding computed trialJ clockSpent
+play-J = (tt, tt)
+
+pass-J : (S : Sizes) → OneOfBoth S → T (passes S trialJ anyEnd (clockSpent S))
+pass-J S (inl e) =
+    subst (λ (S : Sizes). T (passes S trialJ anyEnd (clockSpent S))) (sym e)
+    (played-passes base (omega arith) trialJ anyEnd (clockSpent base) (good→Good base (clockSpent base) (spent-good .0)) (play-J .0))
+pass-J S (inr e) =
+    subst (λ (S : Sizes). T (passes S trialJ anyEnd (clockSpent S))) (sym e)
+    (played-passes sixteen (omega arith) trialJ anyEnd (clockSpent sixteen) (good→Good sixteen (clockSpent sixteen) (spent-good .1)) (play-J .1))
+
+-- these tables are not good, and the test says so
+tested-L : Both (λ S. T (passes S trialL anyEnd (uncounted S)))
+unfolding tested trialL uncounted
+tested-L = (tt, tt)
+
+pass-L : (S : Sizes) → OneOfBoth S → T (passes S trialL anyEnd (uncounted S))
+pass-L S (inl e) = subst (λ (S : Sizes). T (passes S trialL anyEnd (uncounted S))) (sym e) (tested-L .0)
+pass-L S (inr e) = subst (λ (S : Sizes). T (passes S trialL anyEnd (uncounted S))) (sym e) (tested-L .1)
+
+all-pass : (S : Sizes) → OneOfBoth S → AllPass S (trials S)
 unfolding trials
-all-trials =
-    also pass-A
-    (also pass-B
-    (also pass-C
-    (also pass-D
-    (also pass-E
-    (also pass-F
-    (also pass-G
-    (also pass-H
-    (also pass-I
-    (also pass-J
-    (also pass-K
-    (also pass-L
-    (also pass-Q
-    (also pass-R
-    (also pass-S
-    (also pass-T
-    (also pass-U
-    (also pass-V
+all-pass S k =
+    also (pass-A S k)
+    (also (pass-B S k)
+    (also (pass-C S k)
+    (also (pass-D S k)
+    (also (pass-E S k)
+    (also (pass-F S k)
+    (also (pass-G S k)
+    (also (pass-H S k)
+    (also (pass-I S k)
+    (also (pass-J S k)
+    (also (pass-K S k)
+    (also (pass-L S k)
+    (also (pass-Q S k)
+    (also (pass-R S k)
+    (also (pass-S S k)
+    (also (pass-T S k)
+    (also (pass-U S k)
+    (also (pass-V S k)
     none)))))))))))))))))
+
+pub all-trials : Both (λ S. AllPass S (trials S))
+all-trials = (all-pass base (inl refl), all-pass sixteen (inr refl))

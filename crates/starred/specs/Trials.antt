@@ -2,7 +2,8 @@
 use Prim.Native.Nat.{ℕ, zero, suc}
 use mathlib.Core.List.{List, [], _∷_, _++_}
 use lib.ListN.{set}
-use Rattle.names.specs.Sizes.{base, lastWord}
+use Rattle.names.specs.declared.Sizes.{Sizes}
+use Rattle.names.specs.Sizes.{lastWord}
 use Rattle.rules.specs.Tables.{Tables, tables, fresh, versionRow}
 use Rattle.rules.specs.Answers.{BeginUpdate, BeginQuery, Read, Write, Commit, Abort}
 use Rattle.plays.specs.Plays.{Line, _⇒_, Trial, anyEnd}
@@ -67,15 +68,15 @@ trialF =
     ∷ (Write 2 3 1 ⇒ (6, 0, 0, 0))
     ∷ []
 
--- "G. 16 live: begin gives 7; one aborts; begin gives number 17."
+-- "G. 16 live: begin gives 7; one aborts; begin gives number 17.", and of request E5 "32 live, G to number 33": with as many live as slots
 unfoldable pub begins : ℕ → ℕ → List Line
 begins n zero = []
 begins n (suc k) = (BeginUpdate ⇒ (0, 0, n, 0)) ∷ begins (suc n) k
 
-unfoldable pub trialG : List Line
-trialG =
-    begins 1 (base .slots)
-    ++ ((BeginUpdate ⇒ (7, 0, 0, 0)) ∷ (Abort 5 ⇒ (0, 0, 0, 0)) ∷ (BeginUpdate ⇒ (0, 0, suc (base .slots), 0)) ∷ [])
+unfoldable pub trialG : Sizes → List Line
+trialG S =
+    begins 1 (S .slots)
+    ++ ((BeginUpdate ⇒ (7, 0, 0, 0)) ∷ (Abort 5 ⇒ (0, 0, 0, 0)) ∷ (BeginUpdate ⇒ (0, 0, suc (S .slots), 0)) ∷ [])
 
 -- "H. A query writes: 5; writes item 64: 4."
 unfoldable pub trialH : List Line
@@ -91,8 +92,8 @@ trialJ =
     ∷ (Commit 2 ⇒ (0, 0, 0, 0))
     ∷ []
 
-unfoldable pub clockSpent : Tables
-clockSpent = tables (set ((fresh base) .txns) 1 lastWord) ((fresh base) .locks) ((fresh base) .versions)
+unfoldable pub clockSpent : Sizes → Tables
+clockSpent S = tables (set ((fresh S) .txns) 1 lastWord) ((fresh S) .locks) ((fresh S) .versions)
 
 -- "K. An aborted write is never read."
 unfoldable pub trialK : List Line
@@ -110,28 +111,28 @@ trialK =
 unfoldable pub trialL : List Line
 trialL = (BeginUpdate ⇒ (10, 0, 0, 0)) ∷ []
 
-unfoldable pub uncounted : Tables
-uncounted = tables ((fresh base) .txns) ((fresh base) .locks) (set ((fresh base) .versions) (versionRow base) 0)
+unfoldable pub uncounted : Sizes → Tables
+uncounted S = tables ((fresh S) .txns) ((fresh S) .locks) (set ((fresh S) .versions) (versionRow S) 0)
 
--- ---- the list of them, and of those of requests E2 and E4; the ends of C, E and F are those of E4
-unfoldable pub trials : List Trial
-trials =
-    (record { from = fresh base; script = trialA; end = anyEnd })
-    ∷ (record { from = fresh base; script = trialB; end = anyEnd })
-    ∷ (record { from = fresh base; script = trialC; end = nobodyStands })
-    ∷ (record { from = fresh base; script = trialD; end = anyEnd })
-    ∷ (record { from = fresh base; script = trialE; end = nobodyStands })
-    ∷ (record { from = fresh base; script = trialF; end = secondStands })
-    ∷ (record { from = fresh base; script = trialG; end = anyEnd })
-    ∷ (record { from = fresh base; script = trialH; end = anyEnd })
-    ∷ (record { from = fresh base; script = trialI; end = fullRow })
-    ∷ (record { from = clockSpent; script = trialJ; end = anyEnd })
-    ∷ (record { from = fresh base; script = trialK; end = anyEnd })
-    ∷ (record { from = uncounted; script = trialL; end = anyEnd })
-    ∷ (record { from = fresh base; script = trialQ; end = anyEnd })
-    ∷ (record { from = fresh base; script = trialR; end = anyEnd })
-    ∷ (record { from = fresh base; script = trialS; end = nobodyStands })
-    ∷ (record { from = fresh base; script = trialT; end = exchangerAhead })
-    ∷ (record { from = fresh base; script = trialU; end = closedUpLine })
-    ∷ (record { from = fresh base; script = trialV; end = secondStands })
+-- ---- the list of them, and of those of requests E2 and E4; the ends of C, E and F are those of E4. A keeper of the sizes S
+unfoldable pub trials : Sizes → List Trial
+trials S =
+    (record { from = fresh S; script = trialA; end = anyEnd })
+    ∷ (record { from = fresh S; script = trialB; end = anyEnd })
+    ∷ (record { from = fresh S; script = trialC; end = nobodyStands })
+    ∷ (record { from = fresh S; script = trialD; end = anyEnd })
+    ∷ (record { from = fresh S; script = trialE; end = nobodyStands })
+    ∷ (record { from = fresh S; script = trialF; end = secondStands })
+    ∷ (record { from = fresh S; script = trialG S; end = anyEnd })
+    ∷ (record { from = fresh S; script = trialH; end = anyEnd })
+    ∷ (record { from = fresh S; script = trialI S; end = fullRow S })
+    ∷ (record { from = clockSpent S; script = trialJ; end = anyEnd })
+    ∷ (record { from = fresh S; script = trialK; end = anyEnd })
+    ∷ (record { from = uncounted S; script = trialL; end = anyEnd })
+    ∷ (record { from = fresh S; script = trialQ S; end = anyEnd })
+    ∷ (record { from = fresh S; script = trialR S; end = anyEnd })
+    ∷ (record { from = fresh S; script = trialS; end = nobodyStands })
+    ∷ (record { from = fresh S; script = trialT; end = exchangerAhead })
+    ∷ (record { from = fresh S; script = trialU; end = closedUpLine })
+    ∷ (record { from = fresh S; script = trialV; end = secondStands })
     ∷ []

@@ -1,11 +1,12 @@
--- Trial I passes.
-use lib.Dec.{T}
-use Rattle.names.specs.Sizes.{base}
-use Rattle.rules.specs.Tables.{fresh}
-use Rattle.plays.specs.Plays.{passes}
-use Rattle.plays.proofs.Computed.{computed}
+-- Trial I passes, with 32 slots and with 16.
+use Rattle.names.specs.declared.Sizes.{Sizes}
+use Rattle.names.specs.Sizes.{Both}
+use Rattle.plays.proofs.Computed.{PlayedFresh, PassesFresh, OneOfBoth, fresh-passes, computed}
 use Rattle.starred_row.specs.FullRow.{turns, trialI, fullRow}
 
-pub pass-I : T (passes trialI fullRow (fresh base))
+play-I : Both (PlayedFresh trialI fullRow)
 unfolding computed turns trialI fullRow
-pass-I = tt
+play-I = (tt, tt)
+
+pub pass-I : (S : Sizes) → OneOfBoth S → PassesFresh trialI fullRow S
+pass-I = fresh-passes trialI fullRow play-I

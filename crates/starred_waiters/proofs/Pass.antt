@@ -1,23 +1,33 @@
 -- The trials of those who wait in line pass.
-use lib.Dec.{T}
-use Rattle.names.specs.Sizes.{base}
-use Rattle.rules.specs.Tables.{fresh}
-use Rattle.plays.specs.Plays.{passes}
-use Rattle.plays.proofs.Computed.{computed}
+use Rattle.names.specs.declared.Sizes.{Sizes}
+use Rattle.names.specs.Sizes.{Both}
+use Rattle.plays.proofs.Computed.{PlayedFresh, PassesFresh, OneOfBoth, fresh-passes, computed}
 use Rattle.starred_waiters.specs.Waiters.{stands, nobodyStands, secondStands, trialS, trialT, exchangerAhead, trialU, closedUpLine, trialV}
 
-pub pass-S : T (passes trialS nobodyStands (fresh base))
+play-S : Both (PlayedFresh (λ S. trialS) (λ S. nobodyStands))
 unfolding computed trialS stands nobodyStands
-pass-S = tt
+play-S = (tt, tt)
 
-pub pass-T : T (passes trialT exchangerAhead (fresh base))
+pub pass-S : (S : Sizes) → OneOfBoth S → PassesFresh (λ S. trialS) (λ S. nobodyStands) S
+pass-S = fresh-passes (λ S. trialS) (λ S. nobodyStands) play-S
+
+play-T : Both (PlayedFresh (λ S. trialT) (λ S. exchangerAhead))
 unfolding computed trialT stands exchangerAhead
-pass-T = tt
+play-T = (tt, tt)
 
-pub pass-U : T (passes trialU closedUpLine (fresh base))
+pub pass-T : (S : Sizes) → OneOfBoth S → PassesFresh (λ S. trialT) (λ S. exchangerAhead) S
+pass-T = fresh-passes (λ S. trialT) (λ S. exchangerAhead) play-T
+
+play-U : Both (PlayedFresh (λ S. trialU) (λ S. closedUpLine))
 unfolding computed trialU stands closedUpLine
-pass-U = tt
+play-U = (tt, tt)
 
-pub pass-V : T (passes trialV secondStands (fresh base))
+pub pass-U : (S : Sizes) → OneOfBoth S → PassesFresh (λ S. trialU) (λ S. closedUpLine) S
+pass-U = fresh-passes (λ S. trialU) (λ S. closedUpLine) play-U
+
+play-V : Both (PlayedFresh (λ S. trialV) (λ S. secondStands))
 unfolding computed trialV stands secondStands
-pass-V = tt
+play-V = (tt, tt)
+
+pub pass-V : (S : Sizes) → OneOfBoth S → PassesFresh (λ S. trialV) (λ S. secondStands) S
+pass-V = fresh-passes (λ S. trialV) (λ S. secondStands) play-V

@@ -1,0 +1,39 @@
+-- Request E5, "State the facts over the number of slots, so that 16 and 32 both follow.": the facts about a keeper of the sizes S, in one
+-- place. The words of a table are numbers here, of any height; that 64 bits are enough for them is asked where the code is proved.
+use Prim.Native.Nat.{_≤_}
+use mathlib.Core.List.{List}
+use Rattle.names.specs.declared.Sizes.{Sizes}
+use Rattle.rules.specs.Tables.{fresh}
+use Rattle.rules.specs.Answers.{Call}
+use Rattle.rules.specs.Good.{Good}
+use Rattle.rules.specs.Promises.{CodeExactly, StaysGood, GrantedChanges, QueryReads, EndTrims, CommitTrims}
+use Rattle.history.specs.Serial.{Serializes}
+use Rattle.history.specs.Undisturbed.{ReadsAsBegun, Undisturbed}
+use Rattle.history.specs.Ended.{EndedForEver}
+use Rattle.history.specs.Beside.{Beside}
+use Rattle.line.specs.Served.{ServedInRuns}
+
+-- all that is asked of the sizes: a place for each slot, and one at least
+pub record Enough (S : Sizes) : Type 0 where
+  pub places : S .slots ≤ S .places
+  pub room : 1 ≤ S .places
+
+pub record Facts (S : Sizes) : Type 0 where
+  -- fresh tables are good, every call leaves good tables good, and answers and changes them as is said
+  pub freshGood : Good S (fresh S)
+  pub staysGood : StaysGood S
+  pub codes : CodeExactly S
+  pub changes : GrantedChanges S
+  -- looked is at most 2 plus the number of live queries with a later start
+  pub looked : QueryReads S
+  -- as many places as slots are always enough
+  pub endTrims : EndTrims S
+  pub commitTrims : CommitTrims S
+  -- demand 3, and what stands beside it
+  pub serial : (cs : List Call) → Serializes S cs
+  pub undisturbed : Undisturbed S
+  pub asBegun : ReadsAsBegun S
+  pub beside : (cs : List Call) → Beside S cs
+  pub ended : EndedForEver S
+  -- request E4: who waits in line is served
+  pub served : ServedInRuns S

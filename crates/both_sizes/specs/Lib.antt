@@ -1,0 +1,2 @@
+-- What holds of every size.
+pub mod Facts
