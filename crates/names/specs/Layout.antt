@@ -2,7 +2,8 @@
 -- words of a kind and of an awaited lock mean. names/src/layout.rt has the same for the code.
 use Prim.Native.Nat.{ℕ}
 
--- ---- "Transactions ..: last number given; clock (stamp of the latest update commit); then 16 rows", of six words since request E4
+-- ---- "Transactions ..: last number given; clock (stamp of the latest update commit); then 16 rows", of six words since request E4, and
+-- 32 rows since request E5
 abbrev pub lastNumberAt : ℕ
 lastNumberAt = 0
 
@@ -67,8 +68,8 @@ lockWorkingAt = 2
 abbrev pub lockRow : ℕ
 lockRow = 3
 
--- ---- "Versions, 2,112 words: 64 rows of 33: a count, then 16 pairs of stamp and value": the first pair's places; the others
--- stand a pair's words further each
+-- ---- "Versions ..: 64 rows ..: a count, then 16 pairs of stamp and value", 32 since request E5 ("64 rows of 65 words"): the first
+-- pair's places; the others stand a pair's words further each
 abbrev pub versionCountAt : ℕ
 versionCountAt = 0
 

@@ -96,7 +96,7 @@ When S c G QueryMayNotWrite =
 When S c G StillWaiting =
     (s : ℕ) × CallerIn c S G s × ((txn (G .txns) s) .awaitedLock ≢ noLock)
     × (Wants c ((txn (G .txns) s) .awaitedLock) ((txn (G .txns) s) .awaitedItem) → ⊥)
--- "begin with 16 live"
+-- "begin with 16 live", 32 since request E5
 When S c G NoSlot = (s : ℕ) → s < S .slots → T (live (txn (G .txns) s))
 -- "begin with last number 4,294,967,295"
 When S c G NumbersSpent = lastNumber (G .txns) ≡ lastWord

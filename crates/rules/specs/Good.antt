@@ -68,7 +68,7 @@ pub record GoodQuota (S : Sizes) (l : List ℕ) (s : ℕ) (r : Txn) : Type 0 whe
 
 -- ---- the clauses on the words r of an item's version row
 pub record GoodVersions (S : Sizes) (t r : List ℕ) : Type 0 where
-  -- "A version count is 1 to 16"
+  -- "A version count is 1 to 16", to 32 since request E5
   pub countLeast : 1 ≤ getD r 0 0
   pub countMost : getD r 0 0 ≤ S .places
   -- "unused pairs are zero"

@@ -199,7 +199,7 @@ QueryReads S =
     × (suc k ≤ 2 + later q (starts S (G .txns)))
 
 -- "every row keeps its newest version and those that some live query reads, and no others": the versions vs of item x, as they are in
--- the tables G. "So .. 16 places are always enough" (Queries)
+-- the tables G. "So .. 16 places are always enough", and in general as many as there are slots (Queries)
 pub record TrimmedTo (S : Sizes) (vs : List Version) (G : Tables) (x : ℕ) : Type 0 where
   pub newest : getD (versionsOf S (G .versions) x) 0 noVersion ≡ getD vs 0 noVersion
   pub read :

@@ -160,7 +160,7 @@ queryRead S s x G =
     says granted ((choice q vs) .value) 0 (suc (place q vs)) G
 
 -- ---- Commit
--- "For each item it holds exclusively the commit rewrites that item's row of 33 words with the new pair in front.": the versions
+-- "For each item it holds exclusively the commit rewrites that item's row .. with the new pair in front.": the versions
 -- of item x, c being the new stamp
 unfoldable pub withNew : List ℕ → ℕ → ℕ → ℕ → List Version → List Version
 withNew l s c x vs = cond (holdsExclusive (lock l x) s) (record { stamp = c; value = (lock l x) .working } ∷ vs) vs

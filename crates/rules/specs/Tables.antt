@@ -34,7 +34,7 @@ abbrev pub putFrom : List ℕ → ℕ → ℕ → List ℕ → List ℕ
 putFrom l b k [] = l
 putFrom l b k (w ∷ ws) = putFrom (set l (behind b k) w) b (suc k) ws
 
--- ---- "Transactions ..: last number given; clock (stamp of the latest update commit); then 16 rows"
+-- ---- "Transactions ..: last number given; clock (stamp of the latest update commit); then 16 rows", 32 since request E5
 abbrev pub lastNumber : List ℕ → ℕ
 lastNumber t = getD t lastNumberAt 0
 
@@ -181,7 +181,8 @@ released s h =
 unfoldable pub release : Sizes → ℕ → List ℕ → List ℕ
 release S s l = mapRows (S .items) lockRow (λ x r. lockWordsOf (released s (lockIn r))) 0 l
 
--- ---- "Versions, 2,112 words: 64 rows of 33: a count, then 16 pairs of stamp and value, newest first, unused pairs zero."
+-- ---- "Versions ..: 64 rows ..: a count, then 16 pairs of stamp and value, newest first, unused pairs zero.", and of request E5 "so the
+-- version table has 64 rows of 65 words"
 abbrev pub versionRow : Sizes → ℕ
 versionRow S = versionStampAt + versionPair * S .places
 

@@ -125,7 +125,7 @@ unfoldable pub allRead : List ℕ → List Version → ℕ → List Version → 
 allRead qs vs k [] = true
 allRead qs vs k (v ∷ rest) = let older = allRead qs vs (suc k) rest in (eqb k 0 || readBySome qs vs k) && older
 
--- "A version count is 1 to 16, unused pairs are zero, stamps fall strictly, the first is at most the clock, the last .."
+-- "A version count is 1 to 16 (32 since request E5), unused pairs are zero, stamps fall strictly, the first is at most the clock, the last .."
 unfoldable pub versionsGood : Sizes → ℕ → List ℕ → List ℕ → Bool
 versionsGood S now qs r =
     leb 1 (getD r 0 0)

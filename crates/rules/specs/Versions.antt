@@ -15,7 +15,7 @@ pub record Version : Type 0 where
 abbrev pub noVersion : Version
 noVersion = record { stamp = 0; value = 0 }
 
--- ---- "a count, then 16 pairs of stamp and value, newest first"
+-- ---- "a count, then 16 pairs of stamp and value, newest first", 32 since request E5
 unfoldable pub pairs : ℕ → List ℕ → List Version
 pairs zero l = []
 pairs (suc n) l = record { stamp = getD l 0 0; value = getD l 1 0 } ∷ pairs n (drop 2 l)
