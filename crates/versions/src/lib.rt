@@ -4,14 +4,15 @@
 // Proved equal to the test of the rules, for whichever starts are in order.
 ghost use mathlib.Core.Path.{_≡_};
 ghost use mathlib.Core.List.{List};
-ghost use Prim.Native.Nat.{ℕ, _+_, _≤_};
+ghost use Prim.Native.Nat.{ℕ, _+_, _*_, _≤_};
 ghost use lib.ListN.{length};
 ghost use Rattle.names.specs.Sizes.{base};
+ghost use Rattle.names.specs.Layout.{versionPair};
 ghost use Rattle.rules.specs.Words.{everyRow};
 ghost use Rattle.rules.specs.Tables.{versionRow, versionWords};
 ghost use Rattle.rules.specs.Tested.{versionsGood};
 ghost use Rattle.starts.specs.Ordered.{Rises, InOrder, Skipped};
-ghost use Rattle.versions.specs.Rows.{unusedOk, readIn, manyOk, rowOk};
+ghost use Rattle.versions.specs.Rows.{pairsWide, unusedOk, readIn, manyOk, rowOk};
 ghost use Rattle.choices.specs.Pairs.{countIn};
 use names::VERSION_COUNT_AT;
 use names::VERSION_PAIR;
@@ -23,37 +24,42 @@ const PAIRS: usize = VERSION_ROW - VERSION_STAMP_AT;
 
 const ROWS: usize = names::ITEMS as usize;
 
-// Words that are zero are tested in parts of a length known beforehand, which is faster.
-const FEW: usize = 8;
+// A row is tested for zeros in two parts, the second of a length that is known beforehand, which is
+// faster: behind an eighth of its pairs, a quarter, or half of them.
+const EIGHTH: usize = PAIRS / 8;
 
-const SOME: usize = 16;
+const QUARTER: usize = PAIRS / 4;
 
-// Whether the pairs behind m versions are zero.
+const HALF: usize = PAIRS / 2;
+
+// Whether the pairs behind m versions are zero: those up to so many words, and those behind.
+fn unused_in(row: &[u64], m: usize, part: usize) -> bool
+    requires { ⌜ (length (now row) ≡ versionRow base) × (m * versionPair ≤ part) × (part ≤ pairsWide) ⌝ }
+    ensures { λ b. ⌜ b ≡ unusedOk (now (row .entry)) m ⌝ }
+{
+    words::zeros(
+        row,
+        VERSION_STAMP_AT + m * VERSION_PAIR,
+        part - m * VERSION_PAIR,
+    )
+        & words::zeros(row, VERSION_STAMP_AT + part, PAIRS - part)
+}
+
 fn unused_ok(row: &[u64], m: usize) -> bool
     requires { ⌜ (length (now row) ≡ versionRow base) × (m ≤ base .places) ⌝ }
     ensures { λ b. ⌜ b ≡ unusedOk (now (row .entry)) m ⌝ }
 {
-    if m * VERSION_PAIR <= FEW {
-        return words::zeros(
-            row,
-            VERSION_STAMP_AT + m * VERSION_PAIR,
-            FEW - m * VERSION_PAIR,
-        )
-            & words::zeros(row, VERSION_STAMP_AT + FEW, PAIRS - FEW);
+    let used = m * VERSION_PAIR;
+    if used <= EIGHTH {
+        return unused_in(row, m, EIGHTH);
     }
-    if m * VERSION_PAIR <= SOME {
-        return words::zeros(
-            row,
-            VERSION_STAMP_AT + m * VERSION_PAIR,
-            SOME - m * VERSION_PAIR,
-        )
-            & words::zeros(row, VERSION_STAMP_AT + SOME, PAIRS - SOME);
+    if used <= QUARTER {
+        return unused_in(row, m, QUARTER);
     }
-    words::zeros(
-        row,
-        VERSION_STAMP_AT + m * VERSION_PAIR,
-        PAIRS - m * VERSION_PAIR,
-    )
+    if used <= HALF {
+        return unused_in(row, m, HALF);
+    }
+    unused_in(row, m, PAIRS)
 }
 
 // The first place from p on whose start is at least hi.
