@@ -2,6 +2,9 @@
 use native.Mathlib.Omega.{arith}
 use Rattle.names.specs.declared.Sizes.{Sizes}
 use Rattle.names.specs.Sizes.{base, sixteen, Both}
+use Rattle.rules.specs.Tables.{lock, holds, holdsShared}
+use Rattle.rules.proofs.Tests.{or-left}
+use Rattle.rules.proofs.Bits.{below-bits}
 use Rattle.rules.proofs.Fresh.{fresh-good}
 use Rattle.rules.proofs.Keeps.{keeps}
 use Rattle.rules.proofs.Answered.{code-exactly}
@@ -12,7 +15,11 @@ use Rattle.line.proofs.Served.{served-in-runs}
 use Rattle.plays.specs.Plays.{AllPass}
 use Rattle.starred.specs.Trials.{trials}
 use Rattle.starred.proofs.Pass.{all-trials}
-use Rattle.both_sizes.specs.Facts.{Enough, Facts}
+use Rattle.both_sizes.specs.Facts.{Enough, HoldersFit, Facts}
+
+holders-fit : (S : Sizes) → HoldersFit S
+unfolding holds holdsShared
+holders-fit S G x g i = below-bits (S .slots) ((lock (G .locks) x) .shared) (λ b u. g .lockGood x i .holders b (or-left (holdsShared (lock (G .locks) x) b) _ u) .0)
 
 pub facts : (S : Sizes) → Enough S → Facts S
 facts S e =
@@ -21,6 +28,7 @@ facts S e =
       staysGood = keeps S (e .places);
       codes = code-exactly S;
       changes = granted-changes S (e .places);
+      holders = holders-fit S;
       looked = query-read S;
       endTrims = ended-trims S (e .places);
       commitTrims = committed-trims S (e .places);

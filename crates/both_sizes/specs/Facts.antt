@@ -1,9 +1,10 @@
 -- Request E5, "State the facts over the number of slots, so that 16 and 32 both follow.": the facts about a keeper of the sizes S, in one
--- place. The words of a table are numbers here, of any height; that 64 bits are enough for them is asked where the code is proved.
-use Prim.Native.Nat.{_≤_}
+-- place. None asks for at most 64 slots: the words of a table are numbers here, of any height. The code's are of 64 bits, and where it
+-- moves a bit to a slot's place its proof asks that there is one.
+use Prim.Native.Nat.{ℕ, _^_, _≤_, _<_}
 use mathlib.Core.List.{List}
 use Rattle.names.specs.declared.Sizes.{Sizes}
-use Rattle.rules.specs.Tables.{fresh}
+use Rattle.rules.specs.Tables.{Tables, lock, fresh}
 use Rattle.rules.specs.Answers.{Call}
 use Rattle.rules.specs.Good.{Good}
 use Rattle.rules.specs.Promises.{CodeExactly, StaysGood, GrantedChanges, QueryReads, EndTrims, CommitTrims}
@@ -18,12 +19,17 @@ pub record Enough (S : Sizes) : Type 0 where
   pub places : S .slots ≤ S .places
   pub room : 1 ≤ S .places
 
+abbrev pub HoldersFit : Sizes → Type 0
+HoldersFit S = (G : Tables) (x : ℕ) → Good S G → x < S .items → (lock (G .locks) x) .shared < 2 ^ S .slots
+
 pub record Facts (S : Sizes) : Type 0 where
   -- fresh tables are good, every call leaves good tables good, and answers and changes them as is said
   pub freshGood : Good S (fresh S)
   pub staysGood : StaysGood S
   pub codes : CodeExactly S
   pub changes : GrantedChanges S
+  -- a word of shared holders has a bit for each slot and none above: for up to 64 slots it is one word of 64 bits
+  pub holders : HoldersFit S
   -- looked is at most 2 plus the number of live queries with a later start
   pub looked : QueryReads S
   -- as many places as slots are always enough
