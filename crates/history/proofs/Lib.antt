@@ -9,6 +9,7 @@ pub mod Tables
 pub mod Seen
 pub mod Moves
 pub mod Happens
+pub mod Played
 pub mod Theorem
 pub mod Numbers
 pub mod ByAnswers

@@ -1,33 +1,58 @@
--- Right runs pass, wrong ones do not, a query is undisturbed and an update is not: by computation.
+-- Right runs pass, wrong ones do not, a query is undisturbed and an update is not: by computation, on tables that stay good and so are not
+-- tested at each call.
 use mathlib.Core.Bool.{not}
 use mathlib.Core.List.{List, [], _∷_}
-use mathlib.Core.Path.{_≡_, refl}
+use mathlib.Core.Path.{_≡_, refl, sym, ap, subst, _∙_}
 use lib.Dec.{T}
+use native.Mathlib.Omega.{arith}
 use Rattle.names.specs.Sizes.{base}
 use Rattle.rules.specs.Words.{implies, everyBelow, someBelow, countBelow, firstFrom, every, some, tabulateFrom, row, everyRow, mapRows, bit, withBit, withoutBit}
 use Rattle.rules.specs.Tables.{txn, setTxn, setAwaited, reranked, live, liveUpdate, liveQuery, slotOf, freeSlot, startsFrom, starts, lock, setLock, holdsShared, holdsExclusive, holds, exclusivesOf, released, release, fresh}
 use Rattle.rules.specs.Versions.{pairs, versionsIn, versionsOf, pairWords, rowOf, stampAt, newest, place, choice, readBySome, keptFrom, kept, rewritten}
 use Rattle.rules.specs.Waits.{awaits, awaitsOn, waitersOn, exchangersOn, rankFor, raised, lowered, noted, closedUp, conflicts, ahead, blocks, blocked, waitsFor, marked, spread, rounds, reached, circleAt, noCircle}
-use Rattle.rules.specs.Tested.{sizesExact, topsMost, freeZero, listed, startGood, awaitedGood, awaiterGood, txnGood, distinct, holdersLive, lockGood, quotaMost, fullIdle, quotaGood, rankWithin, ranksApart, ranksGood, falls, lastOld, allRead, versionsGood, good}
 use Rattle.rules.specs.Locks.{heldBy, decide, anotherShares, anotherExcludes, anotherAhead, decision}
-use Rattle.rules.specs.Step.{begun, beginBy, conflicted, cleared, locked, cellDeed, access, awaitsOther, writesFurther, queryRead, readBy, writeBy, withNew, committed, ended, commitBy, aborted, abortBy, judged, done, act, step}
+use Rattle.rules.specs.Step.{begun, beginBy, conflicted, cleared, locked, cellDeed, access, awaitsOther, writesFurther, queryRead, readBy, writeBy, withNew, committed, ended, commitBy, aborted, abortBy, judged, done, act}
 use Rattle.rules.specs.Answers.{Call, BeginQuery}
-use Rattle.history.specs.Runs.{run, endOf}
+use Rattle.rules.specs.Tables.{Tables}
+use Rattle.rules.proofs.Fresh.{fresh-good}
+use Rattle.history.specs.Runs.{Event, run, endOf}
 use Rattle.history.specs.Happened.{got, put, Happening, did, told, happened, begunWith, happeningsAfter, happenings, allOf, names}
 use Rattle.history.specs.Serial.{zeros, agrees, final, accessOf, grantedTo, placeOf, order, oneByOne, serial}
 use Rattle.history.specs.Undisturbed.{callsOf, heard}
+use Rattle.history.proofs.Played.{played, playedEnd, run-played, end-played}
 use Rattle.history_samples.specs.Samples.{serializes, runPasses, mixed, stored, lateSnapshot, timelySnapshot, lostUpdate, keptUpdate, dirtyRead}
 use Rattle.history_samples.specs.Samples.{quietly, among, undisturbed, updateAlone, updateAfter, heardAlone, heardAfter}
 
--- the happenings of a run from fresh tables, as they are computed: whoever unfolds this computes with all the rules and with the definitions of demand 3
-unfoldable computed : List Call → List Happening
-unfolding run endOf names did told happened begunWith happeningsAfter happenings allOf agrees final accessOf grantedTo placeOf order oneByOne serial callsOf heard serializes runPasses implies everyBelow someBelow countBelow firstFrom every some tabulateFrom row everyRow mapRows bit withBit withoutBit txn setTxn setAwaited reranked live liveUpdate liveQuery slotOf freeSlot startsFrom starts lock setLock holdsShared holdsExclusive holds exclusivesOf released release fresh pairs versionsIn versionsOf pairWords rowOf stampAt newest place choice readBySome keptFrom kept rewritten awaits awaitsOn waitersOn exchangersOn rankFor raised lowered noted closedUp conflicts ahead blocks blocked waitsFor marked spread rounds reached circleAt noCircle sizesExact topsMost freeZero listed startGood awaitedGood awaiterGood txnGood distinct holdersLive lockGood quotaMost fullIdle quotaGood rankWithin ranksApart ranksGood falls lastOld allRead versionsGood good heldBy decide anotherShares anotherExcludes anotherAhead decision begun beginBy conflicted cleared locked cellDeed access awaitsOther writesFurther queryRead readBy writeBy withNew committed ended commitBy aborted abortBy judged done act step
-computed cs = happenings base cs
+-- what happens in a run from fresh tables, as it is computed: whoever unfolds this computes with all the rules and with the definitions of
+-- demand 3
+unfoldable computed : List Call → List Event
+unfolding played playedEnd names did told happened begunWith happeningsAfter allOf agrees final accessOf grantedTo placeOf order oneByOne serial callsOf heard serializes implies everyBelow someBelow countBelow firstFrom every some tabulateFrom row everyRow mapRows bit withBit withoutBit txn setTxn setAwaited reranked live liveUpdate liveQuery slotOf freeSlot startsFrom starts lock setLock holdsShared holdsExclusive holds exclusivesOf released release fresh pairs versionsIn versionsOf pairWords rowOf stampAt newest place choice readBySome keptFrom kept rewritten awaits awaitsOn waitersOn exchangersOn rankFor raised lowered noted closedUp conflicts ahead blocks blocked waitsFor marked spread rounds reached circleAt noCircle heldBy decide anotherShares anotherExcludes anotherAhead decision begun beginBy conflicted cleared locked cellDeed access awaitsOther writesFurther queryRead readBy writeBy withNew committed ended commitBy aborted abortBy judged done act
+computed cs = played base cs (fresh base)
+
+abbrev playedHappenings : List Call → List Happening
+playedHappenings cs = happeningsAfter [] (played base cs (fresh base))
+
+-- that is what happens
+run-so : (cs : List Call) → run base cs (fresh base) ≡ played base cs (fresh base)
+run-so cs = run-played base (omega arith) cs (fresh base) (fresh-good base (omega arith))
+
+end-so : (cs : List Call) → endOf base cs (fresh base) ≡ playedEnd base cs (fresh base)
+end-so cs = end-played base (omega arith) cs (fresh base) (fresh-good base (omega arith))
+
+happenings-so : (cs : List Call) → happenings base cs ≡ playedHappenings cs
+unfolding happenings
+happenings-so cs = ap (happeningsAfter []) (run-so cs)
+
+passes-so : (cs : List Call) → T (serializes (playedHappenings cs) (playedEnd base cs (fresh base))) → T (runPasses cs)
+unfolding runPasses
+passes-so cs h =
+    subst (λ (hs : List Happening). T (serializes hs (endOf base cs (fresh base)))) (sym (happenings-so cs))
+    (subst (λ (G : Tables). T (serializes (playedHappenings cs) G)) (sym (end-so cs)) h)
 
 -- ---- right runs
 mixed-order : order (happenings base mixed) ≡ 3 ∷ 1 ∷ 4 ∷ 2 ∷ []
 unfolding computed mixed
-mixed-order = refl
+mixed-order = ap order (happenings-so mixed) ∙ refl
 
 -- query 3, update 1, query 4, update 2, each whole
 mixed-serial :
@@ -37,15 +62,15 @@ mixed-serial :
     ∷ got 6 77 ∷ got 5 0 ∷ got 7 0 ∷ got 6 77
     ∷ got 5 0 ∷ got 6 77 ∷ put 5 88 ∷ got 5 88 ∷ []
 unfolding computed mixed
-mixed-serial = refl
+mixed-serial = ap serial (happenings-so mixed) ∙ refl
 
 mixed-passes : T (runPasses mixed)
 unfolding computed mixed
-mixed-passes = tt
+mixed-passes = passes-so mixed tt
 
 stored-passes : T (runPasses stored)
 unfolding computed stored
-stored-passes = tt
+stored-passes = passes-so stored tt
 
 -- ---- wrong ones, each beside a right one
 late-refused : T (not (agrees (serial (happeningsAfter [] lateSnapshot)) (zeros base)))
@@ -71,7 +96,7 @@ dirty-refused = tt
 -- a right run whose writes were stored nowhere: the reads agree, the end does not
 unstored-refused : T (not (serializes (happenings base stored) (fresh base)))
 unfolding computed stored
-unstored-refused = tt
+unstored-refused = subst (λ (hs : List Happening). T (not (serializes hs (fresh base)))) (sym (happenings-so stored)) tt
 
 -- ---- the undisturbed query: the same calls, the same answers
 query-calls : callsOf 1 quietly ≡ callsOf 1 among
@@ -80,11 +105,11 @@ query-calls = refl
 
 query-alone : heard 1 (run base (BeginQuery ∷ quietly) (fresh base)) ≡ undisturbed
 unfolding computed quietly undisturbed
-query-alone = refl
+query-alone = ap (heard 1) (run-so (BeginQuery ∷ quietly)) ∙ refl
 
 query-among : heard 1 (run base (BeginQuery ∷ among) (fresh base)) ≡ undisturbed
 unfolding computed among undisturbed
-query-among = refl
+query-among = ap (heard 1) (run-so (BeginQuery ∷ among)) ∙ refl
 
 -- ---- an update is disturbed, so that the statement is not empty: the same call, another number
 update-calls : callsOf 1 updateAlone ≡ callsOf 1 updateAfter
@@ -93,8 +118,8 @@ update-calls = refl
 
 update-alone : heard 1 (run base updateAlone (fresh base)) ≡ heardAlone
 unfolding computed updateAlone heardAlone
-update-alone = refl
+update-alone = ap (heard 1) (run-so updateAlone) ∙ refl
 
 update-after : heard 1 (run base updateAfter (fresh base)) ≡ heardAfter
 unfolding computed updateAfter heardAfter
-update-after = refl
+update-after = ap (heard 1) (run-so updateAfter) ∙ refl

@@ -1,36 +1,53 @@
--- What the small runs are answered, by computation.
+-- What the small runs are answered, by computation, on tables that stay good and so are not tested at each call.
 use Prim.Native.Nat.{ℕ}
 use mathlib.Core.List.{List}
-use mathlib.Core.Path.{_≡_, refl}
+use mathlib.Core.Path.{_≡_, refl, ap, _∙_}
+use native.Mathlib.Omega.{arith}
+use Rattle.names.specs.Sizes.{base}
 use Rattle.rules.specs.Words.{implies, everyBelow, someBelow, countBelow, firstFrom, every, some, tabulateFrom, row, everyRow, mapRows, bit, withBit, withoutBit}
 use Rattle.rules.specs.Tables.{txn, setTxn, setAwaited, reranked, live, liveUpdate, liveQuery, slotOf, freeSlot, startsFrom, starts, lock, setLock, holdsShared, holdsExclusive, holds, exclusivesOf, released, release, fresh}
 use Rattle.rules.specs.Versions.{pairs, versionsIn, versionsOf, pairWords, rowOf, stampAt, newest, place, choice, readBySome, keptFrom, kept, rewritten}
 use Rattle.rules.specs.Waits.{awaits, awaitsOn, waitersOn, exchangersOn, rankFor, raised, lowered, noted, closedUp, conflicts, ahead, blocks, blocked, waitsFor, marked, spread, rounds, reached, circleAt, noCircle}
-use Rattle.rules.specs.Tested.{sizesExact, topsMost, freeZero, listed, startGood, awaitedGood, awaiterGood, txnGood, distinct, holdersLive, lockGood, quotaMost, fullIdle, quotaGood, rankWithin, ranksApart, ranksGood, falls, lastOld, allRead, versionsGood, good}
 use Rattle.rules.specs.Locks.{heldBy, decide, anotherShares, anotherExcludes, anotherAhead, decision}
-use Rattle.rules.specs.Step.{beginBy, conflicted, cellDeed, access, awaitsOther, writesFurther, readBy, writeBy, commitBy, abortBy, judged, begun, cleared, locked, queryRead, withNew, committed, ended, aborted, done, act, step}
+use Rattle.rules.specs.Step.{beginBy, conflicted, cellDeed, access, awaitsOther, writesFurther, readBy, writeBy, commitBy, abortBy, judged, begun, cleared, locked, queryRead, withNew, committed, ended, aborted, done, act}
 use Rattle.rules.specs.Answers.{Call}
-use Rattle.history.specs.Runs.{run, endOf}
+use Rattle.rules.proofs.Fresh.{fresh-good}
+use Rattle.history.specs.Runs.{endOf}
+use Rattle.history.proofs.Happens.{run-good}
+use Rattle.history.proofs.Played.{played, playedEnd, run-played, end-played}
 use Rattle.line_samples.specs.Samples.{codesIn, codes, held, reader, readerCodes, upload, uploadCodes}
 use Rattle.line_samples.specs.Samples.{queued, givenUp, exchange, exchanger, exchangerCodes, refusal, refusalCodes}
 
 -- whoever unfolds this computes with all the rules
 unfoldable pub computed : List Call → List ℕ
-unfolding run endOf codesIn codes held queued exchange givenUp implies everyBelow someBelow countBelow firstFrom every some tabulateFrom row everyRow mapRows bit withBit withoutBit txn setTxn setAwaited reranked live liveUpdate liveQuery slotOf freeSlot startsFrom starts lock setLock holdsShared holdsExclusive holds exclusivesOf released release fresh pairs versionsIn versionsOf pairWords rowOf stampAt newest place choice readBySome keptFrom kept rewritten awaits awaitsOn waitersOn exchangersOn rankFor raised lowered noted closedUp conflicts ahead blocks blocked waitsFor marked spread rounds reached circleAt noCircle sizesExact topsMost freeZero listed startGood awaitedGood awaiterGood txnGood distinct holdersLive lockGood quotaMost fullIdle quotaGood rankWithin ranksApart ranksGood falls lastOld allRead versionsGood good heldBy decide anotherShares anotherExcludes anotherAhead decision beginBy conflicted cellDeed access awaitsOther writesFurther readBy writeBy commitBy abortBy judged begun cleared locked queryRead withNew committed ended aborted done act step
-computed cs = codes cs
+unfolding played playedEnd codesIn held queued exchange givenUp implies everyBelow someBelow countBelow firstFrom every some tabulateFrom row everyRow mapRows bit withBit withoutBit txn setTxn setAwaited reranked live liveUpdate liveQuery slotOf freeSlot startsFrom starts lock setLock holdsShared holdsExclusive holds exclusivesOf released release fresh pairs versionsIn versionsOf pairWords rowOf stampAt newest place choice readBySome keptFrom kept rewritten awaits awaitsOn waitersOn exchangersOn rankFor raised lowered noted closedUp conflicts ahead blocks blocked waitsFor marked spread rounds reached circleAt noCircle heldBy decide anotherShares anotherExcludes anotherAhead decision beginBy conflicted cellDeed access awaitsOther writesFurther readBy writeBy commitBy abortBy judged begun cleared locked queryRead withNew committed ended aborted done act
+computed cs = codesIn (played base cs (fresh base))
+
+-- these are the codes, and the tables at the end, of one run and of another after it
+codes-so : (cs : List Call) → codes cs ≡ codesIn (played base cs (fresh base))
+unfolding codes
+codes-so cs = ap codesIn (run-played base (omega arith) cs (fresh base) (fresh-good base (omega arith)))
+
+pub end-so : (cs : List Call) → endOf base cs (fresh base) ≡ playedEnd base cs (fresh base)
+end-so cs = end-played base (omega arith) cs (fresh base) (fresh-good base (omega arith))
+
+pub ends-so : (cs ds : List Call) → endOf base ds (endOf base cs (fresh base)) ≡ playedEnd base ds (playedEnd base cs (fresh base))
+ends-so cs ds =
+    end-played base (omega arith) ds (endOf base cs (fresh base)) (run-good base (omega arith) (omega arith) cs)
+    ∙ ap (playedEnd base ds) (end-so cs)
 
 reader-codes : codes reader ≡ readerCodes
 unfolding computed reader readerCodes
-reader-codes = refl
+reader-codes = codes-so reader ∙ refl
 
 upload-codes : codes upload ≡ uploadCodes
 unfolding computed upload uploadCodes
-upload-codes = refl
+upload-codes = codes-so upload ∙ refl
 
 exchanger-codes : codes exchanger ≡ exchangerCodes
 unfolding computed exchanger exchangerCodes
-exchanger-codes = refl
+exchanger-codes = codes-so exchanger ∙ refl
 
 refusal-codes : codes refusal ≡ refusalCodes
 unfolding computed refusal refusalCodes
-refusal-codes = refl
+refusal-codes = codes-so refusal ∙ refl

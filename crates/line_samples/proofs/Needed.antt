@@ -1,9 +1,9 @@
 -- The promise is false without each of its suppositions: an update waits to read item 5, which update 1 wrote, asks again and is not granted.
 use Prim.Native.Nat.{ℕ, _<_}
-use mathlib.Core.List.{[], _∷_}
+use mathlib.Core.List.{List, [], _∷_}
 use mathlib.Core.Bool.{Bool, _&&_}
 use mathlib.Core.Logic.{_⊎_, inl, inr}
-use mathlib.Core.Path.{_≡_, refl, sym, ap, _∙_}
+use mathlib.Core.Path.{_≡_, refl, sym, ap, subst, _∙_}
 use native.Mathlib.Omega.{arith}
 use lib.Dec.{T, eqb, eqb→eq}
 use Rattle.names.specs.Sizes.{base}
@@ -11,7 +11,8 @@ use Rattle.rules.specs.Tables.{Tables, fresh, txn, live, slotOf, lock, holds, h
 use Rattle.rules.specs.Waits.{awaitsOn}
 use Rattle.rules.specs.Good.{Good}
 use Rattle.rules.specs.Locks.{toRead}
-use Rattle.rules.specs.Answers.{Read, Write, Commit, Abort, code, Wait, UnknownTransaction}
+use Rattle.rules.specs.Answers.{Call, Read, Write, Commit, Abort, Outcome, code, Wait, UnknownTransaction}
+use Rattle.rules.specs.Step.{act}
 use Rattle.rules.specs.Promises.{codeOf}
 use Rattle.rules.proofs.Tests.{and-left, and-right}
 use Rattle.rules.proofs.EqualRanks.{awaitsOn→}
@@ -19,9 +20,10 @@ use Rattle.rules.proofs.Decisions.{holder-alone}
 use Rattle.rules.proofs.Callers.{caller-found}
 use Rattle.history.specs.Runs.{endOf}
 use Rattle.history.proofs.Happens.{run-good, good-run}
+use Rattle.history.proofs.Played.{playedEnd, step-act}
 use Rattle.line.specs.Served.{Waiting, Before, Gone, EveryCall, StillWaits, AllEnded, NoneExchanges}
 use Rattle.line_samples.specs.Samples.{held, queued, exchange, givenUp, HoldersEnded, EndsNeeded, WaitersNeeded, ExchangesNeeded, WaitNeeded}
-use Rattle.line_samples.proofs.Computed.{computed}
+use Rattle.line_samples.proofs.Computed.{computed, end-so, ends-so}
 
 -- ---- what is computed of tables, each time as one test: that the update n, in slot s, waits to read item 5, which update 1 holds
 -- exclusively, in slot 0, and has the rank p
@@ -34,6 +36,24 @@ waitsAt n s p G =
 -- that 1 is found no more, and n's asking is answered k
 unfoldable asksAt : ℕ → ℕ → Tables → Bool
 asksAt n k G = eqb (slotOf base (G .txns) 1) (base .slots) && eqb (codeOf base (Read n 5) G) k
+
+-- the same, as it is computed: the asking of tables that are good, so without the test of them
+unfoldable actsAt : ℕ → ℕ → Tables → Bool
+actsAt n k G = eqb (slotOf base (G .txns) 1) (base .slots) && eqb ((act base (Read n 5) G) .answer .code) k
+
+waits-so : (n s p : ℕ) (cs : List Call) → T (waitsAt n s p (playedEnd base cs (fresh base))) → T (waitsAt n s p (endOf base cs (fresh base)))
+waits-so n s p cs h = subst (λ (G : Tables). T (waitsAt n s p G)) (sym (end-so cs)) h
+
+asks-so :
+    (n k : ℕ) (cs ds : List Call)
+    → T (actsAt n k (playedEnd base ds (playedEnd base cs (fresh base))))
+    → T (asksAt n k (endOf base ds (endOf base cs (fresh base))))
+unfolding asksAt actsAt
+asks-so n k cs ds h =
+    let E = endOf base ds (endOf base cs (fresh base)) in
+    let g : Good base E = good-run base (omega arith) ds (endOf base cs (fresh base)) (run-good base (omega arith) (omega arith) cs) in
+    subst (λ (o : Outcome). T (eqb (slotOf base (E .txns) 1) (base .slots) && eqb (o .answer .code) k)) (sym (step-act base (Read n 5) E g))
+    (subst (λ (G : Tables). T (actsAt n k G)) (sym (ends-so cs ds)) h)
 
 module _ (n s p : ℕ) (G : Tables) (inside : s < base .slots) (h : T (waitsAt n s p G)) where
   abbrev A : Bool
@@ -99,7 +119,7 @@ good-G = run-good base (omega arith) (omega arith) held
 
 held-so : T (waitsAt 2 1 1 G)
 unfolding computed waitsAt
-held-so = tt
+held-so = waits-so 2 1 1 held tt
 
 two-waits : Waiting base G toRead 2 1 5
 two-waits = waits 2 1 1 G (omega arith) held-so
@@ -119,7 +139,9 @@ only-one m B = first (B .there)
 -- ---- 1 has not ended
 not-yet : codeOf base (Read 2 5) G ≡ code Wait
 unfolding computed
-not-yet = refl
+not-yet =
+    ap (λ (o : Outcome). o .answer .code) (step-act base (Read 2 5) G good-G)
+    ∙ ap (λ (H : Tables). (act base (Read 2 5) H) .answer .code) (end-so held) ∙ refl
 
 pub ends-needed : EndsNeeded
 unfolding EveryCall endOf
@@ -127,8 +149,8 @@ ends-needed P = let z = P G [] toRead 2 1 5 0 good-G two-waits (tt, tt) in let w
 
 -- ---- 1 has ended, and 3 exchanged
 exchanged-so : T (asksAt 2 (code Wait) (endOf base exchange G))
-unfolding computed asksAt
-exchanged-so = tt
+unfolding computed actsAt
+exchanged-so = asks-so 2 (code Wait) held exchange tt
 
 still : StillWaits base G 2 exchange
 unfolding EveryCall exchange
@@ -143,8 +165,8 @@ exchanges-needed P =
 
 -- ---- 1 has ended, and 2 was aborted
 aborted-so : T (asksAt 2 (code UnknownTransaction) (endOf base givenUp G))
-unfolding computed asksAt
-aborted-so = tt
+unfolding computed actsAt
+aborted-so = asks-so 2 (code UnknownTransaction) held givenUp tt
 
 none-exchanges : NoneExchanges base G 2 1 5 givenUp
 unfolding EveryCall givenUp
@@ -166,11 +188,11 @@ good-Q = run-good base (omega arith) (omega arith) queued
 
 queued-so : T (waitsAt 3 2 2 Q)
 unfolding computed waitsAt
-queued-so = tt
+queued-so = waits-so 3 2 2 queued tt
 
 ended-so : T (asksAt 3 (code Wait) (endOf base (Commit 1 ∷ []) Q))
-unfolding computed asksAt
-ended-so = tt
+unfolding computed actsAt
+ended-so = asks-so 3 (code Wait) queued (Commit 1 ∷ []) tt
 
 pub waiters-needed : WaitersNeeded
 unfolding EveryCall
