@@ -19,9 +19,8 @@ use Rattle.rules.specs.Tables.{Tables, tables, lastNumber, txnWords, lockWords,
 use Rattle.rules.specs.Answers.{Call, BeginUpdate, BeginQuery, Read, Write, Commit, Outcome}
 use Rattle.rules.specs.Tested.{good}
 use Rattle.rules.specs.Good.{Good}
-use Rattle.rules.proofs.Tests.{is-true}
 use Rattle.rules.proofs.Equal.{Good→good}
-use Rattle.rules.proofs.Steps.{step-good}
+use Rattle.rules.proofs.Steps.{acts}
 use Rattle.rules.proofs.Keeps.{keeps}
 use Rattle.rules.proofs.Fresh.{fresh-good}
 use Rattle.empty.specs.Calls.{isWord, callOfWords, isRead, isBegin}
@@ -43,15 +42,12 @@ tablesAfter cs = leave cs (fresh base)
 unfoldable pub right : Input → Outcome
 right i = step base (i .call) (i .before)
 
-step-act : (c : Call) (G : Tables) → Good base G → step base c G ≡ act base c G
-step-act c G g = step-good base c G (is-true _ (Good→good base G g))
-
 leave-good : (cs : List Call) (G : Tables) → Good base G → Good base (leave cs G)
 unfolding leave
 leave-good [] G g = g
 leave-good (c ∷ cs) G g =
     leave-good cs ((act base c G) .after)
-    (subst (λ (o : Outcome). Good base (o .after)) (step-act c G g) (keeps base (omega arith) c G g))
+    (subst (λ (o : Outcome). Good base (o .after)) (acts base c G g) (keeps base (omega arith) c G g))
 
 after-good : (cs : List Call) → Good base (tablesAfter cs)
 unfolding tablesAfter
@@ -60,7 +56,7 @@ after-good cs = leave-good cs (fresh base) (fresh-good base (omega arith))
 -- on good tables the rules answer and leave the same without the test
 right-act : (i : Input) → Good base (i .before) → right i ≡ act base (i .call) (i .before)
 unfolding right
-right-act i g = step-act (i .call) (i .before) g
+right-act i g = acts base (i .call) (i .before) g
 
 right-answer : (i : Input) → Good base (i .before) → (right i) .answer ≡ (act base (i .call) (i .before)) .answer
 right-answer i g = ap (λ (o : Outcome). o .answer) (right-act i g)

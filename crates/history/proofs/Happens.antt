@@ -13,13 +13,11 @@ use Rattle.names.specs.declared.Answer.{Answer}
 use Rattle.names.specs.Sizes.{firstStamp}
 use Rattle.rules.specs.Words.{some}
 use Rattle.rules.specs.Tables.{Tables, clock, txn, live, anUpdate, aQuery, fresh}
-use Rattle.rules.specs.Tested.{good}
 use Rattle.rules.specs.Good.{Good}
 use Rattle.rules.specs.Answers.{Call, Commit, Outcome, granted, refuses, code, Refusal, BadTables, Deed, Wait}
 use Rattle.rules.specs.Step.{queryRead, judged, done, act, step}
 use Rattle.rules.proofs.Tests.{is-true, is-false, eq-make}
-use Rattle.rules.proofs.Steps.{step-good}
-use Rattle.rules.proofs.Equal.{Good→good}
+use Rattle.rules.proofs.Steps.{acts}
 use Rattle.rules.proofs.EqualRows.{live-number, update-live}
 use Rattle.rules.proofs.Keeps.{keeps}
 use Rattle.rules.proofs.Fresh.{fresh-good}
@@ -119,12 +117,9 @@ module _ (S : Sizes) (enough : S .slots ≤ S .places) (G : Tables) (g : Good S 
 
 -- ---- a step
 module _ (S : Sizes) (enough : S .slots ≤ S .places) where
-  pub acts : (c : Call) (G : Tables) → Good S G → step S c G ≡ act S c G
-  acts c G g = step-good S c G (is-true (good S G) (Good→good S G g))
-
   pub step-happens : (c : Call) (G : Tables) → Good S G → Happens S G c (step S c G)
   unfolding act
-  step-happens c G g = subst (λ (o : Outcome). Happens S G c o) (sym (acts c G g)) (happens S enough G g c (judged S c G) (way S G g c))
+  step-happens c G g = subst (λ (o : Outcome). Happens S G c o) (sym (acts S c G g)) (happens S enough G g c (judged S c G) (way S G g c))
 
   module _ (c : Call) (G : Tables) (g : Good S G) (us : List ℕ) (K : Known us (seen S G)) where
     abbrev h : Happening

@@ -7,9 +7,7 @@ use Rattle.rules.specs.Tables.{Tables}
 use Rattle.rules.specs.Good.{Good}
 use Rattle.rules.specs.Answers.{Call, Outcome}
 use Rattle.rules.specs.Step.{act, step}
-use Rattle.rules.proofs.Tests.{is-true}
-use Rattle.rules.proofs.Equal.{Good→good}
-use Rattle.rules.proofs.Steps.{step-good}
+use Rattle.rules.proofs.Steps.{acts}
 use Rattle.rules.proofs.Keeps.{keeps}
 use Rattle.history.specs.Runs.{Event, run, endOf}
 
@@ -22,10 +20,6 @@ unfoldable pub playedEnd : Sizes → List Call → Tables → Tables
 playedEnd S [] G = G
 playedEnd S (c ∷ cs) G = playedEnd S cs ((act S c G) .after)
 
--- one call
-pub step-act : (S : Sizes) (c : Call) (G : Tables) → Good S G → step S c G ≡ act S c G
-step-act S c G g = step-good S c G (is-true _ (Good→good S G g))
-
 -- from good tables that is the same
 pub run-played : (S : Sizes) → S .slots ≤ S .places → (cs : List Call) (G : Tables) → Good S G → run S cs G ≡ played S cs G
 unfolding run played
@@ -33,11 +27,11 @@ run-played S enough [] G g = refl
 run-played S enough (c ∷ cs) G g =
     let o = step S c G in
     ap (λ (es : List Event). record { call = c; answer = o .answer } ∷ es) (run-played S enough cs (o .after) (keeps S enough c G g))
-    ∙ ap (λ (o : Outcome). record { call = c; answer = o .answer } ∷ played S cs (o .after)) (step-act S c G g)
+    ∙ ap (λ (o : Outcome). record { call = c; answer = o .answer } ∷ played S cs (o .after)) (acts S c G g)
 
 pub end-played : (S : Sizes) → S .slots ≤ S .places → (cs : List Call) (G : Tables) → Good S G → endOf S cs G ≡ playedEnd S cs G
 unfolding endOf playedEnd
 end-played S enough [] G g = refl
 end-played S enough (c ∷ cs) G g =
     end-played S enough cs ((step S c G) .after) (keeps S enough c G g)
-    ∙ ap (λ (o : Outcome). playedEnd S cs (o .after)) (step-act S c G g)
+    ∙ ap (λ (o : Outcome). playedEnd S cs (o .after)) (acts S c G g)

@@ -16,12 +16,13 @@ use Rattle.rules.specs.Answers.{UnknownTransaction, Refused, UnknownItem, Query
 use Rattle.rules.specs.Step.{readBy, writeBy, commitBy, abortBy, judged, done, act, step, queryRead, awaitsOther}
 use Rattle.rules.proofs.Callers.{Caller, caller-in, is-query, is-update, caller-found, query-kind}
 use Rattle.rules.proofs.EqualRows.{query-live}
+use Rattle.rules.proofs.Steps.{acts}
 use Rattle.history.specs.Happened.{names, did, told, happened}
 use Rattle.history.specs.Undisturbed.{said}
 use Rattle.history.proofs.Invariant.{View}
 use Rattle.history.proofs.Turns.{Known}
 use Rattle.history.proofs.Seen.{seen, seen-fair}
-use Rattle.history.proofs.Happens.{acts, step-happens, granted-turn, step-turn}
+use Rattle.history.proofs.Happens.{step-happens, granted-turn, step-turn}
 use Rattle.history.proofs.Tables.{readAt}
 use Rattle.history.proofs.Standing.{Unknown, unknown-on, over-unknown, Held, leaves, none-leaves, held-on, Standing, reading, over, Stands}
 
@@ -56,7 +57,7 @@ module _ (S : Sizes) (n : ℕ) (G : Tables) (g : Good S G) (U : Unknown n (seen 
 module _ (S : Sizes) (enough : S .slots ≤ S .places) where
   pub unknown-answer : (n : ℕ) (G : Tables) → Good S G → Unknown n (seen S G) → (c : Call) → T (names n c) → step S c G ≡ refuses UnknownTransaction G
   unfolding act done
-  unknown-answer n G g U c a = acts S enough c G g ∙ ap (λ d. done S d G) (unknown-judged S n G g U c a)
+  unknown-answer n G g U c a = acts S c G g ∙ ap (λ d. done S d G) (unknown-judged S n G g U c a)
 
   pub unknown-step : (n : ℕ) (c : Call) (G : Tables) → Good S G → Unknown n (seen S G) → Unknown n (seen S ((step S c G) .after))
   unknown-step n c G g U = unknown-on (S .items) (seen S G) _ n (step-happens S enough c G g .turn) U
@@ -153,7 +154,7 @@ module _ (S : Sizes) (enough : S .slots ≤ S .places) (n : ℕ) (G : Tables) (g
 
     by-act : (c : Call) {a : ℕ × ℕ} → short (done S (judged S c G) G) ≡ a → short (step S c G) ≡ a
     unfolding act
-    by-act c e = ap {B = ℕ × ℕ} (λ (o : Outcome). short o) (acts S enough c G g) ∙ e
+    by-act c e = ap {B = ℕ × ℕ} (λ (o : Outcome). short o) (acts S c G g) ∙ e
 
     replied : (c : Call) → T (names n c) → Replied c
     unfolding judged names reply leaves happened told did

@@ -8,9 +8,9 @@ use Rattle.rules.specs.Good.{Good}
 use Rattle.rules.specs.Tested.{good}
 use Rattle.rules.specs.Answers.{Call, Deed, Outcome}
 use Rattle.rules.specs.Step.{judged, done, act, step}
-use Rattle.rules.proofs.Tests.{true-is, is-true}
-use Rattle.rules.proofs.Equal.{good→Good, Good→good}
-use Rattle.rules.proofs.Steps.{step-good}
+use Rattle.rules.proofs.Tests.{true-is}
+use Rattle.rules.proofs.Equal.{good→Good}
+use Rattle.rules.proofs.Steps.{acts}
 use Rattle.rules.proofs.Judged.{way}
 use Rattle.rules.proofs.Ways.{Way, refused, waited, beganUpdate, beganQuery, readOwn, readNewest, readShared, readQuery}
 use Rattle.rules.proofs.Ways.{wroteOwn, wroteTaken, committedUpdate, committedQuery, abortedUpdate, abortedQuery}
@@ -47,4 +47,4 @@ judged-able G g c {d} e = subst (Able G) (sym e) (way-able G c (judged base c G)
 pub judged-done : (G : Tables) → Good base G → (c : Call) {d : Deed} {o : Outcome} → d ≡ judged base c G → o ≡ done base d G → o ≡ step base c G
 unfolding act
 judged-done G g c {d} {o} e f =
-    f ∙ ap (λ (d : Deed). done base d G) e ∙ sym (step-good base c G (is-true (good base G) (Good→good base G g)))
+    f ∙ ap (λ (d : Deed). done base d G) e ∙ sym (acts base c G g)

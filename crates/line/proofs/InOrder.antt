@@ -1,5 +1,5 @@
 -- Whoever waits keeps its place: after each way that a call can go, those who stand in a line stood there in the same order.
-use Prim.Native.Nat.{ℕ, _+_, _≤_, _<_}
+use Prim.Native.Nat.{ℕ, _≤_, _<_}
 use mathlib.Core.Path.{_≡_, refl, sym, ap, _∙_, subst}
 use mathlib.Core.Logic.{_≢_}
 use mathlib.Core.Bool.{Bool, true, false}
@@ -10,11 +10,11 @@ use lib.Dec.{T, ltb}
 use borrow.Author.Tests.{ltb-true, ltb-false}
 use Rattle.names.specs.declared.Sizes.{Sizes}
 use Rattle.names.specs.Layout.{txnHead, lastNumberAt, clockAt}
-use Rattle.rules.specs.Tables.{Tables, tables, txnWords, lastNumber, clock, Txn, txn, setTxn, newTxn, noTxn, noLock, lock}
+use Rattle.rules.specs.Tables.{Tables, tables, txnWords, Txn, txn, setTxn, noTxn, noLock, lock}
 use Rattle.rules.specs.Waits.{awaits, awaitsOn, noted, closedUp}
 use Rattle.rules.specs.Good.{Good}
 use Rattle.rules.specs.Answers.{Outcome, Call, Deed}
-use Rattle.rules.specs.Step.{judged, done, queryRead, begun, cleared, locked, committed, ended, aborted}
+use Rattle.rules.specs.Step.{act, judged, done, queryRead, begun, cleared, locked, committed, ended, aborted}
 use Rattle.rules.specs.Promises.{after}
 use Rattle.rules.proofs.Tests.{true-is, false-is}
 use Rattle.rules.proofs.EqualRanks.{awaits→, awaitsOn→}
@@ -23,7 +23,7 @@ use Rattle.rules.proofs.Noting.{noted-known, closed-length, closed-row}
 use Rattle.rules.proofs.Waited.{only-this, cleared-there, cleared-idle}
 use Rattle.rules.proofs.Judged.{way}
 use Rattle.rules.proofs.Keeps.{keeps}
-use Rattle.rules.proofs.Waiting.{acts}
+use Rattle.rules.proofs.Steps.{acts}
 use Rattle.rules.proofs.Ways.{Way, Waiter, refused, waited, beganUpdate, beganQuery, readOwn, readNewest, readShared, readQuery}
 use Rattle.rules.proofs.Ways.{wroteOwn, wroteTaken, committedUpdate, committedQuery, abortedUpdate, abortedQuery}
 use Rattle.line.specs.InOrder.{OrderKept}
@@ -111,6 +111,7 @@ module _
 
 -- no two have one rank, so who stood ahead stands ahead
 pub order-kept : (S : Sizes) → S .slots ≤ S .places → OrderKept S
+unfolding act
 order-kept S fits c G x a b g i j h k v w low = go (ltb ra rb) refl
   where
     t′ : List ℕ

@@ -18,9 +18,10 @@ use Rattle.rules.proofs.Tests.{and-left, and-right}
 use Rattle.rules.proofs.EqualRanks.{awaitsOn→}
 use Rattle.rules.proofs.Decisions.{holder-alone}
 use Rattle.rules.proofs.Callers.{caller-found}
+use Rattle.rules.proofs.Steps.{acts}
 use Rattle.history.specs.Runs.{endOf}
 use Rattle.history.proofs.Happens.{run-good, good-run}
-use Rattle.history.proofs.Played.{playedEnd, step-act}
+use Rattle.history.proofs.Played.{playedEnd}
 use Rattle.line.specs.Served.{Waiting, Before, Gone, EveryCall, StillWaits, AllEnded, NoneExchanges}
 use Rattle.line_samples.specs.Samples.{held, queued, exchange, givenUp, HoldersEnded, EndsNeeded, WaitersNeeded, ExchangesNeeded, WaitNeeded}
 use Rattle.line_samples.proofs.Computed.{computed, end-so, ends-so}
@@ -52,7 +53,7 @@ unfolding asksAt actsAt
 asks-so n k cs ds h =
     let E = endOf base ds (endOf base cs (fresh base)) in
     let g : Good base E = good-run base (omega arith) ds (endOf base cs (fresh base)) (run-good base (omega arith) (omega arith) cs) in
-    subst (λ (o : Outcome). T (eqb (slotOf base (E .txns) 1) (base .slots) && eqb (o .answer .code) k)) (sym (step-act base (Read n 5) E g))
+    subst (λ (o : Outcome). T (eqb (slotOf base (E .txns) 1) (base .slots) && eqb (o .answer .code) k)) (sym (acts base (Read n 5) E g))
     (subst (λ (G : Tables). T (actsAt n k G)) (sym (ends-so cs ds)) h)
 
 module _ (n s p : ℕ) (G : Tables) (inside : s < base .slots) (h : T (waitsAt n s p G)) where
@@ -140,7 +141,7 @@ only-one m B = first (B .there)
 not-yet : codeOf base (Read 2 5) G ≡ code Wait
 unfolding computed
 not-yet =
-    ap (λ (o : Outcome). o .answer .code) (step-act base (Read 2 5) G good-G)
+    ap (λ (o : Outcome). o .answer .code) (acts base (Read 2 5) G good-G)
     ∙ ap (λ (H : Tables). (act base (Read 2 5) H) .answer .code) (end-so held) ∙ refl
 
 pub ends-needed : EndsNeeded

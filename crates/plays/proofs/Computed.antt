@@ -16,9 +16,8 @@ use Rattle.rules.specs.Locks.{heldBy, decide, anotherShares, anotherExcludes, a
 use Rattle.rules.specs.Step.{begun, beginBy, conflicted, cleared, locked, cellDeed, access, awaitsOther, writesFurther, queryRead, readBy, writeBy, withNew, committed, ended, commitBy, aborted, abortBy, judged, done, act, step}
 use Rattle.rules.specs.Answers.{Outcome}
 use Rattle.rules.specs.Good.{Good}
-use Rattle.rules.proofs.Tests.{is-true, and-left, and-right, and-both}
-use Rattle.rules.proofs.Equal.{Good→good}
-use Rattle.rules.proofs.Steps.{step-good}
+use Rattle.rules.proofs.Tests.{and-left, and-right, and-both}
+use Rattle.rules.proofs.Steps.{acts}
 use Rattle.rules.proofs.Keeps.{keeps}
 use Rattle.rules.proofs.Fresh.{fresh-good}
 use Rattle.rules.specs.Tables.{Tables}
@@ -39,7 +38,7 @@ module _ (S : Sizes) (enough : S .slots ≤ S .places) where
   played-passes [] end G g h = h
   played-passes (l ∷ ls) end G g h =
       let a = answers l ((act S (l .call) G) .answer) in
-      let e : act S (l .call) G ≡ step S (l .call) G = sym (step-good S (l .call) G (is-true _ (Good→good S G g))) in
+      let e : act S (l .call) G ≡ step S (l .call) G = sym (acts S (l .call) G g) in
       let o = step S (l .call) G in
       and-both (answers l (o .answer)) (passes S ls end (o .after))
       (subst (λ (o : Outcome). T (answers l (o .answer))) e (and-left a _ h))

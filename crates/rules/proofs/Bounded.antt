@@ -15,15 +15,13 @@ use Rattle.rules.specs.Words.{row}
 use Rattle.rules.specs.Tables.{Tables, lastNumber, clock, txn, liveUpdate, Lock, lockRow, lockWords, lock, setLock, holdsExclusive, released, release, starts, versionRow, fresh}
 use Rattle.rules.specs.Versions.{Version, noVersion, pairs, versionsIn, versionsOf, newest, place, choice, readBySome, keptFrom, kept}
 use Rattle.rules.specs.Good.{Good}
-use Rattle.rules.specs.Tested.{good}
 use Rattle.rules.specs.Answers.{Call, BeginUpdate, BeginQuery, Read, Write, Commit, Abort, Outcome, Refusal, code, Deed}
 use Rattle.rules.specs.Answers.{Wait}
 use Rattle.rules.specs.Step.{locked, replaced, taken, withNew, committed, ended, aborted, begun, queryRead, judged, done, act, step}
-use Rattle.rules.proofs.Tests.{is-true, same?}
+use Rattle.rules.proofs.Tests.{same?}
 use Rattle.rules.proofs.Choice.{length-versionsIn, place-le}
 use Rattle.rules.proofs.Views.{lock-setLock, lock-setLock-other, lock-release}
-use Rattle.rules.proofs.Equal.{Good→good}
-use Rattle.rules.proofs.Steps.{step-good, cond-case}
+use Rattle.rules.proofs.Steps.{acts, cond-case}
 use Rattle.rules.proofs.Fresh.{zeros, fresh-row, fresh-row-zero}
 use Rattle.rules.proofs.ChangedVersions.{ended-versions, committed-versions}
 use Rattle.rules.proofs.Judged.{way}
@@ -171,7 +169,7 @@ module _ (B : ℕ) where
         pub step-bounded : (c : Call) → Asks B c → Both (step S c G)
         unfolding act
         step-bounded c a =
-            subst Both (sym (step-good S c G (is-true (good S G) (Good→good S G g)))) (way-bounded c (judged S c G) a (way S G g c))
+            subst Both (sym (acts S c G g)) (way-bounded c (judged S c G) a (way S G g c))
 
 -- fresh tables hold zeros
 pub fresh-bounded : (B : ℕ) (S : Sizes) → Bounded B S (fresh S)

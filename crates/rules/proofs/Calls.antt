@@ -12,19 +12,16 @@ use Rattle.rules.specs.Tables.{Tables, lastNumber, clock, txn, liveUpdat
 use Rattle.rules.specs.Tables.{slotOf, freeSlot}
 use Rattle.rules.specs.Versions.{versionsOf, place, choice}
 use Rattle.rules.specs.Good.{Good}
-use Rattle.rules.specs.Tested.{good}
 use Rattle.rules.specs.Locks.{toRead, toWrite}
 use Rattle.rules.specs.Answers.{Call, BeginUpdate, BeginQuery, Read, Write, Commit, Abort, says, granted, refuses, QuotaSpent}
 use Rattle.rules.specs.Step.{step, act, judged, done, beginBy, begun, readBy, writeBy, commitBy, abortBy, queryRead, access, awaitsOther, writesFurther}
 use Rattle.rules.specs.Step.{committed, ended, aborted}
-use Rattle.rules.proofs.Tests.{is-true}
-use Rattle.rules.proofs.Equal.{Good→good}
-use Rattle.rules.proofs.Steps.{step-good}
+use Rattle.rules.proofs.Steps.{acts}
 use Rattle.rules.proofs.Callers.{Caller, caller-found, query-kind, update-kind}
 
 module _ (S : Sizes) (G : Tables) (g : Good S G) where
   on-good : (c : Call) → step S c G ≡ act S c G
-  on-good c = step-good S c G (is-true (good S G) (Good→good S G g))
+  on-good c = acts S c G g
 
   -- ---- begin
   module _ (room : freeSlot S (G .txns) < S .slots) (left : lastNumber (G .txns) ≢ lastWord) where

@@ -5,7 +5,7 @@ use mathlib.Core.Path.{_≡_, refl, sym, ap, _∙_, subst}
 use native.Mathlib.Omega.{arith}
 use lib.Dec.{T}
 use Rattle.names.specs.declared.Sizes.{Sizes}
-use Rattle.rules.specs.Words.{bit, withBit, withoutBit}
+use Rattle.rules.specs.Words.{bit, withBit}
 use Rattle.rules.specs.Tables.{Tables, txn, liveUpdate, liveQuery, Lock, lock, holds, holdsShared, holdsExclusive}
 use Rattle.rules.specs.Good.{Good}
 use Rattle.rules.specs.Locks.{Asked, toRead, toWrite}
@@ -13,10 +13,9 @@ use Rattle.rules.specs.Answers.{Read, Write, Outcome, Deed, granted}
 use Rattle.rules.specs.Step.{step, judged, act, done, locked, sharedToo, taken, replaced}
 use Rattle.rules.specs.Conditions.{Caller}
 use Rattle.rules.specs.Promises.{asking, HoldsFor, GrantedHolds}
-use Rattle.rules.proofs.Tests.{or-left, or-right, true-is, is-true, eq-make}
+use Rattle.rules.proofs.Tests.{or-left, or-right, true-is, eq-make}
 use Rattle.rules.proofs.Bits.{withBit-here, withoutBit-here}
-use Rattle.rules.proofs.Equal.{Good→good}
-use Rattle.rules.proofs.Steps.{step-good}
+use Rattle.rules.proofs.Steps.{acts}
 use Rattle.rules.proofs.Views.{lock-setLock}
 use Rattle.rules.proofs.Callers.{caller-found, query-not-update}
 use Rattle.rules.proofs.Decisions.{never-both}
@@ -74,9 +73,6 @@ pub granted-holds : (S : Sizes) → GrantedHolds S
 unfolding act
 granted-holds S G a n s x v C up z = go a (granted-good S (asking a n x v) G z) z
   where
-    acts : (a : Asked) → Good S G → step S (asking a n x v) G ≡ act S (asking a n x v) G
-    acts a g = step-good S (asking a n x v) G (is-true _ (Good→good S G g))
-
     go : (a : Asked) → Good S G → (step S (asking a n x v) G) .answer .code ≡ granted → HoldsFor a v (lock ((step S (asking a n x v) G) .after .locks) x) s
-    go toRead g z = rw (acts toRead g) (read-holds S G g n s C up x (judged S (Read n x) G) (way S G g (Read n x)) (rw (acts toRead g) at z))
-    go toWrite g z = rw (acts toWrite g) (write-holds S G g n s C up x v (judged S (Write n x v) G) (way S G g (Write n x v)) (rw (acts toWrite g) at z))
+    go toRead g z = rw (acts S (Read n x) G g) (read-holds S G g n s C up x (judged S (Read n x) G) (way S G g (Read n x)) (rw (acts S (Read n x) G g) at z))
+    go toWrite g z = rw (acts S (Write n x v) G g) (write-holds S G g n s C up x v (judged S (Write n x v) G) (way S G g (Write n x v)) (rw (acts S (Write n x v) G g) at z))

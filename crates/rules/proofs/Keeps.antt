@@ -8,13 +8,10 @@ use Rattle.names.specs.declared.Sizes.{Sizes}
 use Rattle.names.specs.Sizes.{lastWord}
 use Rattle.rules.specs.Tables.{Tables, lastNumber, lock, holdsExclusive}
 use Rattle.rules.specs.Good.{Good}
-use Rattle.rules.specs.Tested.{good}
 use Rattle.rules.specs.Answers.{Call, Outcome, Deed}
-use Rattle.rules.specs.Step.{step, act, judged, done, queryRead}
+use Rattle.rules.specs.Step.{act, judged, done, queryRead}
 use Rattle.rules.specs.Promises.{StaysGood}
-use Rattle.rules.proofs.Tests.{is-true}
-use Rattle.rules.proofs.Equal.{Good→good}
-use Rattle.rules.proofs.Steps.{step-good}
+use Rattle.rules.proofs.Steps.{acts}
 use Rattle.rules.proofs.Begins.{begun-good}
 use Rattle.rules.proofs.Waited.{only-this, waited-good, cleared-good}
 use Rattle.rules.proofs.Grants.{locked-good, shared-too, shared-others, shared-keeps, replaced-too, replaced-others, replaced-keeps, taken-good, taken-others, taken-keeps}
@@ -69,5 +66,5 @@ module _ (S : Sizes) (enough : S .slots ≤ S .places) (G : Tables) (g : Good S 
 pub keeps : (S : Sizes) → S .slots ≤ S .places → StaysGood S
 unfolding act
 keeps S enough c G g =
-    subst (λ (o : Outcome). Good S (o .after)) (sym (step-good S c G (is-true (good S G) (Good→good S G g))))
+    subst (λ (o : Outcome). Good S (o .after)) (sym (acts S c G g))
     (way-keeps S enough G g c (judged S c G) (way S G g c))

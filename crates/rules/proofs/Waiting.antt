@@ -2,10 +2,10 @@
 use Prim.Native.Nat.{ℕ, _<_}
 use mathlib.Core.Path.{_≡_, refl, sym, ap, _∙_, subst}
 use mathlib.Core.Logic.{_≢_, _⊎_, inl, inr}
-use mathlib.Core.Bool.{Bool, true, false, _&&_, not}
+use mathlib.Core.Bool.{Bool, true, false}
 use mathlib.Core.List.{List, [], _∷_}
 use native.Mathlib.Omega.{arith}
-use lib.Dec.{T, eqb, eqb→eq}
+use lib.Dec.{T}
 use lib.ListN.{set}
 use Rattle.names.specs.declared.Sizes.{Sizes}
 use Rattle.names.specs.Layout.{txnHead, lastNumberAt, clockAt}
@@ -14,16 +14,15 @@ use Rattle.rules.specs.Waits.{awaitsOn, noted, closedUp}
 use Rattle.rules.specs.Good.{Good}
 use Rattle.rules.specs.Answers.{Outcome, Call, BeginUpdate, BeginQuery, Read, Write, Commit, Abort, Deed, granted, code, Refusal}
 use Rattle.rules.specs.Answers.{Wait, Deadlock, UnknownTransaction, UnknownItem, QueryMayNotWrite, StillWaiting, NoSlot, NumbersSpent, ClockSpent, BadTables, QuotaSpent}
-use Rattle.rules.specs.Step.{step, act, judged, done, begun, cleared, locked, committed, ended, aborted, awaitsOther, queryRead, withTxns}
+use Rattle.rules.specs.Step.{act, judged, done, begun, cleared, locked, committed, ended, aborted, awaitsOther, queryRead, withTxns}
 use Rattle.rules.specs.Conditions.{Caller, Free, Updater, CallerIn, ConflictIn, Names, Wants, Circle, When, order, Answered}
 use Rattle.rules.specs.Promises.{codeOf, after, SameButRank, StaysWaiting, OthersLeave, RepeatedWaits}
-use Rattle.rules.proofs.Tests.{is-true, false-is, true-is, and-both, and-left, and-right, ne-make, not-make, same?}
-use Rattle.rules.proofs.Equal.{Good→good}
+use Rattle.rules.proofs.Tests.{false-is, true-is, ne-make, same?}
 use Rattle.rules.proofs.Views.{txn-setTxn-other, txn-top}
 use Rattle.rules.proofs.EqualRanks.{→awaits, awaitsOn→, →awaitsOn}
 use Rattle.rules.proofs.Noting.{noted-known, noted-there, closed-row}
 use Rattle.rules.proofs.Waited.{only-this, cleared-there}
-use Rattle.rules.proofs.Steps.{step-good}
+use Rattle.rules.proofs.Steps.{acts}
 use Rattle.rules.proofs.Callers.{caller-found}
 use Rattle.rules.proofs.Deadlock.{repeated}
 use Rattle.rules.proofs.Judged.{way}
@@ -184,11 +183,8 @@ module _ (S : Sizes) (G : Tables) (g : Good S G) (s : ℕ) (inside : s < S .slot
     own-row c d (abortedQuery n r C q) e = absurd (idle n r e C q)
 
 -- ---- told of `step`
-pub acts : (S : Sizes) (c : Call) (G : Tables) → Good S G → step S c G ≡ done S (judged S c G) G
-unfolding act
-acts S c G g = step-good S c G (is-true _ (Good→good S G g))
-
 pub others-leave : (S : Sizes) → OthersLeave S
+unfolding act
 others-leave S c G s g inside lives others =
     subst (λ (o : Outcome). SameButRank (txn (o .after .txns) s) (txn (G .txns) s)) (sym (acts S c G g))
     (other-row S G g s inside lives c (judged S c G) (way S G g c) others)
@@ -201,6 +197,7 @@ Shown G s c o =
     ⊎ (c ≡ Abort ((txn (G .txns) s) .number)))
 
 pub stays-waiting : (S : Sizes) → StaysWaiting S
+unfolding act
 stays-waiting S c G s g inside awaits = subst (Shown G s c) (sym (acts S c G g)) (go (named? c ((txn (G .txns) s) .number)))
   where
     go : Names c ((txn (G .txns) s) .number) ⊎ (Names c ((txn (G .txns) s) .number) → ⊥) → Shown G s c (done S (judged S c G) G)
