@@ -14,7 +14,7 @@ use Rattle.rules.specs.Waits.{awaits, awaitsOn, rankFor, conflicts, ahead, note
 use Rattle.rules.specs.Good.{Good}
 use Rattle.rules.specs.Locks.{Asked, toRead, toWrite, wanted}
 use Rattle.rules.specs.Answers.{Call, Abort, Outcome, granted, code}
-use Rattle.rules.specs.Step.{step, judged, awaitsOther, writesFurther, withTxns}
+use Rattle.rules.specs.Step.{act, step, judged, awaitsOther, writesFurther, withTxns}
 use Rattle.rules.specs.Conditions.{CallerIn, Names, Wants}
 use Rattle.rules.specs.Promises.{codeOf, after, asking, Passes, SameButRank}
 use Rattle.rules.proofs.Tests.{true-is, false-is, is-true, is-false, and-right, and-both, not-use, eq-make, ne-make}
@@ -30,7 +30,8 @@ use Rattle.rules.proofs.Calls.{update-aborts}
 use Rattle.rules.proofs.Decisions.{wanted-lock}
 use Rattle.rules.proofs.Judged.{way}
 use Rattle.rules.proofs.Keeps.{keeps}
-use Rattle.rules.proofs.Waiting.{acts, stays-waiting, one-caller, one-want}
+use Rattle.rules.proofs.Steps.{acts}
+use Rattle.rules.proofs.Waiting.{stays-waiting, one-caller, one-want}
 use Rattle.history.specs.Runs.{endOf}
 use Rattle.history.proofs.Happens.{good-run, run-good}
 use Rattle.line.specs.Served.{Waiting, Before, Gone, Exchange, EveryCall, Served, WaitsOn, WaitsFrom, ServedInRuns}
@@ -119,6 +120,7 @@ module _ (S : Sizes) (enough : S .slots ≤ S .places) (D : ℕ → Type 0) (a :
   one-call :
       (c : Call) (G : Tables) → Good S G → Inv S D a n s x G → (Names c n → codeOf S c G ≢ granted) → ((m : ℕ) → Exchange S G x c m → (m ≡ n) ⊎ D m)
       → Inv S D a n s x (after S c G)
+  unfolding act
   one-call c G g I quiet none =
       let e = acts S c G g in
       subst (λ (o : Outcome). Inv S D a n s x (o .after)) (sym e)
