@@ -130,7 +130,7 @@ fn versions(rng: &mut Rng, keeper: &mut Keeper, item: usize) {
     let mut kept = stamps.clone();
     kept.retain(|stamp| *stamp == newest || read.contains(stamp));
     if kept.len() > PLACES {
-        kept.remove(0); // 16 queries read 16 versions, so the newest is in excess
+        kept.remove(0); // as many queries as slots read all places, so the newest is in excess
     }
     let row = &mut keeper.versions[item * VERSION_ROW..][..VERSION_ROW];
     row.fill(0);

@@ -329,7 +329,7 @@ impl Stats {
         for (name, &count) in EVENTS.iter().zip(&self.events) {
             show(out, &format!("  {}", name), count)?;
         }
-        show(out, "  commits with a row of 16 versions", self.full_rows)?;
+        show(out, "  commits with a full row of versions", self.full_rows)?;
         writeln!(out, "  updates with as many items as they may write")?;
         for (name, count) in self.at_limit.each() {
             show(out, &format!("  {}", name), count)?;
