@@ -363,19 +363,19 @@ impl Tables<'_> {
         is_ahead || shares || self.holds_exclusive(other, item)
     }
 
-    /// Whether a walk of at most so many steps as there are slots leads from a slot
-    /// back to it.
+    /// Whether a walk leads from a slot back to it.
     fn on_circle(&self, slot: usize) -> bool {
         let mut reached = [false; SLOTS];
-        for _ in 0..SLOTS {
-            for next in 0..SLOTS {
-                let from = |at: usize| (at == slot || reached[at]) && self.waits_for(at, next);
-                if (0..SLOTS).any(from) {
-                    reached[next] = true;
-                }
+        loop {
+            let before = reached;
+            for next in (0..SLOTS).filter(|&next| !before[next]) {
+                let from = |at: usize| (at == slot || before[at]) && self.waits_for(at, next);
+                reached[next] = (0..SLOTS).any(from);
+            }
+            if reached == before {
+                return reached[slot];
             }
         }
-        reached[slot]
     }
 }
 

@@ -13,6 +13,7 @@ pub mod made;
 pub mod moods;
 pub mod odd_cases;
 pub mod process;
+pub mod rings;
 pub mod scene;
 pub mod scripts;
 pub mod shrink;
