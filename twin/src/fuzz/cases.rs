@@ -210,6 +210,9 @@ fn count(stats: &mut Stats, prepared: &Prepared) -> Option<String> {
         count.0 += u64::from(broken.contains(clause));
         count.1 += u64::from(broken == [*clause]);
     }
+    if broken.is_empty() {
+        stats.fullness.see(&prepared.case.tables);
+    }
     if is_bad == broken.is_empty() {
         let text = format!(
             "the twin disagrees with itself; clauses broken: {:?}\n",
