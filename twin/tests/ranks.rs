@@ -56,7 +56,14 @@ fn line_of_all(k: &mut Keeper) {
     *k = Keeper::fresh();
     k.txns[LAST_NUMBER] = 50;
     for slot in 0..SLOTS {
-        let words = [11 + slot as u64, UPDATE, 0, AWAITS_EXCLUSIVE, 0, (SLOTS - slot) as u64];
+        let words = [
+            11 + slot as u64,
+            UPDATE,
+            0,
+            AWAITS_EXCLUSIVE,
+            0,
+            (SLOTS - slot) as u64,
+        ];
         set_txn(k, slot, words);
     }
 }
@@ -101,7 +108,14 @@ fn a_circle_of_every_slot() {
                     31 => last,
                     _ => slot + 1,
                 };
-                let words = [11 + slot as u64, UPDATE, 0, AWAITS_SHARED, awaited as u64, 1];
+                let words = [
+                    11 + slot as u64,
+                    UPDATE,
+                    0,
+                    AWAITS_SHARED,
+                    awaited as u64,
+                    1,
+                ];
                 set_txn(k, slot, words);
                 set_lock(k, slot, [0, slot as u64 + 1, 0]);
             }

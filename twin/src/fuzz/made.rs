@@ -48,7 +48,7 @@ pub fn made(rng: &mut Rng) -> Keeper {
 }
 
 /// Who steps into a line first need not have the lowest slot.
-fn shuffled(rng: &mut Rng, mut slots: Vec<usize>) -> Vec<usize> {
+pub fn shuffled(rng: &mut Rng, mut slots: Vec<usize>) -> Vec<usize> {
     for last in (1..slots.len()).rev() {
         slots.swap(last, rng.index(last + 1));
     }

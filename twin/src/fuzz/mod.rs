@@ -4,6 +4,7 @@
 pub mod cases;
 pub mod damage;
 pub mod director;
+pub mod full;
 pub mod fullness;
 pub mod in_line;
 pub mod jobs;

@@ -12,8 +12,7 @@ use crate::sizes::*;
 /// of waits grows over all of them, and its end asks for what its first one holds.
 pub fn ring(rng: &mut Rng, scene: &Scene) -> Option<Call> {
     // Who waits and holds nothing is never waited for.
-    let useless =
-        |txn: &Txn| txn.is_query || txn.awaits.is_some() && !scene.holds_any(txn);
+    let useless = |txn: &Txn| txn.is_query || txn.awaits.is_some() && !scene.holds_any(txn);
     if let Some(txn) = scene.pick(rng, useless) {
         return Some(abort(txn));
     }
@@ -43,8 +42,9 @@ fn join(rng: &mut Rng, scene: &Scene) -> Option<Call> {
         Some(txn) => txn,
         None => scene.pick(rng, Txn::is_idle)?,
     };
-    let leads_elsewhere =
-        |txn: &Txn| awaited & txn.bit() == 0 && end_of(scene, *txn).map_or(false, |slot| slot != end.slot);
+    let leads_elsewhere = |txn: &Txn| {
+        awaited & txn.bit() == 0 && end_of(scene, *txn).map_or(false, |slot| slot != end.slot)
+    };
     match scene.pick(rng, leads_elsewhere) {
         Some(other) => ask_for_what_is_held(rng, scene, end, other),
         None => Some(abort(scene.pick(rng, |txn| txn.awaits.is_some())?)),

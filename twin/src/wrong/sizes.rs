@@ -128,7 +128,9 @@ fn trimmed(view: &mut View, call: Call, readers: usize, places: usize) -> Answer
         }
         _ => right(view, call),
     };
-    let queries = Slot::all().take(readers).filter(|slot| view.is_query(*slot));
+    let queries = Slot::all()
+        .take(readers)
+        .filter(|slot| view.is_query(*slot));
     let starts: Vec<u64> = queries.map(|slot| view.start(slot).word()).collect();
     for row in view.rows_mut() {
         let used = row[1..].chunks(2).take(row[COUNT] as usize);
@@ -157,7 +159,11 @@ fn unseen(view: &mut View, call: Call) -> Answer {
     }
     let before = *view.locks;
     let held = |row: &[u64]| row[EXCLUSIVE] == last;
-    for row in view.locks.chunks_exact_mut(LOCK_ROW).filter(|row| held(row)) {
+    for row in view
+        .locks
+        .chunks_exact_mut(LOCK_ROW)
+        .filter(|row| held(row))
+    {
         row.fill(0);
     }
     let answer = right(view, call);
