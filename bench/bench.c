@@ -22,7 +22,7 @@
 #define SHORT_RUNS 200
 #define SHORT_CALLS 200
 
-/* Queries that there is room for in tables of any size. */
+/* So many queries or waiters fit into the tables of every header: the same load for all. */
 #define SOME 15
 
 static uint64_t txns[KEEPER_TXN_WORDS];

@@ -4,7 +4,7 @@ use crate::protocol::Tables;
 use crate::sizes::*;
 
 /// What is counted, and whether tables are so.
-const KINDS: [(&str, fn(&Tables) -> bool); 7] = [
+const KINDS: [(&str, fn(&Tables) -> bool); 8] = [
     ("every slot live", |t| rows(t).all(|row| row[NUMBER] != 0)),
     ("every slot a query", |t| {
         rows(t).all(|row| row[NUMBER] != 0 && row[KIND] == QUERY)
@@ -18,6 +18,9 @@ const KINDS: [(&str, fn(&Tables) -> bool); 7] = [
     }),
     ("every slot in one line", |t| {
         rows(t).any(|row| row[RANK] == SLOTS as u64)
+    }),
+    ("an item shared by every slot", |t| {
+        locks(t).any(|row| row[SHARED].count_ones() as usize == SLOTS)
     }),
     ("an item shared by the last slot", |t| {
         locks(t).any(|row| row[SHARED] >> (SLOTS - 1) & 1 != 0)

@@ -150,7 +150,7 @@ fn lock(rng: &mut Rng, keeper: &mut Keeper, item: usize, updates: &[usize]) {
         take(rng, keeper, item, slot);
     } else {
         let row = &mut keeper.locks[item * LOCK_ROW..][..LOCK_ROW];
-        for _ in 0..rng.within(1, 4) {
+        for _ in 0..rng.one_of(&[1, 1, 2, 3, 4, 4, 100]) {
             row[SHARED] |= 1 << rng.one_of(updates);
         }
     }

@@ -146,13 +146,11 @@ fn of_these(lines: &[Line], numbers: &[u64]) -> Vec<Line> {
     lines.iter().filter(is_left).cloned().collect()
 }
 
-/// The lines that made what there is before the last one: what was granted to
-/// those that live, and their waits. With what was committed, or without it.
-fn of_the_living(lines: &[Line], with_committed: bool) -> Vec<Line> {
-    let (last, before) = match lines.split_last() {
-        Some(split) => split,
-        None => return Vec::new(),
-    };
+/// So many lines at the end, and before them only those that made what there was
+/// then: what was granted to those that lived, and their waits. With what was
+/// committed, or without it.
+fn of_the_living(lines: &[Line], recent: usize, with_committed: bool) -> Vec<Line> {
+    let (before, recent) = lines.split_at(lines.len().saturating_sub(recent));
     let (mut gone, mut queries) = (BTreeSet::new(), BTreeSet::new());
     let mut granted = BTreeMap::new();
     for (at, line) in before.iter().enumerate() {
@@ -175,7 +173,7 @@ fn of_the_living(lines: &[Line], with_committed: bool) -> Vec<Line> {
         _ => false,
     };
     let left = before.iter().enumerate().filter(is_left);
-    left.map(|(_, line)| line).chain([last]).cloned().collect()
+    left.map(|(_, line)| line).chain(recent).cloned().collect()
 }
 
 /// Puts lines together again after others were left out: numbers follow the
@@ -275,10 +273,13 @@ pub fn report(program: &Program, input: &[u8], run: &Run) -> String {
     // What comes after the difference is mostly of no use.
     let head = &list[..at.min(list.len())];
     let mut list = if stays(head) { head.to_vec() } else { list };
-    // Nor is what led to nothing, or what most transactions did.
-    let fewer = [false, true].map(|committed| of_the_living(&list, committed));
-    if let Some(fewer) = fewer.into_iter().find(|fewer| stays(fewer)) {
-        list = fewer;
+    // Nor is what led to nothing that is left, or what most transactions did.
+    for recent in [1, 10, 30, 100, 300, 1000] {
+        let fewer = [false, true].map(|committed| of_the_living(&list, recent, committed));
+        if let Some(fewer) = fewer.into_iter().find(|fewer| stays(fewer)) {
+            list = fewer;
+            break;
+        }
     }
     let numbers: Vec<u64> = all.iter().copied().collect();
     let left = smallest(&numbers, &mut budget, |some| stays(&of_these(&list, some)));
