@@ -1,10 +1,14 @@
 /* The time of one call, in nanoseconds: best of several runs. Nothing is asserted.
  *
  * An abort of transaction 0 pays the test of all tables alone; every other call pays it too. Each
- * call is timed on fresh tables, and on full ones: 15 live queries, and an item row with 16
- * versions for each item that was written between their begins (all 64). Then the test and a write
- * are timed where two updates hold 32 items each, then calls where others wait for an item, and then
- * the calls that rewrite rows: the end of a query, and the commit of an update with 32 items. */
+ * call is timed on fresh tables, on tables with 15 live queries and 16 versions of each item, and on
+ * full ones: a live query in every slot but one, and as many versions of each item as there is room
+ * for. Then the test and a write are timed where two updates hold all items, then calls where others
+ * wait for an item, and then the calls that rewrite rows: the end of a query, and the commit of an
+ * update with as many items as one may have.
+ *
+ * The sizes of the tables are those of the header alone, and no line that is timed names one: so this
+ * can be built for libraries of other sizes too, each with its own header, and its lines compared. */
 #define _POSIX_C_SOURCE 199309L
 #include "keeper.h"
 
@@ -17,6 +21,9 @@
 #define CALLS 20000
 #define SHORT_RUNS 200
 #define SHORT_CALLS 200
+
+/* So many queries or waiters fit into the tables of every header: the same load for all. */
+#define SOME 15
 
 static uint64_t txns[KEEPER_TXN_WORDS];
 static uint64_t locks[KEEPER_LOCK_WORDS];
@@ -49,10 +56,13 @@ static uint64_t full_job(uint64_t x, uint64_t value)
     return n;
 }
 
-/* 15 queries, and after each begin two updates that write all items between them. */
-static void fill(void)
+/* The queries of full tables: one slot is left for an update. */
+#define QUERIES (KEEPER_SLOTS - 1)
+
+/* So many queries, and after each begin updates that write all items between them. */
+static void fill(int queries)
 {
-    for (int q = 0; q < KEEPER_SLOTS - 1; q++) {
+    for (int q = 0; q < queries; q++) {
         granted(keeper_begin_query(TABLES));
         for (uint64_t x = 0; x < KEEPER_ITEMS; x += KEEPER_QUOTA)
             granted(keeper_commit(TABLES, full_job(x, 100 * (uint64_t)q)));
@@ -160,7 +170,7 @@ static struct keeper_answer abort_of(uint64_t number) { return keeper_abort(TABL
 static struct keeper_answer write_0(uint64_t number) { return keeper_write(TABLES, number, 0, 1); }
 
 /* One update holds item 0, and so many others wait to write it; the last of them asks again. */
-static void measure_waiters(int waiters)
+static void measure_waiters(const char *on, int waiters)
 {
     keeper_fresh(TABLES);
     granted(keeper_write(TABLES, granted(keeper_begin_update(TABLES)).number, 0, 1));
@@ -170,7 +180,7 @@ static void measure_waiters(int waiters)
         if (keeper_write(TABLES, last, 0, 1).code != KEEPER_WAIT)
             exit(1);
     }
-    printf("%d waiting for one item\n", waiters);
+    printf("%s\n", on);
     measure_call(names[TEST], abort_of, 0, KEEPER_UNKNOWN_TRANSACTION);
     measure_call("an awaited write, asked again", write_0, last, KEEPER_WAIT);
 }
@@ -211,7 +221,7 @@ static void measure_rows(void)
     keeper_fresh(TABLES);
     measure_commit("commit of a full job, one version", full_job(0, 1));
     keeper_fresh(TABLES);
-    fill();
+    fill(QUERIES);
     uint64_t n = granted(keeper_begin_query(TABLES)).number;
     measure_commit("query's end, no version goes", n);
     granted(keeper_commit(TABLES, n));
@@ -219,7 +229,7 @@ static void measure_rows(void)
     measure_commit("commit of a full job, full rows", full_job(0, 1));
     /* a version of each row goes, and the newest is read: the rows have room for one more, and get it */
     keeper_fresh(TABLES);
-    fill();
+    fill(QUERIES);
     granted(keeper_commit(TABLES, 1));
     granted(keeper_begin_query(TABLES));
     measure_commit("commit of a full job, rows get full", full_job(0, 1));
@@ -235,15 +245,21 @@ int main(void)
             clock_cost = d;
     }
     printf("best of %d runs of %d calls; reading the clock takes %.0f ns of each\n", RUNS, CALLS, clock_cost);
+    printf("%d live transactions at most, %d words of tables\n", KEEPER_SLOTS,
+           KEEPER_TXN_WORDS + KEEPER_LOCK_WORDS + KEEPER_VERSION_WORDS);
     keeper_fresh(TABLES);
     measure("fresh tables", 0);
     keeper_fresh(TABLES);
-    fill();
-    measure("full tables: 15 live queries, 16 versions of each item", 1);
+    fill(SOME);
+    measure("15 live queries, 16 versions of each item", 1);
+    keeper_fresh(TABLES);
+    fill(QUERIES);
+    measure("full tables: live queries in all slots but one, full rows", 1);
     keeper_fresh(TABLES);
     measure_full_jobs();
-    measure_waiters(1);
-    measure_waiters(KEEPER_SLOTS - 1);
+    measure_waiters("1 waiting for one item", 1);
+    measure_waiters("15 waiting for one item", SOME);
+    measure_waiters("all slots but one waiting for one item", KEEPER_SLOTS - 1);
     measure_rows();
     return 0;
 }

@@ -1,4 +1,8 @@
 # Lines of bench/bench.c, each with `before` or `after` in front: of each the least time, and the ratio.
+/live transactions at most/ {
+    sizes[$1] = $0
+    sub(/^[a-z]+ /, "", sizes[$1])
+}
 $NF != "ns" {
     head = $0
     sub(/^[a-z]+ /, "", head)
@@ -19,6 +23,7 @@ $NF != "ns" {
         least[side, key] = time
 }
 END {
+    printf "before: %s\nafter:  %s\n", sizes["before"], sizes["after"]
     printf "%-92s %8s %8s %6s\n", "nanoseconds a call, the least of all turns", "before", "after", "ratio"
     for (i = 1; i <= count; i++) {
         key = keys[i]

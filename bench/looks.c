@@ -2,7 +2,7 @@
  * document 01 tells it, and by halving, as the keeper does.
  *
  * The proved loop bounds its looks and hands none out, so both loops stand here once more, with a count.
- * They are run on the words of the keeper's own tables, for rows of 1, 2, 8 and 16 versions and for
+ * They are run on the words of the keeper's own tables, for rows of 1, 2, 8, 16 and 32 versions and for
  * each start that a query can have there; the place that they find must be the looked of the
  * keeper's answer. Exit status 1 if one is not. */
 #include "keeper.h"
@@ -117,7 +117,7 @@ static unsigned measure(unsigned n, unsigned gap, struct sum *walked, struct sum
 
 int main(void)
 {
-    static const unsigned rows[] = {1, 2, 8, 16};
+    static const unsigned rows[] = {1, 2, 8, 16, 32};
     unsigned starts = 0;
     printf("looks at stamps, over each start that a query can have\n");
     printf("  versions    walk: most    mean    halving: most    mean\n");

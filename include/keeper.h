@@ -31,11 +31,11 @@ extern "C" {
 /* Items 0 to 63, live transactions at most, items that one update may hold exclusively at most, and
  * the lengths of the tables in words. */
 #define KEEPER_ITEMS 64
-#define KEEPER_SLOTS 16
+#define KEEPER_SLOTS 32
 #define KEEPER_QUOTA 32
-#define KEEPER_TXN_WORDS 98
+#define KEEPER_TXN_WORDS 194
 #define KEEPER_LOCK_WORDS 192
-#define KEEPER_VERSION_WORDS 2112
+#define KEEPER_VERSION_WORDS 4160
 
 /* The codes of an answer. */
 enum keeper_code {
@@ -46,7 +46,7 @@ enum keeper_code {
     KEEPER_UNKNOWN_ITEM = 4,        /* an item above 63 */
     KEEPER_QUERY_MAY_NOT_WRITE = 5,
     KEEPER_STILL_WAITING = 6,       /* it awaits another call's grant */
-    KEEPER_NO_SLOT = 7,             /* 16 transactions are live */
+    KEEPER_NO_SLOT = 7,             /* 32 transactions are live */
     KEEPER_NUMBERS_SPENT = 8,       /* the last transaction number is given */
     KEEPER_CLOCK_SPENT = 9,         /* the last stamp is given */
     KEEPER_BAD_TABLES = 10,

@@ -5,6 +5,9 @@
 
 use crate::sizes::*;
 
+/// The most versions that a row has.
+const MOST: u64 = PLACES as u64;
+
 /// One clause of good tables.
 #[derive(Clone, Copy, Debug, PartialEq, Eq)]
 pub enum Clause {
@@ -235,9 +238,9 @@ impl Tables<'_> {
             Clause::Count => self
                 .versions
                 .iter()
-                .all(|row| (1..=PLACES as u64).contains(&row[COUNT])),
+                .all(|row| (1..=MOST).contains(&row[COUNT])),
             Clause::UnusedPairs => self.versions.iter().all(|row| match row[COUNT] {
-                count @ 0..=16 => row[1 + 2 * count as usize..].iter().all(|&w| w == 0),
+                count @ 0..=MOST => row[1 + 2 * count as usize..].iter().all(|&w| w == 0),
                 _ => true,
             }),
             Clause::StampsFall => {
@@ -270,10 +273,10 @@ impl Tables<'_> {
         self.rows(|row| row[NUMBER] == 0 || holds(row))
     }
 
-    /// Asks something of the stamps of every row with a count from 1 to 16.
+    /// Asks something of the stamps of every row with a count as it may be.
     fn stamps(&self, holds: impl Fn(&[u64]) -> bool) -> bool {
         self.versions.iter().all(|row| match row[COUNT] {
-            count @ 1..=16 => {
+            count @ 1..=MOST => {
                 let pairs = row[1..].chunks(2).take(count as usize);
                 let stamps: Vec<u64> = pairs.map(|pair| pair[0]).collect();
                 holds(&stamps)
@@ -360,18 +363,19 @@ impl Tables<'_> {
         is_ahead || shares || self.holds_exclusive(other, item)
     }
 
-    /// Whether a walk of at most 16 steps leads from a slot back to it.
+    /// Whether a walk leads from a slot back to it.
     fn on_circle(&self, slot: usize) -> bool {
         let mut reached = [false; SLOTS];
-        for _ in 0..SLOTS {
-            for next in 0..SLOTS {
-                let from = |at: usize| (at == slot || reached[at]) && self.waits_for(at, next);
-                if (0..SLOTS).any(from) {
-                    reached[next] = true;
-                }
+        loop {
+            let before = reached;
+            for next in (0..SLOTS).filter(|&next| !before[next]) {
+                let from = |at: usize| (at == slot || before[at]) && self.waits_for(at, next);
+                reached[next] = (0..SLOTS).any(from);
+            }
+            if reached == before {
+                return reached[slot];
             }
         }
-        reached[slot]
     }
 }
 

@@ -68,7 +68,7 @@ impl Item {
     }
 }
 
-/// A place for a live transaction, 0 to 15.
+/// A place for a live transaction, 0 to 31.
 #[derive(Clone, Copy, Debug, PartialEq, Eq)]
 pub(crate) struct Slot(usize);
 
@@ -94,13 +94,13 @@ pub(crate) struct SlotSet(u64);
 impl SlotSet {
     pub const EMPTY: SlotSet = SlotSet(0);
 
-    /// The slots of a word of shared holders; bits above slot 15 stay in it.
+    /// The slots of a word of shared holders; bits above the last slot stay in it.
     pub fn of_bits(word: u64) -> SlotSet {
         SlotSet(word)
     }
 
-    /// The slot of an exclusive holder's word, none for 0. Words above 16 name
-    /// no slot; they give a set no set of slots contains.
+    /// The slot of an exclusive holder's word, none for 0. Words above the slots
+    /// name none; they give a set no set of slots contains.
     pub fn of_holder(word: u64) -> SlotSet {
         if word <= SLOTS as u64 {
             SlotSet((1 << word) >> 1)

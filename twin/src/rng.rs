@@ -58,14 +58,19 @@ impl Rng {
 
     /// A word of the kinds that mistakes are made with.
     pub fn odd_word(&mut self) -> u64 {
-        const EDGES: [u64; 12] = [
+        const EDGES: [u64; 17] = [
             0,
             1,
             2,
             16,
             17,
+            31,
+            32,
+            33,
             63,
             64,
+            65,
+            1 << 16,
             (1 << 32) - 1,
             1 << 32,
             (1 << 32) + 1,

@@ -1,12 +1,14 @@
-//! The sizes of document 01 and where each word stands in its table.
+//! The sizes of document 01 with its requests, and where each word stands in its
+//! table.
 
 /// Items are 0 to 63.
 pub const ITEMS: usize = 64;
-/// Slots for live transactions.
-pub const SLOTS: usize = 16;
-/// Versions an item may have.
-pub const PLACES: usize = 16;
-/// Items that one update may hold exclusively at most (request E2).
+/// Slots for live transactions (request E5). A word has a bit for each.
+pub const SLOTS: usize = 32;
+/// Versions an item may have (request E5): as many as there are slots are enough.
+pub const PLACES: usize = 32;
+/// Items that one update may hold exclusively at most (request E2). It is the same
+/// number by chance.
 pub const QUOTA: usize = 32;
 
 /// The last stamp, and the last transaction number.
@@ -22,11 +24,11 @@ pub const LOCK_ROW: usize = 3;
 /// Words of one version row: a count, then pairs of stamp and value.
 pub const VERSION_ROW: usize = 1 + 2 * PLACES;
 
-/// Words of the transaction table: 98.
+/// Words of the transaction table: 194.
 pub const TXN_WORDS: usize = TXN_HEAD + SLOTS * TXN_ROW;
 /// Words of the lock table: 192.
 pub const LOCK_WORDS: usize = ITEMS * LOCK_ROW;
-/// Words of the version table: 2,112.
+/// Words of the version table: 4,160.
 pub const VERSION_WORDS: usize = ITEMS * VERSION_ROW;
 
 /// Place of the last number given in the transaction table.
@@ -59,4 +61,5 @@ pub const WORKING: usize = 2;
 /// Place of the count in a version row; the pairs follow.
 pub const COUNT: usize = 0;
 
-const _: () = assert!(TXN_WORDS == 98 && LOCK_WORDS == 192 && VERSION_WORDS == 2112);
+const _: () = assert!(TXN_WORDS == 194 && LOCK_WORDS == 192 && VERSION_WORDS == 4160);
+const _: () = assert!(SLOTS <= PLACES && SLOTS < 64);

@@ -19,15 +19,15 @@ fn sizes() {
     let (txns, locks, versions) = (&keeper.txns[..], &keeper.locks[..], &keeper.versions[..]);
     let longer = |table: &[u64]| [table, &[0]].concat();
     assert!(twin::good(txns, locks, versions));
-    assert!(!twin::good(&txns[..97], locks, versions));
+    assert!(!twin::good(&txns[..193], locks, versions));
     assert!(!twin::good(&longer(txns), locks, versions));
     assert!(!twin::good(txns, &locks[..191], versions));
     assert!(!twin::good(txns, &longer(locks), versions));
-    assert!(!twin::good(txns, locks, &versions[..2111]));
+    assert!(!twin::good(txns, locks, &versions[..4159]));
     assert!(!twin::good(txns, locks, &longer(versions)));
     assert!(!twin::good(&[], &[], &[]));
     assert!(!twin::good(locks, txns, versions));
-    assert_eq!(broken(&txns[..97], locks, versions), [Clause::Sizes]);
+    assert_eq!(broken(&txns[..193], locks, versions), [Clause::Sizes]);
 }
 
 #[test]
@@ -44,7 +44,9 @@ fn last_number_and_clock() {
 fn free_rows() {
     for place in 1..TXN_ROW {
         breaks(Clause::FreeRow, |k| *txn(k, FREE, place) = 1);
-        breaks(Clause::FreeRow, |k| *txn(k, 15, place) = 1 << 63);
+        for slot in [15, 16, 31] {
+            breaks(Clause::FreeRow, |k| *txn(k, slot, place) = 1 << 63);
+        }
     }
 }
 
@@ -124,7 +126,9 @@ fn awaits_what_it_holds() {
 fn holders() {
     breaks(Clause::SharedHolders, |k| k.locks[SHARED] = 1 << FREE);
     breaks(Clause::SharedHolders, |k| k.locks[SHARED] = 1 << OLD_QUERY);
-    breaks(Clause::SharedHolders, |k| k.locks[SHARED] = 1 << 16);
+    for bit in [15, 16, 31, 32] {
+        breaks(Clause::SharedHolders, |k| k.locks[SHARED] = 1 << bit);
+    }
     breaks(Clause::SharedHolders, |k| {
         k.locks[SHARED] = 1 << 63 | 1 << HOLDER
     });
@@ -135,9 +139,9 @@ fn holders() {
     breaks(Clause::ExclusiveHolder, |k| {
         k.locks[EXCLUSIVE] = NEW_QUERY as u64 + 1
     });
-    breaks(Clause::ExclusiveHolder, |k| k.locks[EXCLUSIVE] = 17);
-    breaks(Clause::ExclusiveHolder, |k| k.locks[EXCLUSIVE] = 64);
-    breaks(Clause::ExclusiveHolder, |k| k.locks[EXCLUSIVE] = 65);
+    for holder in [16, 17, 32, 33, 64, 65] {
+        breaks(Clause::ExclusiveHolder, |k| k.locks[EXCLUSIVE] = holder);
+    }
     breaks(Clause::ExclusiveHolder, |k| {
         k.locks[EXCLUSIVE] = (1 << 32) + 1
     });
@@ -150,6 +154,93 @@ fn holders() {
     breaks(Clause::WorkingValue, |k| k.locks[WORKING] = 1);
     breaks(Clause::WorkingValue, |k| {
         set_lock(k, 3, [1 << HOLDER, 0, 1])
+    });
+}
+
+#[test]
+fn the_slots_from_sixteen_on() {
+    for slot in [16, 31] {
+        let updates = move |k: &mut Keeper| {
+            set_txn(k, slot, [13, UPDATE, 0, 0, 0, 0]);
+            set_lock(k, 10, [1 << slot | 1 << HOLDER, 0, 0]);
+            set_lock(k, 11, [0, slot as u64 + 1, 7]);
+        };
+        keeps(updates);
+        breaks(Clause::DistinctNumbers, |k| {
+            updates(k);
+            *txn(k, slot, NUMBER) = 12;
+        });
+        breaks(Clause::AwaitsSharedHeld, |k| {
+            updates(k);
+            set_txn(k, slot, [13, UPDATE, 0, AWAITS_SHARED, 10, 1]);
+        });
+        breaks(Clause::AwaitsExclusiveHeld, |k| {
+            updates(k);
+            set_txn(k, slot, [13, UPDATE, 0, AWAITS_EXCLUSIVE, 11, 1]);
+        });
+        breaks(Clause::Quota, |k| {
+            updates(k);
+            fill(k, slot, 33);
+        });
+        // It alone reads the version at stamp 8.
+        let reads = move |k: &mut Keeper| {
+            set_txn(k, slot, [13, QUERY, 8, 0, 0, 0]);
+            set_versions(k, OLD_ITEM, &[(9, 1), (8, 2), (2, 3)]);
+        };
+        keeps(reads);
+        breaks(Clause::UnreadVersion, |k| {
+            reads(k);
+            *txn(k, slot, START) = 9;
+        });
+        breaks(Clause::LastStamp, |k| {
+            set_txn(k, slot, [13, QUERY, 1, 0, 0, 0]);
+        });
+    }
+}
+
+#[test]
+fn full_rows() {
+    // A query at each stamp 1 to 32, and a version for each of them.
+    let full = |k: &mut Keeper| {
+        *k = Keeper::fresh();
+        k.txns[LAST_NUMBER] = 50;
+        k.txns[CLOCK] = 40;
+        for slot in 0..SLOTS {
+            set_txn(k, slot, [11 + slot as u64, QUERY, 1 + slot as u64, 0, 0, 0]);
+        }
+        let pairs: Vec<(u64, u64)> = (1..=32).rev().map(|stamp| (stamp, 1 << stamp)).collect();
+        set_versions(k, 0, &pairs);
+    };
+    keeps(full);
+    let stamp = |place: usize| 2 * place - 1;
+    for place in [2, 16, 17, 18, 31, 32] {
+        breaks(Clause::StampsFall, |k| {
+            full(k);
+            // Both stamps are then the newer one, which two queries read.
+            k.versions[stamp(place)] += 1;
+            for query in [33 - place, 34 - place] {
+                *txn(k, query - 1, START) = 34 - place as u64;
+            }
+        });
+        breaks(Clause::UnreadVersion, |k| {
+            full(k);
+            *txn(k, 32 - place, START) += 1;
+        });
+    }
+    breaks(Clause::LastStamp, |k| {
+        full(k);
+        *txn(k, 1, START) = 0;
+        k.versions[stamp(32)..=stamp(32) + 1].fill(0);
+        k.versions[COUNT] = 31;
+        *txn(k, 0, START) = 2;
+    });
+    breaks(Clause::UnusedPairs, |k| {
+        full(k);
+        *txn(k, 0, START) = 2;
+        k.versions[COUNT] = 31;
+        k.versions[stamp(32)] = 0;
+        k.versions[stamp(31)] = 1;
+        k.versions[stamp(32) + 1] = 9;
     });
 }
 
@@ -224,7 +315,7 @@ fn who_is_full_awaits_no_exclusive_lock() {
 
 #[test]
 fn counts_and_unused_pairs() {
-    for count in [0, 17, 1 << 63, u64::MAX, (1 << 32) + 1] {
+    for count in [0, 33, 34, 65, 1 << 63, u64::MAX, (1 << 32) + 1] {
         breaks(Clause::Count, |k| k.versions[COUNT] = count);
     }
     for place in 3..VERSION_ROW {

@@ -223,7 +223,7 @@ impl Model {
                 keeper.locks[3 * item as usize + 2] = value;
             }
         }
-        for (item, row) in keeper.versions.chunks_mut(33).enumerate() {
+        for (item, row) in keeper.versions.chunks_mut(65).enumerate() {
             let kept = self.kept(item as u64);
             row[0] = kept.len() as u64;
             for (words, (stamp, value)) in row[1..].chunks_mut(2).zip(kept) {

@@ -97,14 +97,18 @@ fn f_who_waits_may_only_repeat_or_abort() {
 }
 
 #[test]
-fn g_sixteen_live_and_one_more() {
-    let mut t = Trial::with_updates(16);
-    assert_eq!(t.call(Call::Update), NO_SLOT);
-    assert_eq!(t.call(Call::Query), NO_SLOT);
-    assert_eq!(t.abort(9), GRANTED);
-    assert_eq!(t.call(Call::Query), [0, 0, 17, 0]);
-    assert_eq!(t.0.txns[TXN_HEAD + 8 * TXN_ROW], 17);
-    assert_eq!(t.call(Call::Update), NO_SLOT);
+fn g_thirty_two_live_and_one_more() {
+    // The last slot as well as one before it.
+    for ended in [1, 9, 16, 17, 32] {
+        let mut t = Trial::with_updates(32);
+        assert_eq!(t.call(Call::Update), NO_SLOT);
+        assert_eq!(t.call(Call::Query), NO_SLOT);
+        assert_eq!(t.abort(ended), GRANTED);
+        assert_eq!(t.call(Call::Query), [0, 0, 33, 0]);
+        assert_eq!(t.0.txns[TXN_HEAD + (ended as usize - 1) * TXN_ROW], 33);
+        assert_eq!(t.call(Call::Update), NO_SLOT);
+        assert_eq!(t.call(Call::Query), NO_SLOT);
+    }
 }
 
 #[test]
@@ -116,10 +120,10 @@ fn h_a_query_may_not_write() {
     assert_eq!(t.write(2, 64, 1), UNKNOWN_TRANSACTION);
 }
 
-/// A query at each stamp 0 to 14, an update writing item 0 after each.
+/// A query at each stamp 0 to 30, an update writing item 0 after each.
 fn full_row() -> Trial {
     let mut t = Trial::fresh();
-    for stamp in 0..15 {
+    for stamp in 0..31 {
         assert_eq!(t.call(Call::Query), [0, 0, 2 * stamp + 1, 0]);
         let number = 2 * stamp + 2;
         assert_eq!(t.call(Call::Update), [0, 0, number, 0]);
@@ -132,26 +136,27 @@ fn full_row() -> Trial {
 #[test]
 fn i_a_full_row() {
     let mut t = full_row();
-    assert_eq!(t.count(0), 16);
-    assert_eq!(t.read(1, 0), [0, 0, 0, 16]);
-    assert_eq!(t.read(3, 0), [0, 100, 0, 15]);
-    assert_eq!(t.read(29, 0), [0, 113, 0, 2]);
+    assert_eq!(t.count(0), 32);
+    assert_eq!(t.read(1, 0), [0, 0, 0, 32]);
+    assert_eq!(t.read(3, 0), [0, 100, 0, 31]);
+    assert_eq!(t.read(61, 0), [0, 129, 0, 2]);
 
     // One more write finds room: nobody reads the newest version.
-    assert_eq!(t.call(Call::Update), [0, 0, 31, 0]);
-    assert_eq!(t.write(31, 0, 500), GRANTED);
-    assert_eq!(t.commit(31), [0, 0, 16, 0]);
-    assert_eq!(t.count(0), 16);
-    assert_eq!(t.read(1, 0), [0, 0, 0, 16]);
+    assert_eq!(t.call(Call::Update), [0, 0, 63, 0]);
+    assert_eq!(t.call(Call::Update), NO_SLOT);
+    assert_eq!(t.write(63, 0, 500), GRANTED);
+    assert_eq!(t.commit(63), [0, 0, 32, 0]);
+    assert_eq!(t.count(0), 32);
+    assert_eq!(t.read(1, 0), [0, 0, 0, 32]);
 
     // A query's end frees its own version and no other.
-    assert_eq!(t.commit(15), GRANTED);
-    assert_eq!(t.count(0), 15);
-    assert_eq!(t.read(1, 0), [0, 0, 0, 15]);
-    assert_eq!(t.read(13, 0), [0, 105, 0, 9]);
-    assert_eq!(t.read(17, 0), [0, 107, 0, 8]);
+    assert_eq!(t.commit(31), GRANTED);
+    assert_eq!(t.count(0), 31);
+    assert_eq!(t.read(1, 0), [0, 0, 0, 31]);
+    assert_eq!(t.read(29, 0), [0, 113, 0, 17]);
+    assert_eq!(t.read(33, 0), [0, 115, 0, 16]);
     assert_eq!(t.abort(1), GRANTED);
-    assert_eq!(t.count(0), 14);
+    assert_eq!(t.count(0), 30);
 }
 
 #[test]
@@ -215,7 +220,7 @@ fn m_the_numbers_are_spent() {
     assert_eq!(t.commit(LAST), [0, 0, 1, 0]);
     assert_eq!(t.call(Call::Query), NUMBERS_SPENT);
 
-    let mut t = Trial::with_updates(16);
+    let mut t = Trial::with_updates(32);
     t.0.txns[LAST_NUMBER] = LAST;
     assert_eq!(t.call(Call::Update), NO_SLOT);
     assert_eq!(t.call(Call::Query), NO_SLOT);
@@ -226,8 +231,9 @@ fn m_the_numbers_are_spent() {
 #[test]
 fn n_tables_of_other_sizes() {
     let good = Trial::with_updates(1).0;
-    for (short, long, table) in [(97, 99, 0), (191, 193, 1), (2111, 2113, 2)] {
-        for len in [0, 1, short, long, 2 * long] {
+    for (short, long, table) in [(193, 195, 0), (191, 193, 1), (4159, 4161, 2)] {
+        // Among them the sizes of sixteen slots and sixteen versions.
+        for len in [0, 1, short, long, 2 * long, 98, 2112] {
             for call in Call::each(1, 0, 1) {
                 let mut tables = [
                     good.txns.to_vec(),
@@ -247,7 +253,7 @@ fn n_tables_of_other_sizes() {
 
 #[test]
 fn o_circles_of_every_length() {
-    for length in 2..=16 {
+    for length in 2..=32 {
         let mut t = Trial::with_updates(length);
         for number in 1..=length {
             assert_eq!(t.write(number, number, number), GRANTED);

@@ -162,22 +162,60 @@ fn refused_requests_stand_nowhere() {
 }
 
 #[test]
-fn fifteen_in_line_are_served_one_after_another() {
-    let mut t = Trial::with_updates(16);
-    for number in 1..=16 {
+fn thirty_one_in_line_are_served_one_after_another() {
+    let mut t = Trial::with_updates(32);
+    for number in 1..=32 {
         let answer = t.write(number, X, number);
         assert_eq!(answer, if number == 1 { GRANTED } else { WAIT });
     }
-    assert_eq!(t.ranks(16), (0..16).collect::<Vec<u64>>());
-    for number in 1..16 {
+    assert_eq!(t.ranks(32), (0..32).collect::<Vec<u64>>());
+    for number in 1..32 {
         assert_eq!(t.commit(number), [0, 0, number, 0]);
         // A newcomer goes behind all.
-        assert_eq!(t.call(Call::Update), [0, 0, 16 + number, 0]);
-        assert_eq!(t.read(16 + number, X), WAIT);
-        for later in number + 2..=16 {
+        assert_eq!(t.call(Call::Update), [0, 0, 32 + number, 0]);
+        assert_eq!(t.read(32 + number, X), WAIT);
+        for later in number + 2..=32 {
             assert_eq!(t.write(later, X, later), WAIT);
         }
         assert_eq!(t.write(number + 1, X, number + 1), GRANTED);
-        assert_eq!(t.abort(16 + number), GRANTED);
+        assert_eq!(t.abort(32 + number), GRANTED);
     }
+}
+
+#[test]
+fn the_last_rank_is_thirty_two() {
+    // All wait, since the one who held the item is gone and nobody has asked again.
+    let mut t = Trial::with_updates(32);
+    for number in 1..=32 {
+        let answer = t.write(number, X, number);
+        assert_eq!(answer, if number == 1 { GRANTED } else { WAIT });
+    }
+    assert_eq!(t.abort(1), GRANTED);
+    assert_eq!(t.call(Call::Update), [0, 0, 33, 0]);
+    assert_eq!(t.read(33, X), WAIT);
+    assert_eq!(t.ranks(32)[0], 32);
+    assert_eq!(t.abort(17), GRANTED);
+    assert_eq!(t.ranks(32)[0], 31);
+    assert_eq!(t.write(2, X, 2), GRANTED);
+    assert_eq!(t.ranks(32)[0], 30);
+    assert_eq!(t.ranks(32)[31], 29);
+}
+
+#[test]
+fn thirty_two_share_and_one_asks_to_exchange() {
+    let mut t = Trial::with_updates(32);
+    for number in 1..=32 {
+        assert_eq!(t.read(number, X), FOUND_0);
+    }
+    assert_eq!(t.write(32, X, 5), WAIT);
+    // Each of them would wait for it, and it waits for each.
+    for number in 1..32 {
+        assert_eq!(t.write(number, X, number), DEADLOCK);
+    }
+    for number in 1..32 {
+        assert_eq!(t.write(32, X, 5), WAIT);
+        assert_eq!(t.commit(number), [0, 0, number, 0]);
+    }
+    assert_eq!(t.write(32, X, 5), GRANTED);
+    assert_eq!(t.ranks(32), [0; 32]);
 }

@@ -3,7 +3,7 @@
 
 use std::time::{Duration, Instant};
 
-use twin::sizes::{ITEMS, QUOTA, SLOTS};
+use twin::sizes::{ITEMS, PLACES, QUOTA, SLOTS};
 use twin::{code, Answer, Call, Keeper};
 
 fn main() {
@@ -21,7 +21,12 @@ fn main() {
     );
     println!("fresh tables");
     measure(&fresh(), spend);
-    println!("full rows (64 of 16 versions), 15 queries");
+    println!(
+        "full rows ({} of {} versions), {} queries",
+        ITEMS,
+        PLACES,
+        SLOTS - 1
+    );
     measure(&full(), spend);
     println!("rows rewritten");
     rows(spend);
@@ -34,8 +39,8 @@ fn fresh() -> Keeper {
     keeper
 }
 
-/// Fifteen queries, and commits of every item after each, by two updates: one
-/// may not write so many.
+/// A query in every slot but one, and commits of every item after each, by two
+/// updates: one may not write so many.
 fn full() -> Keeper {
     let mut keeper = Keeper::fresh();
     let items: Vec<u64> = (0..ITEMS as u64).collect();

@@ -5,6 +5,7 @@ use std::time::Duration;
 
 use super::damage::{self, Damage};
 use super::director::Director;
+use super::full::full;
 use super::made::made;
 use super::odd_cases::{self, odd_case};
 use super::process::Program;
@@ -138,14 +139,18 @@ fn start(line: &[u8]) -> String {
     format!("{}{}", shown.escape_ascii(), more)
 }
 
-/// Tables from a run, made by chance or fresh; a call that suits them; and
+/// Tables from a run, made by chance, full or fresh; a call that suits them; and
 /// mostly some damage.
 fn prepare(rng: &mut Rng, samples: &[Keeper], director: &mut Director) -> Prepared {
     loop {
-        let keeper = match (rng.below(10), samples.is_empty()) {
-            (0, _) => Keeper::fresh(),
-            (1..=3, _) | (_, true) => made(rng),
-            _ => samples[rng.index(samples.len())].clone(),
+        let (keeper, shows) = match (rng.below(11), samples.is_empty()) {
+            (0, _) => (Keeper::fresh(), None),
+            (1, _) => {
+                let (keeper, call) = full(rng);
+                (keeper, Some(call))
+            }
+            (2..=4, _) | (_, true) => (made(rng), None),
+            _ => (samples[rng.index(samples.len())].clone(), None),
         };
         let mut call = director.next(rng, &keeper);
         let mut tables = Tables::from(&keeper);
@@ -157,7 +162,7 @@ fn prepare(rng: &mut Rng, samples: &[Keeper], director: &mut Director) -> Prepar
         };
         let (_, damage): (_, Damage) = damage::KINDS[kind];
         if damage(rng, &mut tables) {
-            if let Some(telling) = telling_call(rng, &tables) {
+            if let Some(telling) = shows.or_else(|| telling_call(rng, &tables)) {
                 call = telling;
             }
             let case = Case { call, tables };
@@ -209,6 +214,9 @@ fn count(stats: &mut Stats, prepared: &Prepared) -> Option<String> {
     for (clause, count) in Clause::ALL.iter().zip(&mut stats.clauses) {
         count.0 += u64::from(broken.contains(clause));
         count.1 += u64::from(broken == [*clause]);
+    }
+    if broken.is_empty() {
+        stats.fullness.see(&prepared.case.tables);
     }
     if is_bad == broken.is_empty() {
         let text = format!(

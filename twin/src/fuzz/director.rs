@@ -5,7 +5,7 @@
 use super::moods::Action::{self, *};
 use super::moods::{Mood, MIXED, MOODS};
 use super::scene::{Held, Scene, Txn};
-use super::{jobs, waiters};
+use super::{jobs, rings, waiters};
 use crate::keeper::{Call, Keeper};
 use crate::rng::Rng;
 use crate::sizes::*;
@@ -31,7 +31,7 @@ impl Director {
         let scene = Scene::of(keeper);
         if self.left == 0 {
             self.mood = rng.one_of(&MOODS);
-            self.left = rng.within(20, 300);
+            self.left = rng.within(20, 600);
             let hot = rng.within(1, self.mood.0);
             self.hot = (0..hot).map(|_| rng.below(ITEMS as u64)).collect();
         }
@@ -138,6 +138,7 @@ impl Director {
                     _ => None,
                 }
             }
+            Ring => rings::ring(rng, scene),
             Chain => chain(rng, scene),
             Close => close(rng, scene),
             Rows => self.rows(rng, scene),
@@ -242,7 +243,7 @@ fn unknown_number(rng: &mut Rng, scene: &Scene, item: u64) -> Call {
 }
 
 /// The slots that some update waits for.
-fn awaited_slots(scene: &Scene) -> u64 {
+pub fn awaited_slots(scene: &Scene) -> u64 {
     let waits = scene.live().iter().map(|txn| scene.waits_for(txn));
     waits.fold(0, |all, some| all | some)
 }

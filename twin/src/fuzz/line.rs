@@ -28,8 +28,11 @@ impl Scene<'_> {
             return txn.rank;
         }
         let shares = |txn: &Txn| self.held(txn, item) == Held::Shared;
-        let is_before = |other: &&Txn| !shares(txn) || shares(other);
-        1 + self.line(item).iter().filter(is_before).count() as u64
+        let is_before = |other: &Txn| {
+            let in_line = matches!(other.awaits, Some((_, awaited)) if awaited == item);
+            in_line && (!shares(txn) || shares(other))
+        };
+        1 + self.count(is_before) as u64
     }
 
     /// The other holders that stand against a transaction's wish.
@@ -42,10 +45,14 @@ impl Scene<'_> {
     /// The earlier waiters that do.
     pub fn waiters_against(&self, txn: &Txn, is_write: bool, item: u64) -> u64 {
         let place = self.place(txn, item);
-        let conflicts = |other: &&Txn| is_write || matches!(other.awaits, Some((true, _)));
-        let line = self.line(item);
-        let earlier = line.iter().filter(|other| other.rank < place);
-        earlier.filter(conflicts).map(Txn::bit).sum()
+        let stands_against = |other: &&Txn| match other.awaits {
+            Some((writes, awaited)) => {
+                awaited == item && other.rank < place && (is_write || writes)
+            }
+            None => false,
+        };
+        let earlier = self.live().iter().filter(stands_against);
+        earlier.map(Txn::bit).sum()
     }
 
     /// The others that stand against a transaction's wish.
@@ -100,21 +107,21 @@ impl Scene<'_> {
         })
     }
 
+    /// How many steps lead from these back to a transaction, counting itself.
     fn walk_back(&self, txn: &Txn, first: u64, next: impl Fn(&Txn) -> u64) -> Option<usize> {
-        let mut reached = first;
+        let (mut reached, mut newest) = (first, first);
         let mut length = 2;
-        loop {
-            let members = self.live().iter().filter(|txn| reached & txn.bit() != 0);
-            let further = members.fold(reached, |slots, txn| slots | next(txn));
+        while newest != 0 {
+            let members = self.live().iter().filter(|txn| newest & txn.bit() != 0);
+            let further = members.fold(0, |slots, txn| slots | next(txn));
             if further & txn.bit() != 0 {
                 return Some(length);
             }
-            if further == reached {
-                return None;
-            }
-            reached = further;
+            newest = further & !reached;
+            reached |= further;
             length += 1;
         }
+        None
     }
 }
 

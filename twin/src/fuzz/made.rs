@@ -48,7 +48,7 @@ pub fn made(rng: &mut Rng) -> Keeper {
 }
 
 /// Who steps into a line first need not have the lowest slot.
-fn shuffled(rng: &mut Rng, mut slots: Vec<usize>) -> Vec<usize> {
+pub fn shuffled(rng: &mut Rng, mut slots: Vec<usize>) -> Vec<usize> {
     for last in (1..slots.len()).rev() {
         slots.swap(last, rng.index(last + 1));
     }
@@ -80,7 +80,7 @@ fn transactions(rng: &mut Rng, keeper: &mut Keeper) {
     keeper.txns[CLOCK] = clock;
     let live = rng.one_of(&[0, 20, 50, 80, 95, 100]);
     let queries = rng.one_of(&[0, 10, 50, 90, 100]);
-    let near = rng.one_of(&[0, 3, 20, LAST]);
+    let near = rng.one_of(&[0, 3, 20, 200, LAST]);
     for slot in 0..SLOTS {
         if !rng.percent(live) {
             continue;
@@ -112,6 +112,9 @@ fn versions(rng: &mut Rng, keeper: &mut Keeper, item: usize) {
     let earliest = starts.iter().copied().min().unwrap_or(clock);
     let oldest = earliest - rng.one_of(&[0, 1, 5, earliest]).min(earliest);
     let mut stamps = vec![oldest];
+    if rng.percent(20) {
+        stamps.extend(&starts); // each query has a version of its own
+    }
     for _ in 0..rng.one_of(&[0, 1, 4, 20, 60]) {
         let near = rng.pick(&starts).unwrap_or(clock);
         let stamp = match rng.below(4) {
@@ -130,7 +133,7 @@ fn versions(rng: &mut Rng, keeper: &mut Keeper, item: usize) {
     let mut kept = stamps.clone();
     kept.retain(|stamp| *stamp == newest || read.contains(stamp));
     if kept.len() > PLACES {
-        kept.remove(0); // 16 queries read 16 versions, so the newest is in excess
+        kept.remove(0); // the queries read as many, so the newest is in excess
     }
     let row = &mut keeper.versions[item * VERSION_ROW..][..VERSION_ROW];
     row.fill(0);
@@ -147,7 +150,7 @@ fn lock(rng: &mut Rng, keeper: &mut Keeper, item: usize, updates: &[usize]) {
         take(rng, keeper, item, slot);
     } else {
         let row = &mut keeper.locks[item * LOCK_ROW..][..LOCK_ROW];
-        for _ in 0..rng.within(1, 4) {
+        for _ in 0..rng.one_of(&[1, 1, 2, 3, 4, 4, 100]) {
             row[SHARED] |= 1 << rng.one_of(updates);
         }
     }

@@ -4,6 +4,8 @@
 pub mod cases;
 pub mod damage;
 pub mod director;
+pub mod full;
+pub mod fullness;
 pub mod in_line;
 pub mod jobs;
 pub mod journals;
@@ -13,6 +15,7 @@ pub mod made;
 pub mod moods;
 pub mod odd_cases;
 pub mod process;
+pub mod rings;
 pub mod scene;
 pub mod scripts;
 pub mod shrink;

@@ -27,6 +27,8 @@ pub enum Action {
     Chain,
     /// The end of a chain asks for what a waiting update holds.
     Close,
+    /// The next step towards a circle of all slots.
+    Ring,
     /// The next step towards a full row with many queries.
     Rows,
     /// The next step towards updates that hold as many items as they may.
@@ -98,6 +100,16 @@ const CIRCLES: Mood = (
         (CommitUpdate, 1),
         (AbortUpdate, 1),
         (EndQuery, 4),
+    ],
+);
+const RINGS: Mood = (
+    1,
+    &[
+        (Ring, 120),
+        (Retry, 2),
+        (Stray, 1),
+        (CommitUpdate, 1),
+        (AbortUpdate, 1),
     ],
 );
 const ROWS: Mood = (
@@ -201,7 +213,7 @@ const DRAIN: Mood = (
 );
 
 /// Some moods are more fruitful than others.
-pub const MOODS: [Mood; 15] = [
-    MIXED, MIXED, HOT, HOT, CIRCLES, CIRCLES, LINES, LINES, PASSES, ROWS, JOBS, TWO_JOBS, CROWD,
-    REFUSED, DRAIN,
+pub const MOODS: [Mood; 16] = [
+    MIXED, MIXED, HOT, HOT, CIRCLES, CIRCLES, RINGS, LINES, LINES, PASSES, ROWS, JOBS, TWO_JOBS,
+    CROWD, REFUSED, DRAIN,
 ];

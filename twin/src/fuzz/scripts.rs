@@ -122,6 +122,58 @@ struct Line {
     call: Option<Call>,
     /// The number given, if this line began a transaction.
     given: Option<u64>,
+    /// The code of the answer; none if the line is no call.
+    code: Option<u64>,
+}
+
+impl Line {
+    /// Whose line it is.
+    fn owner(&self) -> Option<u64> {
+        self.given.or(self.call.and_then(Call::number))
+    }
+
+    fn is_granted(&self) -> bool {
+        self.code == Some(code::GRANTED)
+    }
+}
+
+/// The lines without those of other transactions; what is nobody's stays.
+fn of_these(lines: &[Line], numbers: &[u64]) -> Vec<Line> {
+    let is_left = |line: &&Line| match line.owner() {
+        Some(number) => numbers.binary_search(&number).is_ok(),
+        None => true,
+    };
+    lines.iter().filter(is_left).cloned().collect()
+}
+
+/// So many lines at the end, and before them only those that made what there was
+/// then: what was granted to those that lived, and their waits. With what was
+/// committed, or without it.
+fn of_the_living(lines: &[Line], recent: usize, with_committed: bool) -> Vec<Line> {
+    let (before, recent) = lines.split_at(lines.len().saturating_sub(recent));
+    let (mut gone, mut queries) = (BTreeSet::new(), BTreeSet::new());
+    let mut granted = BTreeMap::new();
+    for (at, line) in before.iter().enumerate() {
+        if let (Some(call), Some(owner), true) = (line.call, line.owner(), line.is_granted()) {
+            granted.insert(owner, at);
+            let stays = with_committed && !queries.contains(&owner);
+            match call {
+                Call::Query => queries.insert(owner),
+                Call::Commit { .. } if !stays => gone.insert(owner),
+                Call::Abort { .. } => gone.insert(owner),
+                _ => false,
+            };
+        }
+    }
+    let is_left = |(at, line): &(usize, &Line)| match line.owner() {
+        Some(owner) if !gone.contains(&owner) => {
+            let is_last = granted.get(&owner).map_or(false, |last| at > last);
+            line.is_granted() || is_last && line.code == Some(code::WAIT)
+        }
+        _ => false,
+    };
+    let left = before.iter().enumerate().filter(is_left);
+    left.map(|(_, line)| line).chain(recent).cloned().collect()
 }
 
 /// Puts lines together again after others were left out: numbers follow the
@@ -202,8 +254,12 @@ pub fn report(program: &Program, input: &[u8], run: &Run) -> String {
                 }
                 _ => None,
             };
-            let bytes = bytes.to_vec();
-            Line { bytes, call, given }
+            Line {
+                bytes: bytes.to_vec(),
+                call,
+                given,
+                code: answer.map(|answer| answer.code),
+            }
         })
         .collect();
     let stays = |some: &[Line]| {
@@ -216,8 +272,18 @@ pub fn report(program: &Program, input: &[u8], run: &Run) -> String {
     let mut budget = Budget::new(Duration::from_secs(20));
     // What comes after the difference is mostly of no use.
     let head = &list[..at.min(list.len())];
-    let list = if stays(head) { head.to_vec() } else { list };
-    let small = smallest(&list, &mut budget, stays);
+    let mut list = if stays(head) { head.to_vec() } else { list };
+    // Nor is what led to nothing that is left, or what most transactions did.
+    for recent in [1, 10, 30, 100, 300, 1000] {
+        let fewer = [false, true].map(|committed| of_the_living(&list, recent, committed));
+        if let Some(fewer) = fewer.into_iter().find(|fewer| stays(fewer)) {
+            list = fewer;
+            break;
+        }
+    }
+    let numbers: Vec<u64> = all.iter().copied().collect();
+    let left = smallest(&numbers, &mut budget, |some| stays(&of_these(&list, some)));
+    let small = smallest(&of_these(&list, &left), &mut budget, stays);
     let input = put_together(&small, &all, ends);
     let output = match program.run(&input, false) {
         Ok(run) => run.output,
@@ -277,6 +343,7 @@ mod tests {
                 bytes: bytes.to_vec(),
                 call: script::parse(bytes),
                 given,
+                code: None,
             })
             .collect();
         let all = BTreeSet::from([1, 2]);

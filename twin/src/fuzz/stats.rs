@@ -3,7 +3,7 @@
 use std::fmt;
 
 use super::scene::{Held, Scene, Txn};
-use super::{damage, in_line, journals, limit, odd_cases, spoil};
+use super::{damage, fullness, in_line, journals, limit, odd_cases, spoil};
 use crate::answer::{code, Answer};
 use crate::clauses::Clause;
 use crate::keeper::{Call, Keeper};
@@ -126,6 +126,7 @@ pub struct Stats {
     pub empty_scripts: u64,
     pub cases: u64,
     pub case_codes: [u64; code::NAMES.len()],
+    pub fullness: fullness::Counts,
     /// For each kind of odd case line: how many, and how many of them bad.
     odd_cases: [(u64, u64); odd_cases::KINDS.len()],
     /// For each kind of damage: how many, and how many of them answered 10.
@@ -154,6 +155,7 @@ impl Stats {
             empty_scripts: 0,
             cases: 0,
             case_codes: [0; code::NAMES.len()],
+            fullness: fullness::Counts::default(),
             odd_cases: [(0, 0); odd_cases::KINDS.len()],
             damages: [(0, 0); damage::KINDS.len()],
             clauses: [(0, 0); Clause::ALL.len()],
@@ -329,7 +331,7 @@ impl Stats {
         for (name, &count) in EVENTS.iter().zip(&self.events) {
             show(out, &format!("  {}", name), count)?;
         }
-        show(out, "  commits with a row of 16 versions", self.full_rows)?;
+        show(out, "  commits with a full row of versions", self.full_rows)?;
         writeln!(out, "  updates with as many items as they may write")?;
         for (name, count) in self.at_limit.each() {
             show(out, &format!("  {}", name), count)?;
@@ -363,6 +365,10 @@ impl Stats {
         writeln!(out, "tables set beforehand")?;
         show(out, "cases", self.cases)?;
         show_codes(out, &self.case_codes)?;
+        writeln!(out, "  good tables with")?;
+        for (name, count) in self.fullness.each() {
+            show(out, &format!("  {}", name), count)?;
+        }
         writeln!(out, "  damages, and those of them answered 10")?;
         for ((name, _), &(count, bad)) in damage::KINDS.iter().zip(&self.damages) {
             writeln!(out, "    {:<40} {:>10} {:>10}", name, count, bad)?;

@@ -112,7 +112,7 @@ pub fn telling(rng: &mut Rng, scene: &Scene) -> Option<Call> {
 }
 
 /// An item that nobody holds or awaits.
-fn free_item(rng: &mut Rng, scene: &Scene) -> Option<u64> {
+pub fn free_item(rng: &mut Rng, scene: &Scene) -> Option<u64> {
     let first = rng.below(ITEMS as u64);
     let mut items = (0..ITEMS as u64).map(|step| (first + step) % ITEMS as u64);
     items.find(|&item| scene.holders(item).0 == 0 && scene.line(item).is_empty())

@@ -7,14 +7,18 @@ mod calls;
 mod judges;
 mod lines;
 mod quota;
+mod sizes;
 mod tables;
+mod tests_of_few;
 mod waits;
 
 pub use calls::{WrongCall, WrongKeeper};
 pub use judges::WrongJudge;
 pub use lines::{run, WrongLine};
 pub use quota::WrongQuota;
+pub use sizes::WrongSize;
 pub use tables::WrongTables;
+pub use tests_of_few::WrongTest;
 pub use waits::WrongWait;
 
 use std::io::{self, BufRead, Write};
@@ -67,6 +71,7 @@ pub enum WrongRunner {
     Call(WrongCall),
     Quota(WrongQuota),
     Wait(WrongWait),
+    Size(WrongSize),
     Line(WrongLine),
 }
 
@@ -76,6 +81,7 @@ impl WrongRunner {
             .map(WrongRunner::Call)
             .or_else(|| named(&WrongQuota::ALL, name).map(WrongRunner::Quota))
             .or_else(|| named(&WrongWait::ALL, name).map(WrongRunner::Wait))
+            .or_else(|| named(&WrongSize::ALL, name).map(WrongRunner::Size))
             .or_else(|| named(&WrongLine::ALL, name).map(WrongRunner::Line))
     }
 
@@ -84,6 +90,7 @@ impl WrongRunner {
             names(&WrongCall::ALL),
             names(&WrongQuota::ALL),
             names(&WrongWait::ALL),
+            names(&WrongSize::ALL),
             names(&WrongLine::ALL),
         ]
         .concat()
@@ -103,6 +110,12 @@ impl WrongRunner {
                 })
             }
             WrongRunner::Wait(kind) => {
+                let mut keeper = Keeper::fresh();
+                script::run(input, output, |call| {
+                    kind.call(&mut view(&mut keeper), call)
+                })
+            }
+            WrongRunner::Size(kind) => {
                 let mut keeper = Keeper::fresh();
                 script::run(input, output, |call| {
                     kind.call(&mut view(&mut keeper), call)

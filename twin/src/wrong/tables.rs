@@ -7,7 +7,7 @@ use crate::protocol::Tables;
 use crate::sizes::*;
 use crate::view::View;
 
-use super::{WrongQuota, WrongWait};
+use super::{WrongQuota, WrongSize, WrongTest, WrongWait};
 
 /// A wrong treatment of tables.
 #[derive(Clone, Copy, Debug, PartialEq, Eq)]
@@ -28,6 +28,12 @@ pub enum WrongTables {
     Quota(WrongQuota),
     /// A wrong rule of lines.
     Wait(WrongWait),
+    /// A wrong size.
+    Size(WrongSize),
+    /// A test of the tables for fewer slots or versions.
+    Test(WrongTest),
+    /// The last slot's bit among the shared holders brings all bits above it.
+    SignedBit,
     /// The rank of one that is granted stays.
     StaleRank,
     /// A deadlock of an exchanger moves those whom it would have passed.
@@ -44,7 +50,7 @@ pub enum WrongTables {
 }
 
 impl WrongTables {
-    const OTHERS: [(&'static str, WrongTables); 13] = [
+    const OTHERS: [(&'static str, WrongTables); 14] = [
         ("high-slot", WrongTables::HighSlot),
         ("freed-pair", WrongTables::FreedPair),
         ("stale-item", WrongTables::StaleItem),
@@ -61,6 +67,7 @@ impl WrongTables {
         ("circle-in-line", WrongTables::BlindCircle),
         ("strict-line", WrongTables::StrictLine(6)),
         ("strict-order", WrongTables::StrictOrder),
+        ("signed-bit", WrongTables::SignedBit),
     ];
 
     pub fn named(name: &str) -> Option<WrongTables> {
@@ -68,14 +75,20 @@ impl WrongTables {
             .or_else(|| Clause::named(name).map(WrongTables::Blind))
             .or_else(|| super::named(&WrongQuota::ALL, name).map(WrongTables::Quota))
             .or_else(|| super::named(&WrongWait::ALL, name).map(WrongTables::Wait))
+            .or_else(|| super::named(&WrongSize::ALL, name).map(WrongTables::Size))
+            .or_else(|| super::named(&WrongTest::ALL, name).map(WrongTables::Test))
     }
 
     pub fn names() -> Vec<&'static str> {
-        let clauses = Clause::ALL.iter().map(|clause| clause.name());
-        let others = super::names(&WrongTables::OTHERS);
-        let quotas = super::names(&WrongQuota::ALL);
-        let waits = super::names(&WrongWait::ALL);
-        clauses.chain(others).chain(quotas).chain(waits).collect()
+        [
+            Clause::ALL.iter().map(|clause| clause.name()).collect(),
+            super::names(&WrongTables::OTHERS),
+            super::names(&WrongQuota::ALL),
+            super::names(&WrongWait::ALL),
+            super::names(&WrongSize::ALL),
+            super::names(&WrongTest::ALL),
+        ]
+        .concat()
     }
 
     pub fn call(self, call: Call, tables: &mut Tables) -> Answer {
@@ -104,6 +117,23 @@ impl WrongTables {
             (WrongTables::Wait(kind), code) if code != code::BAD_TABLES => {
                 *tables = before;
                 return on_view(tables, |view| kind.call(view, call));
+            }
+            (WrongTables::Size(kind), code) if code != code::BAD_TABLES => {
+                *tables = before;
+                return on_view(tables, |view| kind.call(view, call));
+            }
+            (WrongTables::Test(kind), _) => {
+                if let Some(wrong) = kind.call(&before, answer) {
+                    *tables = before;
+                    return wrong;
+                }
+            }
+            (WrongTables::SignedBit, code::GRANTED) => {
+                for row in tables.locks.chunks_mut(LOCK_ROW) {
+                    if row[SHARED] >> (SLOTS - 1) & 1 != 0 {
+                        row[SHARED] |= u64::MAX << SLOTS;
+                    }
+                }
             }
             (WrongTables::StaleRank, code::GRANTED) => {
                 if let Call::Read { number, .. } | Call::Write { number, .. } = call {

@@ -49,10 +49,10 @@ pub fn shared_holder(rng: &mut Rng, t: &mut Tables, like: fn(&[u64]) -> bool) ->
 pub fn shared_high_bit(rng: &mut Rng, t: &mut Tables) -> bool {
     match pick_item(rng, t, |row| row[EXCLUSIVE] == 0) {
         Some(item) => {
-            let bit = if rng.percent(50) {
-                16
-            } else {
-                rng.within(16, 63)
+            let first = SLOTS as u64;
+            let bit = match rng.percent(50) {
+                true => first,
+                false => rng.within(first, 63),
             };
             t.locks[item * LOCK_ROW + SHARED] |= 1 << bit;
             true
@@ -71,12 +71,14 @@ pub fn exclusive_holder(rng: &mut Rng, t: &mut Tables, like: fn(&[u64]) -> bool)
     }
 }
 
-pub fn exclusive_17(rng: &mut Rng, t: &mut Tables) -> bool {
+/// An exclusive holder that is no slot, though a part of its bits may be one.
+pub fn exclusive_high(rng: &mut Rng, t: &mut Tables) -> bool {
+    let first = SLOTS as u64 + 1;
     let holder = match rng.below(4) {
-        0 => 17,
-        1 => rng.within(17, 70),
-        2 => rng.one_of(&[32, 33, 64, 65, 128, 1 << 32]) + rng.within(0, 16),
-        _ => rng.odd_word().max(17),
+        0 => first,
+        1 => rng.within(first, 70),
+        2 => rng.one_of(&[64, 128, 256, 1 << 16, 1 << 32]) + rng.below(first),
+        _ => rng.odd_word().max(first),
     };
     match pick_item(rng, t, |row| row[SHARED] == 0) {
         Some(item) => set(&mut t.locks[item * LOCK_ROW + EXCLUSIVE], holder),

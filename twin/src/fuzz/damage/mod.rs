@@ -82,14 +82,14 @@ pub const KINDS: [(&str, Damage); 54] = [
     ("shared holder a query", |rng, t| {
         shared_holder(rng, t, query)
     }),
-    ("shared bit 16 and above", shared_high_bit),
+    ("shared bit 32 and above", shared_high_bit),
     ("exclusive holder not live", |rng, t| {
         exclusive_holder(rng, t, free)
     }),
     ("exclusive holder a query", |rng, t| {
         exclusive_holder(rng, t, query)
     }),
-    ("exclusive holder 17 and above", exclusive_17),
+    ("exclusive holder 33 and above", exclusive_high),
     ("both kinds of holders", both_holders),
     ("working value without holder", working_value),
     ("33 held exclusively and above", |rng, t| {
@@ -108,8 +108,8 @@ pub const KINDS: [(&str, Damage); 54] = [
     ("a rank far above", rank_far_above),
     ("an exchanger behind a reader", exchanger_behind),
     ("count 0", |rng, t| count(rng, t, |_| 0)),
-    ("count 17 and above", |rng, t| {
-        count(rng, t, |rng| rng.odd_word().max(17))
+    ("count 33 and above", |rng, t| {
+        count(rng, t, |rng| rng.odd_word().max(PLACES as u64 + 1))
     }),
     ("count 2^63", |rng, t| count(rng, t, |_| 1 << 63)),
     ("unused pair not zero", unused_pair),

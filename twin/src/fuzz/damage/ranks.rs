@@ -14,8 +14,8 @@ use crate::sizes::*;
 pub fn some_rank(rng: &mut Rng) -> u64 {
     match rng.below(4) {
         0 => 1,
-        1 => rng.within(1, 17),
-        2 => rng.one_of(&[17, u64::MAX, 1 << 32]),
+        1 => rng.within(1, SLOTS as u64 + 1),
+        2 => rng.one_of(&[SLOTS as u64 + 1, u64::MAX, 1 << 32]),
         _ => rng.odd_word().max(1),
     }
 }
@@ -25,7 +25,7 @@ pub fn some_rank(rng: &mut Rng) -> u64 {
 pub fn long_line(rng: &mut Rng, t: &mut Tables) -> Option<u64> {
     let item = rng.below(ITEMS as u64);
     let writes = rng.one_of(&[10, 50, 90]);
-    for _ in 0..rng.within(2, 24) {
+    for _ in 0..rng.within(2, 3 * SLOTS as u64 / 2) {
         let keeper = t.as_keeper()?;
         let scene = Scene::of(&keeper);
         let lock = match rng.percent(writes) {
@@ -95,7 +95,7 @@ pub fn rank_gap(rng: &mut Rng, t: &mut Tables) -> bool {
     match a_line(rng, t, 1) {
         Some(line) => {
             let from = rng.index(line.len());
-            let gap = rng.one_of(&[1, 1, 1, 2, 16]);
+            let gap = rng.one_of(&[1, 1, 1, 2, 16, SLOTS as u64]);
             for &slot in &line[from..] {
                 row_of(&mut t.txns, slot)[RANK] += gap;
             }
@@ -107,7 +107,8 @@ pub fn rank_gap(rng: &mut Rng, t: &mut Tables) -> bool {
 
 /// The last one of a line has a rank that no line has.
 pub fn rank_far_above(rng: &mut Rng, t: &mut Tables) -> bool {
-    let rank = rng.one_of(&[17, 18, 64, 1 << 32, 1 << 63, u64::MAX]);
+    let first = SLOTS as u64 + 1;
+    let rank = rng.one_of(&[first, first + 1, 64, 1 << 32, 1 << 63, u64::MAX]);
     match a_line(rng, t, 1) {
         Some(line) => set(&mut row_of(&mut t.txns, line[line.len() - 1])[RANK], rank),
         None => false,
