@@ -281,7 +281,7 @@ pub fn report(program: &Program, input: &[u8], run: &Run) -> String {
             break;
         }
     }
-    let numbers: Vec<u64> = all.iter().copied().collect();
+    let numbers: Vec<u64> = list.iter().filter_map(|line| line.given).collect();
     let left = smallest(&numbers, &mut budget, |some| stays(&of_these(&list, some)));
     let small = smallest(&of_these(&list, &left), &mut budget, stays);
     let input = put_together(&small, &all, ends);
@@ -318,6 +318,7 @@ fn shown(input: &[u8], expected: &[u8], output: &[u8], range: std::ops::Range<us
 #[cfg(test)]
 mod tests {
     use super::*;
+    use crate::sizes::SLOTS;
 
     #[test]
     fn the_steered_answers_are_the_runners() {
@@ -330,6 +331,11 @@ mod tests {
         for code in (0..8).chain([code::QUOTA_SPENT as usize]) {
             assert!(stats.codes[code] > 100, "code {}", code);
         }
+        // Every place in a row, every length of a line and of a circle.
+        assert!(stats.looked.iter().all(|&count| count > 0));
+        assert!(stats.in_line.lengths().all(|(_, count)| count > 10));
+        assert!(stats.circles[2..].iter().all(|&count| count > 0));
+        assert!(stats.circles[SLOTS] > 10);
     }
 
     #[test]

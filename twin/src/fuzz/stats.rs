@@ -116,9 +116,9 @@ pub struct Stats {
     pub codes: [u64; code::NAMES.len()],
     events: [u64; EVENTS.len()],
     at_limit: limit::Counts,
-    in_line: in_line::Counts,
-    looked: [u64; PLACES + 1],
-    circles: [u64; SLOTS + 1],
+    pub in_line: in_line::Counts,
+    pub looked: [u64; PLACES + 1],
+    pub circles: [u64; SLOTS + 1],
     full_rows: u64,
     /// For each kind of odd line: how many, and how many of them bad.
     odd_lines: [(u64, u64); spoil::KINDS.len()],
