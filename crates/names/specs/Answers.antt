@@ -3,7 +3,7 @@ use Prim.Native.Nat.{ℕ}
 use Rattle.names.specs.declared.Answer.{Answer}
 use Rattle.names.specs.declared.deeds.Refusal.{Refusal}
 use Rattle.names.specs.declared.deeds.Refusal.the-variants.{Wait, Deadlock, UnknownTransaction, UnknownItem, QueryMayNotWrite, StillWaiting}
-use Rattle.names.specs.declared.deeds.Refusal.the-variants.{NoSlot, NumbersSpent, ClockSpent, BadTables, QuotaSpent}
+use Rattle.names.specs.declared.deeds.Refusal.the-variants.{NoSlot, NumbersSpent, ClockSpent, BadTables, QuotaSpent, PastWriting}
 
 -- ---- the column "code": 0 granted, and
 abbrev pub granted : ℕ
@@ -22,6 +22,8 @@ code ClockSpent = 9
 code BadTables = 10
 -- request E2, "gets new code 11"
 code QuotaSpent = 11
+-- request E6, "gets code 12"
+code PastWriting = 12
 
 -- "An answer is four numbers: code, value, number, looked."
 abbrev pub answer : ℕ → ℕ → ℕ → ℕ → Answer

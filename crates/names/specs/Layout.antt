@@ -3,7 +3,7 @@
 use Prim.Native.Nat.{ℕ}
 
 -- ---- "Transactions ..: last number given; clock (stamp of the latest update commit); then 16 rows", of six words since request E4, and
--- 32 rows since request E5
+-- 32 rows since request E5. Since request E6 the clock is the stamp that was given last, at a commit or at a settle
 abbrev pub lastNumberAt : ℕ
 lastNumberAt = 0
 
@@ -43,6 +43,10 @@ anUpdate = 0
 
 abbrev pub aQuery : ℕ
 aQuery = 1
+
+-- request E6, "Its row then has kind 2": an update past its writing
+abbrev pub aSettled : ℕ
+aSettled = 2
 
 -- the locks that are awaited
 abbrev pub noLock : ℕ

@@ -6,4 +6,5 @@ pub enum Call {
     Write { number: u64, item: u64, value: u64 },
     Commit { number: u64 },
     Abort { number: u64 },
+    Settle { number: u64 },
 }

@@ -19,6 +19,7 @@ pub enum Refusal {
     ClockSpent,
     BadTables,
     QuotaSpent,
+    PastWriting,
 }
 
 impl Refusal {
@@ -37,6 +38,7 @@ impl Refusal {
             Refusal::ClockSpent => 9,
             Refusal::BadTables => 10,
             Refusal::QuotaSpent => 11,
+            Refusal::PastWriting => 12,
         }
     }
 }
@@ -59,9 +61,10 @@ pub enum Deed {
     Waits(Slot, u64, Item),
     // A transaction of this kind begins, with this start.
     Begins(Slot, u64, Stamp),
-    // A query reads the newest version up to its start.
+    // A query, or one past its writing, reads the newest version up to its start.
     ReadsByStart(Slot, Item),
-    // An update reads: its own working value, the newest value, or that under a new shared lock.
+    // An update reads: its own working value, the newest value, or that under a new shared lock. Its own
+    // working value is read past its writing too.
     ReadsOwn(Slot, Item),
     ReadsNewest(Slot, Item),
     TakesShared(Slot, Item),
@@ -74,4 +77,9 @@ pub enum Deed {
     Ends(Slot),
     // An update is aborted.
     Aborts(Slot),
+    // An update ends its writing, under the stamp after the clock.
+    Settles(Slot),
+    // One past its writing commits under its stamp, or is aborted.
+    CommitsSettled(Slot),
+    AbortsSettled(Slot),
 }

@@ -32,6 +32,8 @@ pub const UPDATE_KIND: u64 = 0;
 
 pub const QUERY_KIND: u64 = 1;
 
+pub const SETTLED_KIND: u64 = 2;
+
 // The locks that are awaited.
 pub const NO_LOCK: u64 = 0;
 

@@ -20,6 +20,7 @@ pub use layout::LOCK_WORDS;
 pub use layout::LOCK_WORKING_AT;
 pub use layout::NO_LOCK;
 pub use layout::QUERY_KIND;
+pub use layout::SETTLED_KIND;
 pub use layout::SHARED_LOCK;
 pub use layout::TXN_HEAD;
 pub use layout::TXN_ITEM_AT;

@@ -9,7 +9,7 @@ use lib.ListN.{length}
 use lib.Dec.{T, eqb}
 use borrow.Author.Tests.{eq-eqb}
 use Rattle.names.specs.declared.Sizes.{Sizes}
-use Rattle.rules.specs.Tables.{Tables, txnWords, lastNumber, clock, Txn, txn, setTxn, withRank, live, liveUpdate, liveQuery}
+use Rattle.rules.specs.Tables.{Tables, txnWords, lastNumber, clock, Txn, txn, setTxn, withRank, live, liveUpdate, liveSettled, mayHold, byStart}
 use Rattle.rules.specs.Tables.{noLock, sharedLock, exclusiveLock, lock, holds, holdsShared, holdsExclusive, exclusivesOf}
 use Rattle.rules.specs.Waits.{awaits, awaitsOn, waitersOn, exchangersOn, rankFor, raised, noted, closedUp, conflicts, waitsFor, Walk, one, more}
 use Rattle.rules.specs.Good.{Good, GoodTxn, GoodQuota, GoodRanks}
@@ -19,9 +19,9 @@ use Rattle.rules.specs.Step.{withTxns, cleared}
 use Rattle.rules.proofs.Tests.{same?, true-is, false-is, eq-make, and-left, and-right, and-both, or-left, or-right}
 use Rattle.rules.proofs.Counts.{count-none}
 use Rattle.rules.proofs.Views.{awaiting, setAwaited-row, length-setTxn, lastNumber-setTxn, clock-setTxn, txn-setTxn, txn-setTxn-other}
-use Rattle.rules.proofs.EqualRows.{live-number, update-live, query-live}
+use Rattle.rules.proofs.EqualRows.{live-number, update-live, settled-live, reader-live, update-holds}
 use Rattle.rules.proofs.EqualRanks.{awaits→, →awaits, awaitsOn→, →awaitsOn}
-use Rattle.rules.proofs.Carried.{no-more-same, txn-carried, row-reranked, lock-carried, versions-carried}
+use Rattle.rules.proofs.Carried.{no-more-same, txn-carried, row-reranked, lock-carried, versions-carried, settled-carried}
 use Rattle.rules.proofs.Quotas.{quotas-but-rank}
 use Rattle.rules.proofs.Walks.{→waits-for}
 use Rattle.rules.proofs.Lines.{leaving-idle, left-ranks, left-links}
@@ -73,12 +73,23 @@ module _
     unfolding liveUpdate live
     update′ = same liveUpdate (λ w k x p. refl) (λ w p. refl)
 
-    query′ : (r : ℕ) → r < S .slots → liveQuery (txn t′ r) ≡ liveQuery (txn t r)
-    unfolding liveQuery live
-    query′ = same liveQuery (λ w k x p. refl) (λ w p. refl)
+    holder′ : (r : ℕ) → r < S .slots → mayHold (txn t′ r) ≡ mayHold (txn t r)
+    unfolding mayHold liveUpdate liveSettled live
+    holder′ = same mayHold (λ w k x p. refl) (λ w p. refl)
+
+    reader′ : (r : ℕ) → r < S .slots → byStart (txn t′ r) ≡ byStart (txn t r)
+    unfolding byStart live
+    reader′ = same byStart (λ w k x p. refl) (λ w p. refl)
+
+    settled′ : (r : ℕ) → r < S .slots → liveSettled (txn t′ r) ≡ liveSettled (txn t r)
+    unfolding liveSettled live
+    settled′ = same liveSettled (λ w k x p. refl) (λ w p. refl)
+
+    start′ : (r : ℕ) → r < S .slots → (txn t′ r) .start ≡ (txn t r) .start
+    start′ = same (λ (w : Txn). w .start) (λ w k x p. refl) (λ w p. refl)
 
     new-row : GoodTxn S t′ (G .locks) s R
-    unfolding liveUpdate liveQuery live
+    unfolding liveUpdate byStart liveSettled live
     new-row =
         let o = g .txnGood s inside in
         let a = update-live (txn t s) update in
@@ -88,8 +99,9 @@ module _
           kindListed = inl (a .1);
           lockListed = may .listed;
           updateStart = λ h. o .updateStart update;
-          queryStart = λ h. absurd (let b = query-live R h .1 in let c = a .1 in omega arith);
-          queryIdle = λ h. absurd (let b = query-live R h .1 in let c = a .1 in omega arith);
+          readerStart = λ h. absurd (reader-live R h .1 (a .1));
+          readerIdle = λ h. absurd (reader-live R h .1 (a .1));
+          settledStart = λ h. absurd (let b = settled-live R h .1 in let c = a .1 in omega arith);
           itemKnown = may .known;
           itemUnused = may .none;
           rankUnused = unused;
@@ -108,16 +120,16 @@ module _
             (txn-carried S t t′ (G .locks) (G .locks) r (txn t r) (let a = last′ in omega arith) (let a = clock′ in omega arith) (λ w. no-more-same r refl) (g .txnGood r i)))
 
     new-quota : GoodQuota S (G .locks) s R
-    new-quota = record { most = λ u. g .quotaGood s inside .most update; fullIdle = λ u e d. may .room d e }
+    new-quota = record { most = λ u. g .quotaGood s inside .most (update-holds (txn t s) update); fullIdle = λ u e d. may .room d e }
 
     quotas : (r : ℕ) → r < S .slots → GoodQuota S (G .locks) r (txn t′ r)
     quotas = quotas-but-rank S (G .locks) t t′ s f there (subst (λ (w : Txn). GoodQuota S (G .locks) s w) (sym here) new-quota) (g .quotaGood)
 
-    -- a query's row is not that of the update in slot s, and its rank is 0
-    query-there : (r : ℕ) → r < S .slots → T (liveQuery (txn t r)) → txn t′ r ≡ txn t r
-    query-there r i h =
-        there r i (λ e. let a = query-live (txn t r) h .1 in let b = update-live (txn t s) update .1 in let c : (txn t r) .kind ≡ (txn t s) .kind = ap (λ (m : ℕ). (txn t m) .kind) e in absurd (omega arith))
-        ∙ ap (withRank (txn t r)) (kept (txn t r) (g .txnGood r i .queryIdle h))
+    -- a reader's row is not that of the update in slot s, and its rank is 0
+    reader-there : (r : ℕ) → r < S .slots → T (byStart (txn t r)) → txn t′ r ≡ txn t r
+    reader-there r i h =
+        there r i (λ e. reader-live (txn t r) h .1 (ap (λ (m : ℕ). (txn t m) .kind) e ∙ update-live (txn t s) update .1))
+        ∙ ap (withRank (txn t r)) (kept (txn t r) (g .txnGood r i .readerIdle h))
 
     pub awaiting-good : GoodRanks S t′ (G .locks) → ((a : ℕ) → Walk (waitsFor t′ (G .locks)) a a → ⊥) → Good S (withTxns G t′)
     awaiting-good ranked uncircled =
@@ -129,10 +141,12 @@ module _
           clockMost = let a = clock′ in let b = g .clockMost in omega arith;
           txnGood = rows;
           distinct = λ a b i j d h e. g .distinct a b i j d (subst T (live′ b j) h) (sym (number′ a i) ∙ e ∙ number′ b j);
-          lockGood = λ y i. lock-carried S t t′ (lock (G .locks) y) (λ r h u. subst T (sym (update′ r (g .lockGood y i .holders r h .0))) u) (g .lockGood y i);
+          lockGood = λ y i. lock-carried S t t′ (lock (G .locks) y) (λ r h u. subst T (sym (update′ r (g .lockGood y i .sharers r h .0))) u)
+              (λ r h u. subst T (sym (holder′ r (g .lockGood y i .excluders r h .0))) u) (g .lockGood y i);
           quotaGood = quotas;
-          versionsGood = λ x i. versions-carried S t t′ _ (let a = clock′ in omega arith) (λ r j h. query-there r j h)
-              (λ r j h. inl (query-there r j (subst T (query′ r j) h))) (g .versionsGood x i);
+          versionsGood = λ x i. versions-carried S t t′ _ (let a = clock′ in omega arith) (λ r j h. reader-there r j h)
+              (λ r j h. inl (reader-there r j (subst T (reader′ r j) h))) (g .versionsGood x i);
           ranksGood = ranked;
+          settledGood = settled-carried S G (withTxns G t′) (λ r i h. (subst T (settled′ r i) h, start′ r i)) (λ r x i j a h. (h, refl)) (g .settledGood);
           noCircle = uncircled;
         }

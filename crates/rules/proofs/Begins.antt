@@ -9,17 +9,17 @@ use lib.Seq.{getD-set-same, getD-set-other}
 use lib.Dec.{T}
 use Rattle.names.specs.declared.Sizes.{Sizes}
 use Rattle.names.specs.Sizes.{lastWord}
-use Rattle.rules.specs.Tables.{newTxn, Tables, txnWords, lastNumber, clock, Txn, txn, setTxn, withRank, live, liveQuery}
-use Rattle.rules.specs.Tables.{anUpdate, aQuery, lock}
+use Rattle.rules.specs.Tables.{newTxn, Tables, txnWords, lastNumber, clock, Txn, txn, setTxn, withRank, live, liveSettled, byStart}
+use Rattle.rules.specs.Tables.{anUpdate, aQuery, aSettled, lock}
 use Rattle.rules.specs.Waits.{awaits, waitsFor}
 use Rattle.rules.specs.Changed.{leaving}
 use Rattle.rules.specs.Good.{Good, GoodTxn, GoodQuota}
 use Rattle.rules.specs.Step.{begun}
 use Rattle.rules.proofs.Tests.{same?}
 use Rattle.rules.proofs.Views.{length-setTxn, lastNumber-setTxn, clock-setTxn, txn-setTxn, txn-setTxn-other, txn-top}
-use Rattle.rules.proofs.EqualRows.{update-live, query-live, free-number}
+use Rattle.rules.proofs.EqualRows.{update-live, settled-live, holder-live, reader-live, free-number}
 use Rattle.rules.proofs.Quotas.{exclusives-none, quotas-but}
-use Rattle.rules.proofs.Carried.{no-more-same, txn-carried, lock-carried, versions-carried}
+use Rattle.rules.proofs.Carried.{no-more-same, txn-carried, lock-carried, versions-carried, settled-carried}
 use Rattle.rules.proofs.EqualRanks.{awaits→}
 use Rattle.rules.proofs.Lines.{same-leaving, left-ranks, left-links}
 use Rattle.rules.proofs.Deadlock.{fewer-no-circle}
@@ -54,16 +54,20 @@ module _ (S : Sizes) (G : Tables) (g : Good S G) (k q s : ℕ) (inside : s < S .
   there : (r : ℕ) → r ≢ s → txn t′ r ≡ txn t r
   there r d = txn-setTxn-other (set t 0 n) s R r d ∙ txn-top t 0 n r (omega arith)
 
-  kind-listed : ((k ≡ anUpdate) × (q ≡ 0)) ⊎ ((k ≡ aQuery) × (q ≡ clock t)) → (k ≡ anUpdate) ⊎ (k ≡ aQuery)
+  kind-listed : ((k ≡ anUpdate) × (q ≡ 0)) ⊎ ((k ≡ aQuery) × (q ≡ clock t)) → (k ≡ anUpdate) ⊎ ((k ≡ aQuery) ⊎ (k ≡ aSettled))
   kind-listed (inl e) = inl (e .0)
-  kind-listed (inr e) = inr (e .0)
+  kind-listed (inr e) = inr (inl (e .0))
+
+  not-settled : ((k ≡ anUpdate) × (q ≡ 0)) ⊎ ((k ≡ aQuery) × (q ≡ clock t)) → k ≢ aSettled
+  not-settled (inl e) f = let a = e .0 in absurd (omega arith)
+  not-settled (inr e) f = let a = e .0 in absurd (omega arith)
 
   update-start : ((k ≡ anUpdate) × (q ≡ 0)) ⊎ ((k ≡ aQuery) × (q ≡ clock t)) → k ≡ anUpdate → q ≡ 0
   update-start (inl e) f = e .1
   update-start (inr e) f = absurd (let a = e .0 in omega arith)
 
-  query-start : ((k ≡ anUpdate) × (q ≡ 0)) ⊎ ((k ≡ aQuery) × (q ≡ clock t)) → k ≡ aQuery → q ≡ clock t
-  query-start (inl e) f = absurd (let a = e .0 in omega arith)
+  query-start : ((k ≡ anUpdate) × (q ≡ 0)) ⊎ ((k ≡ aQuery) × (q ≡ clock t)) → k ≢ anUpdate → q ≡ clock t
+  query-start (inl e) f = absurd (f (e .0))
   query-start (inr e) f = e .1
 
   new-row : GoodTxn S t′ (G .locks) s R
@@ -74,8 +78,9 @@ module _ (S : Sizes) (G : Tables) (g : Good S G) (k q s : ℕ) (inside : s < S .
         kindListed = kind-listed kinds;
         lockListed = omega arith;
         updateStart = λ h. update-start kinds (update-live R h .1);
-        queryStart = λ h. let a = query-start kinds (query-live R h .1) in let b = clock′ in omega arith;
-        queryIdle = λ h. refl;
+        readerStart = λ h. let a = query-start kinds (reader-live R h .1) in let b = clock′ in omega arith;
+        readerIdle = λ h. refl;
+        settledStart = λ h. absurd (not-settled kinds (settled-live R h .1));
         itemKnown = λ d. absurd (d refl);
         itemUnused = λ e. refl;
         rankUnused = λ e. refl;
@@ -96,7 +101,7 @@ module _ (S : Sizes) (G : Tables) (g : Good S G) (k q s : ℕ) (inside : s < S .
   new-quota : GoodQuota S (G .locks) s R
   new-quota =
       record {
-        most = λ u. let a = exclusives-none S t (G .locks) (g .lockGood) s (λ h. unused (update-live (txn t s) h .0)) in omega arith;
+        most = λ u. let a = exclusives-none S t (G .locks) (g .lockGood) s (λ h. unused (holder-live (txn t s) h .0)) in omega arith;
         fullIdle = λ u e d. absurd (omega arith);
       }
 
@@ -127,13 +132,13 @@ module _ (S : Sizes) (G : Tables) (g : Good S G) (k q s : ℕ) (inside : s < S .
   alive : (r : ℕ) → T (live (txn t r)) → txn t′ r ≡ txn t r
   alive r h = there r (λ e. unused (subst (λ (m : ℕ). T (live (txn t m))) e h))
 
-  fresh-start : (r : ℕ) → T (liveQuery (txn t′ r)) → (txn t′ r ≡ txn t r) ⊎ (clock t ≤ (txn t′ r) .start)
+  fresh-start : (r : ℕ) → T (byStart (txn t′ r)) → (txn t′ r ≡ txn t r) ⊎ (clock t ≤ (txn t′ r) .start)
   fresh-start r h = go (same? r s)
     where
       go : (r ≡ s) ⊎ (r ≢ s) → (txn t′ r ≡ txn t r) ⊎ (clock t ≤ (txn t′ r) .start)
       go (inl e) =
           let w : txn t′ r ≡ R = ap (txn t′) e ∙ here in
-          inr (rw w (let a = query-start kinds (query-live R (subst (λ (w : Txn). T (liveQuery w)) w h) .1) in omega arith))
+          inr (rw w (let a = query-start kinds (reader-live R (subst (λ (w : Txn). T (byStart w)) w h) .1) in omega arith))
       go (inr d) = inl (there r d)
 
   -- the newcomer waits for nobody, and nobody waits for it
@@ -161,9 +166,19 @@ module _ (S : Sizes) (G : Tables) (g : Good S G) (k q s : ℕ) (inside : s < S .
         clockMost = let a = clock′ in let b = g .clockMost in omega arith;
         txnGood = rows;
         distinct = apart;
-        lockGood = λ x i. lock-carried S t t′ (lock (G .locks) x) (λ r h u. rw (alive r (update-live (txn t r) u .0)) u) (g .lockGood x i);
+        lockGood = λ x i. lock-carried S t t′ (lock (G .locks) x) (λ r h u. rw (alive r (update-live (txn t r) u .0)) u)
+            (λ r h u. rw (alive r (holder-live (txn t r) u .0)) u) (g .lockGood x i);
         quotaGood = quotas;
-        versionsGood = λ x i. versions-carried S t t′ _ (let a = clock′ in omega arith) (λ r j h. alive r (query-live (txn t r) h .0)) (λ r j h. fresh-start r h) (g .versionsGood x i);
+        versionsGood = λ x i. versions-carried S t t′ _ (let a = clock′ in omega arith) (λ r j h. alive r (reader-live (txn t r) h .0)) (λ r j h. fresh-start r h) (g .versionsGood x i);
         ranksGood = left-ranks S t t′ (G .locks) s inside rows′ idle (g .ranksGood) (G .locks) (λ x r d. refl);
+        settledGood = settled-carried S G (begun k q s G) settled (λ r x i j a h. (h, refl)) (g .settledGood);
         noCircle = fewer-no-circle S G g t′ (G .locks) links;
       }
+    where
+      -- the newcomer is none of those past their writing
+      settled : (r : ℕ) → r < S .slots → T (liveSettled (txn t′ r)) → T (liveSettled (txn t r)) × ((txn t′ r) .start ≡ (txn t r) .start)
+      settled r i h = go (same? r s)
+        where
+          go : (r ≡ s) ⊎ (r ≢ s) → T (liveSettled (txn t r)) × ((txn t′ r) .start ≡ (txn t r) .start)
+          go (inl e) = absurd (not-settled kinds (settled-live R (subst (λ (w : Txn). T (liveSettled w)) (ap (txn t′) e ∙ here) h) .1))
+          go (inr d) = (subst (λ (w : Txn). T (liveSettled w)) (there r d) h, ap (λ (w : Txn). w .start) (there r d))

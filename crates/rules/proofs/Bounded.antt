@@ -15,18 +15,19 @@ use Rattle.rules.specs.Words.{row}
 use Rattle.rules.specs.Tables.{Tables, lastNumber, clock, txn, liveUpdate, Lock, lockRow, lockWords, lock, setLock, holdsExclusive, released, release, starts, versionRow, fresh}
 use Rattle.rules.specs.Versions.{Version, noVersion, pairs, versionsIn, versionsOf, newest, place, choice, readBySome, keptFrom, kept}
 use Rattle.rules.specs.Good.{Good}
-use Rattle.rules.specs.Answers.{Call, BeginUpdate, BeginQuery, Read, Write, Commit, Abort, Outcome, Refusal, code, Deed}
+use Rattle.rules.specs.Answers.{Call, BeginUpdate, BeginQuery, Read, Write, Commit, Abort, Settle, Outcome, Refusal, code, Deed}
 use Rattle.rules.specs.Answers.{Wait}
-use Rattle.rules.specs.Step.{locked, replaced, taken, withNew, committed, ended, aborted, begun, queryRead, judged, done, act, step}
+use Rattle.rules.specs.Step.{locked, replaced, taken, withNew, committedUnder, committed, settledCommitted, ended, aborted, settledAborted, settled, begun, queryRead, judged, done, act, step}
 use Rattle.rules.proofs.Tests.{same?}
 use Rattle.rules.proofs.Choice.{length-versionsIn, place-le}
-use Rattle.rules.proofs.Views.{lock-setLock, lock-setLock-other, lock-release}
+use Rattle.rules.proofs.Views.{lock-setLock, lock-setLock-other, lock-release, lock-unshare}
 use Rattle.rules.proofs.Steps.{acts, cond-case}
 use Rattle.rules.proofs.Fresh.{zeros, fresh-row, fresh-row-zero}
-use Rattle.rules.proofs.ChangedVersions.{ended-versions, committed-versions}
+use Rattle.rules.proofs.ChangedVersions.{ended-versions, committed-versions, settled-commit-versions, settled-abort-versions}
+use Rattle.rules.proofs.EqualRows.{settled-reads}
 use Rattle.rules.proofs.Judged.{way}
-use Rattle.rules.proofs.Ways.{refusal-most, Way, refused, waited, beganUpdate, beganQuery, readOwn, readNewest, readShared, readQuery}
-use Rattle.rules.proofs.Ways.{wroteOwn, wroteTaken, committedUpdate, committedQuery, abortedUpdate, abortedQuery}
+use Rattle.rules.proofs.Ways.{refusal-most, Way, refused, waited, beganUpdate, beganQuery, readOwn, readNewest, readShared, readSettled, readByStart}
+use Rattle.rules.proofs.Ways.{wroteOwn, wroteSettled, wroteTaken, committedUpdate, committedSettled, committedQuery, abortedUpdate, abortedSettled, abortedQuery, settledUpdate, keptWaiting}
 
 -- the value of a write, if it is one, is at most B
 unfoldable pub Asks : ℕ → Call → Type 0
@@ -36,6 +37,7 @@ Asks B BeginQuery = T true
 Asks B (Read n x) = T true
 Asks B (Commit n) = T true
 Asks B (Abort n) = T true
+Asks B (Settle n) = T true
 
 pub record Within (B : ℕ) (a : Answer) : Type 0 where
   pub code : a .code ≤ B
@@ -110,11 +112,37 @@ module _ (B : ℕ) where
       committed-bounded : (s : ℕ) → s < S .slots → T (liveUpdate (txn (G .txns) s)) → Bounded B S (committed S s G)
       committed-bounded s i u =
           record {
-            working = unfold committed in (released-all s);
+            working = unfold committed committedUnder in (released-all s);
             values = λ x j.
                 subst (Values B) (sym (committed-versions S G g enough s i u x j))
                 (kept-values (starts S (G .txns)) (withNew (G .locks) s (clock (G .txns) + 1) x (versionsOf S (G .versions) x))
                 (new-values (G .locks) s (clock (G .txns) + 1) x (versionsOf S (G .versions) x) (b .working x j) (b .values x j)));
+          }
+
+      -- request E6
+      settled-commit-bounded : (s : ℕ) → s < S .slots → Bounded B S (settledCommitted S s G)
+      settled-commit-bounded s i =
+          record {
+            working = unfold settledCommitted committedUnder in (released-all s);
+            values = λ x j.
+                subst (Values B) (sym (settled-commit-versions S G g enough s i x j))
+                (kept-values (starts S ((settledCommitted S s G) .txns)) (withNew (G .locks) s ((txn (G .txns) s) .start) x (versionsOf S (G .versions) x))
+                (new-values (G .locks) s ((txn (G .txns) s) .start) x (versionsOf S (G .versions) x) (b .working x j) (b .values x j)));
+          }
+
+      settled-abort-bounded : (s : ℕ) → s < S .slots → Bounded B S (settledAborted S s G)
+      settled-abort-bounded s i =
+          record {
+            working = unfold settledAborted in (released-all s);
+            values = λ x j. subst (Values B) (sym (settled-abort-versions S G g enough s i x j)) (kept-values (starts S ((settledAborted S s G) .txns)) (versionsOf S (G .versions) x) (b .values x j));
+          }
+
+      settled-bounded : (s : ℕ) → Bounded B S (settled S s G)
+      unfolding settled
+      settled-bounded s =
+          record {
+            working = λ x i. subst (λ (k : Lock). k .working ≤ B) (sym (lock-unshare S s (G .locks) (g .locksExact) x i)) (b .working x i);
+            values = b .values;
           }
 
       -- ---- each way that a call can go
@@ -154,16 +182,22 @@ module _ (B : ℕ) where
         way-bounded c d a (readNewest n s x u h) = (found _ 1 (newest-bound x (u .known)) (omega arith), record { working = b .working; values = b .values })
         way-bounded c d a (readShared n s x u h f) =
             (found _ 1 (newest-bound x (u .known)) (omega arith), locked-bounded s x (u .known) _ (b .working x (u .known)))
-        way-bounded c d a (readQuery n s x C q i) =
+        way-bounded c d a (keptWaiting s C q) = (no Wait, b)
+        way-bounded c d a (readSettled n s x C p i h) = (found _ 0 (b .working x i) (omega arith), record { working = b .working; values = b .values })
+        way-bounded c d a (readByStart n s x C q i o k) =
             let start = (txn (G .txns) s) .start in
             let vs = versionsOf S (G .versions) x in
             (found _ _ (value-at vs (b .values x i) (place start vs)) (place-bound start x i), b)
         way-bounded c d a (wroteOwn n s x v u h) = (bare 0 (omega arith), locked-bounded s x (u .known) (replaced (lock (G .locks) x) v) a)
+        way-bounded c d a (wroteSettled n s x v C p i h) = (bare 0 (omega arith), locked-bounded s x i (replaced (lock (G .locks) x) v) a)
         way-bounded c d a (wroteTaken n s x v u h f r) = (bare 0 (omega arith), locked-bounded s x (u .known) (taken (lock (G .locks) x) s v) a)
         way-bounded c d a (committedUpdate n s C u i l) = (bare (clock (G .txns) + 1) (let m = g .clockMost in omega arith), committed-bounded s (C .inside) u)
+        way-bounded c d a (committedSettled n s C p) = (bare ((txn (G .txns) s) .start) (let k = g .txnGood s (C .inside) .readerStart (settled-reads (txn (G .txns) s) p) in let m = g .clockMost in omega arith), settled-commit-bounded s (C .inside))
         way-bounded c d a (committedQuery n s C q) = (bare 0 (omega arith), ended-bounded s (C .inside))
         way-bounded c d a (abortedUpdate n s C u) = (bare 0 (omega arith), aborted-bounded s)
+        way-bounded c d a (abortedSettled n s C p) = (bare 0 (omega arith), settled-abort-bounded s (C .inside))
         way-bounded c d a (abortedQuery n s C q) = (bare 0 (omega arith), ended-bounded s (C .inside))
+        way-bounded c d a (settledUpdate n s C u i l) = (bare (clock (G .txns) + 1) (let m = g .clockMost in omega arith), settled-bounded s)
 
         -- a call whose value is within the bound is answered so, and leaves the tables so
         pub step-bounded : (c : Call) → Asks B c → Both (step S c G)

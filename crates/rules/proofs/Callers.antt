@@ -8,12 +8,13 @@ use native.Mathlib.Omega.{arith}
 use lib.Dec.{T, eqb, eqb→eq}
 use borrow.Author.Tests.{ne-eqb, eqb-true, eqb-false}
 use Rattle.names.specs.declared.Sizes.{Sizes}
-use Rattle.rules.specs.Tables.{Tables, txn, live, liveUpdate, liveQuery, slotOf, freeSlot, anUpdate, aQuery}
+use Rattle.rules.specs.Tables.{Tables, Txn, txn, live, liveUpdate, liveQuery, liveSettled, byStart, slotOf, freeSlot, anUpdate, aQuery, aSettled, lock, holdsExclusive}
 use Rattle.rules.specs.Good.{Good}
 use Rattle.rules.specs.Answers.{Call}
 pub use Rattle.rules.specs.Conditions.{Caller, Free}
 use Rattle.rules.specs.Conditions.{Names, CallerIn}
-use Rattle.rules.proofs.Tests.{and-left, and-right, and-both, true-is, not-make, not-use, eq-make, same?}
+use Rattle.rules.proofs.EqualRows.{holder-live, reader-live, live-settled}
+use Rattle.rules.proofs.Tests.{and-left, and-right, and-both, true-is, not-make, not-use, eq-make, same?, false-is}
 use Rattle.rules.proofs.Counts.{first-le, first-passes, first-least}
 
 -- ---- the slot that is found under a number
@@ -123,15 +124,35 @@ is-query t s a e = and-both (live (txn t s)) _ a (true-is e)
 pub is-update :
     (S : Sizes) (G : Tables) → Good S G
     → (s : ℕ) → s < S .slots → T (live (txn (G .txns) s)) → eqb ((txn (G .txns) s) .kind) aQuery ≡ false
-    → T (liveUpdate (txn (G .txns) s))
+    → eqb ((txn (G .txns) s) .kind) aSettled ≡ false → T (liveUpdate (txn (G .txns) s))
 unfolding liveUpdate
-is-update S G g s i a e = and-both (live (txn (G .txns) s)) _ a (go (g .txnGood s i .kindListed))
+is-update S G g s i a e f = and-both (live (txn (G .txns) s)) _ a (go (g .txnGood s i .kindListed))
   where
     go :
-        ((txn (G .txns) s) .kind ≡ anUpdate) ⊎ ((txn (G .txns) s) .kind ≡ aQuery)
+        ((txn (G .txns) s) .kind ≡ anUpdate) ⊎ (((txn (G .txns) s) .kind ≡ aQuery) ⊎ ((txn (G .txns) s) .kind ≡ aSettled))
         → T (eqb ((txn (G .txns) s) .kind) anUpdate)
     go (inl q) = eq-make ((txn (G .txns) s) .kind) anUpdate q
-    go (inr q) = absurd (eqb-false ((txn (G .txns) s) .kind) aQuery e q)
+    go (inr (inl q)) = absurd (eqb-false ((txn (G .txns) s) .kind) aQuery e q)
+    go (inr (inr q)) = absurd (eqb-false ((txn (G .txns) s) .kind) aSettled f q)
+
+-- whoever has the kind of an update writes; whoever has not reads by a start
+pub is-writer : (t : List ℕ) (s : ℕ) → T (live (txn t s)) → eqb ((txn t s) .kind) anUpdate ≡ true → T (liveUpdate (txn t s))
+unfolding liveUpdate
+is-writer t s a e = and-both (live (txn t s)) _ a (true-is e)
+
+pub is-reader : (t : List ℕ) (s : ℕ) → T (live (txn t s)) → eqb ((txn t s) .kind) anUpdate ≡ false → T (byStart (txn t s))
+unfolding byStart
+is-reader t s a e = and-both (live (txn t s)) _ a (not-make (eqb ((txn t s) .kind) anUpdate) (λ h. false-is e h))
+
+-- request E6
+pub is-settled :
+    (t : List ℕ) (s : ℕ) → T (live (txn t s)) → eqb ((txn t s) .kind) aSettled ≡ true → T (liveSettled (txn t s))
+unfolding liveSettled
+is-settled t s a e = and-both (live (txn t s)) _ a (true-is e)
+
+pub settled-kind : (t : List ℕ) (s : ℕ) → T (liveSettled (txn t s)) → (txn t s) .kind ≡ aSettled
+unfolding liveSettled
+settled-kind t s h = eqb→eq ((txn t s) .kind) aSettled (and-right (live (txn t s)) _ h)
 
 -- a query is no update, and the test of the kind tells them apart
 pub query-kind : (t : List ℕ) (s : ℕ) → T (liveQuery (txn t s)) → (txn t s) .kind ≡ aQuery
@@ -148,3 +169,17 @@ query-not-update t s q u = let k = query-kind t s q in let m = update-kind t s u
 pub update-alive : (t : List ℕ) (s : ℕ) → T (liveUpdate (txn t s)) → T (live (txn t s))
 unfolding liveUpdate
 update-alive t s h = and-left (live (txn t s)) _ h
+
+-- who reads by a start and holds an item exclusively is past its writing
+pub reader-holds :
+    (S : Sizes) (G : Tables) → Good S G → (s : ℕ) → s < S .slots → T (byStart (txn (G .txns) s)) → (x : ℕ) → x < S .items
+    → T (holdsExclusive (lock (G .locks) x) s) → T (liveSettled (txn (G .txns) s))
+reader-holds S G g s i q x j h = go (g .txnGood s i .kindListed)
+  where
+    r : Txn
+    r = txn (G .txns) s
+
+    go : (r .kind ≡ anUpdate) ⊎ ((r .kind ≡ aQuery) ⊎ (r .kind ≡ aSettled)) → T (liveSettled r)
+    go (inl e) = absurd (reader-live r q .1 e)
+    go (inr (inl e)) = absurd (holder-live r (g .lockGood x j .excluders s h .1) .1 e)
+    go (inr (inr e)) = live-settled r (reader-live r q .0) e

@@ -8,16 +8,18 @@ use lib.Dec.{T, eqb}
 use borrow.Author.Tests.{ne-eqb, eq-eqb, lt-leb}
 use Rattle.names.specs.declared.Sizes.{Sizes}
 use Rattle.names.specs.Sizes.{lastWord}
-use Rattle.rules.specs.Tables.{Tables, lastNumber, clock, txn, liveUpdate, liveQuery, anUpdate, aQuery, noLock, sharedLock, exclusiveLock}
-use Rattle.rules.specs.Tables.{slotOf, freeSlot}
+use Rattle.rules.specs.Tables.{Tables, lastNumber, clock, txn, liveUpdate, liveQuery, byStart, anUpdate, aQuery, aSettled, noLock, sharedLock, exclusiveLock}
+use Rattle.rules.specs.Tables.{slotOf, freeSlot, lock, holdsExclusive}
 use Rattle.rules.specs.Versions.{versionsOf, place, choice}
 use Rattle.rules.specs.Good.{Good}
 use Rattle.rules.specs.Locks.{toRead, toWrite}
 use Rattle.rules.specs.Answers.{Call, BeginUpdate, BeginQuery, Read, Write, Commit, Abort, says, granted, refuses, QuotaSpent}
-use Rattle.rules.specs.Step.{step, act, judged, done, beginBy, begun, readBy, writeBy, commitBy, abortBy, queryRead, access, awaitsOther, writesFurther}
+use Rattle.rules.specs.Step.{step, act, judged, done, beginBy, begun, readBy, writeBy, commitBy, abortBy, queryRead, access, awaitsOther, heldBack, startRead, writesPast, writesFurther}
 use Rattle.rules.specs.Step.{committed, ended, aborted}
 use Rattle.rules.proofs.Steps.{acts}
 use Rattle.rules.proofs.Callers.{Caller, caller-found, query-kind, update-kind}
+use Rattle.rules.proofs.EqualRows.{reader-live, query-reads}
+use Rattle.rules.proofs.Tests.{is-false}
 
 module _ (S : Sizes) (G : Tables) (g : Good S G) where
   on-good : (c : Call) → step S c G ≡ act S c G
@@ -48,24 +50,35 @@ module _ (S : Sizes) (G : Tables) (g : Good S G) where
     within : eqb s (S .slots) ≡ false
     within = ne-eqb s (S .slots) (let i = C .inside in omega arith)
 
+    -- ---- a query, or one past its writing, which reads what it does not hold and nobody holds back
+    pub start-reads :
+        T (byStart (txn (G .txns) s)) → (x : ℕ) → x < S .items → (T (holdsExclusive (lock (G .locks) x) s) → ⊥) → heldBack S (G .txns) (G .locks) x s ≡ false
+        → step S (Read n x) G
+        ≡ says granted
+        ((choice ((txn (G .txns) s) .start) (versionsOf S (G .versions) x)) .value)
+        0
+        (suc (place ((txn (G .txns) s) .start) (versionsOf S (G .versions) x)))
+        G
+    unfolding act judged done readBy startRead queryRead awaitsOther
+    start-reads reader x known other free =
+        on-good (Read n x)
+        ∙ rw (
+          found,
+          within,
+          lt-leb (S .items) x known,
+          eq-eqb ((txn (G .txns) s) .awaitedLock) noLock (g .txnGood s (C .inside) .readerIdle reader),
+          ne-eqb ((txn (G .txns) s) .kind) anUpdate (reader-live (txn (G .txns) s) reader .1),
+          is-false (holdsExclusive (lock (G .locks) x) s) other,
+          free,
+        )
+
     -- ---- a query
     module _ (query : T (liveQuery (txn (G .txns) s))) where
       a-query : eqb ((txn (G .txns) s) .kind) aQuery ≡ true
       a-query = eq-eqb ((txn (G .txns) s) .kind) aQuery (query-kind (G .txns) s query)
 
       none : eqb ((txn (G .txns) s) .awaitedLock) noLock ≡ true
-      none = eq-eqb ((txn (G .txns) s) .awaitedLock) noLock (g .txnGood s (C .inside) .queryIdle query)
-
-      pub query-reads :
-          (x : ℕ) → x < S .items
-          → step S (Read n x) G
-          ≡ says granted
-          ((choice ((txn (G .txns) s) .start) (versionsOf S (G .versions) x)) .value)
-          0
-          (suc (place ((txn (G .txns) s) .start) (versionsOf S (G .versions) x)))
-          G
-      unfolding act judged done readBy queryRead awaitsOther
-      query-reads x known = on-good (Read n x) ∙ rw (found, within, lt-leb (S .items) x known, none, a-query)
+      none = eq-eqb ((txn (G .txns) s) .awaitedLock) noLock (g .txnGood s (C .inside) .readerIdle (query-reads (txn (G .txns) s) query))
 
       pub query-commits : step S (Commit n) G ≡ says granted 0 0 0 (ended S s G)
       unfolding act judged done commitBy
@@ -80,27 +93,33 @@ module _ (S : Sizes) (G : Tables) (g : Good S G) where
       no-query : eqb ((txn (G .txns) s) .kind) aQuery ≡ false
       no-query = ne-eqb ((txn (G .txns) s) .kind) aQuery (λ e. let u = update-kind (G .txns) s update in omega arith)
 
+      not-past : eqb ((txn (G .txns) s) .kind) aSettled ≡ false
+      not-past = ne-eqb ((txn (G .txns) s) .kind) aSettled (λ e. let u = update-kind (G .txns) s update in omega arith)
+
+      a-writer : eqb ((txn (G .txns) s) .kind) anUpdate ≡ true
+      a-writer = eq-eqb ((txn (G .txns) s) .kind) anUpdate (update-kind (G .txns) s update)
+
       -- what the cell of the table comes to, done
       pub update-reads :
           (x : ℕ) → x < S .items → awaitsOther (G .txns) s sharedLock x ≡ false
           → step S (Read n x) G ≡ done S (access S toRead s x 0 G) G
       unfolding act judged done readBy
-      update-reads x known free = on-good (Read n x) ∙ rw (found, within, lt-leb (S .items) x known, free, no-query)
+      update-reads x known free = on-good (Read n x) ∙ rw (found, within, lt-leb (S .items) x known, free, a-writer)
 
       pub update-writes :
           (x v : ℕ) → x < S .items → awaitsOther (G .txns) s exclusiveLock x ≡ false → writesFurther S (G .locks) s x ≡ false
           → step S (Write n x v) G ≡ done S (access S toWrite s x v G) G
-      unfolding act judged done writeBy
+      unfolding act judged done writeBy writesPast
       update-writes x v known free room =
-          on-good (Write n x v) ∙ rw (found, within, lt-leb (S .items) x known, no-query, free, room)
+          on-good (Write n x v) ∙ rw (found, within, lt-leb (S .items) x known, no-query, free, not-past, room)
 
       -- request E2: the quota is spent
       pub update-spent :
           (x v : ℕ) → x < S .items → awaitsOther (G .txns) s exclusiveLock x ≡ false → writesFurther S (G .locks) s x ≡ true
           → step S (Write n x v) G ≡ refuses QuotaSpent G
-      unfolding act judged done writeBy
+      unfolding act judged done writeBy writesPast
       update-spent x v known free full =
-          on-good (Write n x v) ∙ rw (found, within, lt-leb (S .items) x known, no-query, free, full)
+          on-good (Write n x v) ∙ rw (found, within, lt-leb (S .items) x known, no-query, free, not-past, full)
 
       pub update-commits :
           (txn (G .txns) s) .awaitedLock ≡ noLock → clock (G .txns) ≢ lastWord
@@ -108,8 +127,8 @@ module _ (S : Sizes) (G : Tables) (g : Good S G) where
       unfolding act judged done commitBy
       update-commits idle left =
           on-good (Commit n)
-          ∙ rw (found, within, eq-eqb ((txn (G .txns) s) .awaitedLock) noLock idle, no-query, ne-eqb (clock (G .txns)) lastWord left)
+          ∙ rw (found, within, eq-eqb ((txn (G .txns) s) .awaitedLock) noLock idle, no-query, not-past, ne-eqb (clock (G .txns)) lastWord left)
 
       pub update-aborts : step S (Abort n) G ≡ says granted 0 0 0 (aborted S s G)
       unfolding act judged done abortBy
-      update-aborts = on-good (Abort n) ∙ rw (found, within, no-query)
+      update-aborts = on-good (Abort n) ∙ rw (found, within, no-query, not-past)

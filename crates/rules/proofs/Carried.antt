@@ -1,6 +1,6 @@
 -- What a clause of good tables needs of other tables, to hold there too.
 use Prim.Native.Nat.{ℕ, zero, suc, _-_, _≤_, _<_}
-use mathlib.Core.Path.{_≡_, refl, ap, subst}
+use mathlib.Core.Path.{_≡_, refl, sym, ap, _∙_, subst}
 use mathlib.Core.Logic.{_≢_, _⊎_, inl, inr}
 use mathlib.Core.List.{List, [], _∷_}
 use native.Mathlib.Omega.{arith}
@@ -8,15 +8,15 @@ use lib.ListN.{length}
 use lib.Dec.{T}
 use borrow.Author.Tests.{le-leb}
 use Rattle.names.specs.declared.Sizes.{Sizes}
-use Rattle.rules.specs.Tables.{lastNumber, clock, Txn, txn, noTxn, withRank, live, liveUpdate, liveQuery, Lock, lock}
+use Rattle.rules.specs.Tables.{Tables, lastNumber, clock, Txn, txn, noTxn, withRank, live, liveUpdate, liveSettled, mayHold, byStart, Lock, lock}
 use Rattle.rules.specs.Tables.{holdsShared, holdsExclusive, holds, noLock}
-use Rattle.rules.specs.Versions.{Version, versionsIn, stampAt, place}
-use Rattle.rules.specs.Good.{GoodTxn, GoodLock, GoodVersions}
+use Rattle.rules.specs.Versions.{Version, versionsIn, versionsOf, stampAt, place}
+use Rattle.rules.specs.Good.{GoodTxn, GoodLock, GoodVersions, GoodSettled}
 use Rattle.rules.proofs.Tests.{same?, or-cases, or-left, or-right}
 
 -- a free row is a good one, whatever stands in the tables
 pub free-row : (S : Sizes) (t l : List ℕ) (s : ℕ) → GoodTxn S t l s noTxn
-unfolding liveQuery liveUpdate live
+unfolding byStart liveSettled liveUpdate live
 free-row S t l s =
     record {
       free = λ e. refl;
@@ -24,8 +24,9 @@ free-row S t l s =
       kindListed = inl refl;
       lockListed = omega arith;
       updateStart = λ h. refl;
-      queryStart = λ h. absurd h;
-      queryIdle = λ h. refl;
+      readerStart = λ h. absurd h;
+      readerIdle = λ h. refl;
+      settledStart = λ h. absurd h;
       itemKnown = λ d. absurd (d refl);
       itemUnused = λ e. refl;
       rankUnused = λ e. refl;
@@ -35,7 +36,7 @@ free-row S t l s =
 
 -- a good row with another rank is a good one, if it is 0 where nothing is awaited
 pub row-reranked : (S : Sizes) (t l : List ℕ) (s p : ℕ) (r : Txn) → (r .awaitedLock ≡ noLock → p ≡ 0) → GoodTxn S t l s r → GoodTxn S t l s (withRank r p)
-unfolding liveQuery liveUpdate live
+unfolding byStart liveSettled liveUpdate live
 row-reranked S t l s p r z g =
     record {
       free = λ e. let f = g .free e in λ i. record { number = (f i) .number; kind = (f i) .kind; start = (f i) .start; awaitedLock = (f i) .awaitedLock; awaitedItem = (f i) .awaitedItem; rank = z (ap (λ (w : Txn). w .awaitedLock) f) i };
@@ -43,8 +44,9 @@ row-reranked S t l s p r z g =
       kindListed = g .kindListed;
       lockListed = g .lockListed;
       updateStart = g .updateStart;
-      queryStart = g .queryStart;
-      queryIdle = g .queryIdle;
+      readerStart = g .readerStart;
+      readerIdle = g .readerIdle;
+      settledStart = g .settledStart;
       itemKnown = g .itemKnown;
       itemUnused = g .itemUnused;
       rankUnused = z;
@@ -88,8 +90,9 @@ module _ (S : Sizes) (t t′ : List ℕ) where
         kindListed = g .kindListed;
         lockListed = g .lockListed;
         updateStart = g .updateStart;
-        queryStart = λ z. let c = g .queryStart z in omega arith;
-        queryIdle = g .queryIdle;
+        readerStart = λ z. let c = g .readerStart z in omega arith;
+        readerIdle = g .readerIdle;
+        settledStart = g .settledStart;
         itemKnown = g .itemKnown;
         itemUnused = g .itemUnused;
         rankUnused = g .rankUnused;
@@ -99,19 +102,21 @@ module _ (S : Sizes) (t t′ : List ℕ) where
 
   -- a lock: its holders live on
   pub lock-carried :
-      (h : Lock) → ((s : ℕ) → T (holds h s) → T (liveUpdate (txn t s)) → T (liveUpdate (txn t′ s))) → GoodLock S t h → GoodLock S t′ h
-  lock-carried h f g =
+      (h : Lock) → ((s : ℕ) → T (holdsShared h s) → T (liveUpdate (txn t s)) → T (liveUpdate (txn t′ s)))
+      → ((s : ℕ) → T (holdsExclusive h s) → T (mayHold (txn t s)) → T (mayHold (txn t′ s))) → GoodLock S t h → GoodLock S t′ h
+  lock-carried h f e g =
       record {
-        holders = λ s a. let b = g .holders s a in (b .0, f s a (b .1));
+        sharers = λ s a. let b = g .sharers s a in (b .0, f s a (b .1));
+        excluders = λ s a. let b = g .excluders s a in (b .0, e s a (b .1));
         neverBoth = g .neverBoth;
         noWorking = g .noWorking;
       }
 
-  -- a row of versions: the clock did not fall, the queries live on as they are, and a new one starts no earlier than at the clock
+  -- a row of versions: the clock did not fall, the readers live on as they are, and a new one starts no earlier than at the clock
   pub versions-carried :
       (r : List ℕ) → clock t ≤ clock t′
-      → ((s : ℕ) → s < S .slots → T (liveQuery (txn t s)) → txn t′ s ≡ txn t s)
-      → ((s : ℕ) → s < S .slots → T (liveQuery (txn t′ s)) → (txn t′ s ≡ txn t s) ⊎ (clock t ≤ (txn t′ s) .start))
+      → ((s : ℕ) → s < S .slots → T (byStart (txn t s)) → txn t′ s ≡ txn t s)
+      → ((s : ℕ) → s < S .slots → T (byStart (txn t′ s)) → (txn t′ s ≡ txn t s) ⊎ (clock t ≤ (txn t′ s) .start))
       → GoodVersions S t r → GoodVersions S t′ r
   versions-carried r up kept new g =
       record {
@@ -136,13 +141,36 @@ module _ (S : Sizes) (t t′ : List ℕ) where
       lowest k b (inl e) = rw e (g .first)
       lowest k b (inr d) = low k (b d)
 
-      old : (s : ℕ) → s < S .slots → T (liveQuery (txn t′ s)) → (txn t′ s ≡ txn t s) ⊎ (clock t ≤ (txn t′ s) .start) → stampAt vs (length vs - 1) ≤ (txn t′ s) .start
-      old s i q (inl e) = rw e (g .last s i (subst (λ (w : Txn). T (liveQuery w)) e q))
+      old : (s : ℕ) → s < S .slots → T (byStart (txn t′ s)) → (txn t′ s ≡ txn t s) ⊎ (clock t ≤ (txn t′ s) .start) → stampAt vs (length vs - 1) ≤ (txn t′ s) .start
+      old s i q (inl e) = rw e (g .last s i (subst (λ (w : Txn). T (byStart w)) e q))
       old s i q (inr b) = let c = lowest (length vs - 1) (λ d. omega arith) (same? (length vs - 1) 0) in omega arith
 
-      here : (k : ℕ) → ((s : ℕ) × (s < S .slots) × T (liveQuery (txn t s)) × (place ((txn t s) .start) vs ≡ k)) → ((s : ℕ) × (s < S .slots) × T (liveQuery (txn t′ s)) × (place ((txn t′ s) .start) vs ≡ k))
+      here : (k : ℕ) → ((s : ℕ) × (s < S .slots) × T (byStart (txn t s)) × (place ((txn t s) .start) vs ≡ k)) → ((s : ℕ) × (s < S .slots) × T (byStart (txn t′ s)) × (place ((txn t′ s) .start) vs ≡ k))
       here k (s, i, q, e) = let f = kept s i q in (s, i, rw f q, rw f e)
 
-      back : (k : ℕ) → 0 < k → (s : ℕ) → s < S .slots → T (liveQuery (txn t′ s)) → place ((txn t′ s) .start) vs ≡ k → (txn t′ s ≡ txn t s) ⊎ (clock t ≤ (txn t′ s) .start) → k < length vs
-      back k pos s i q e (inl f) = g .reads k pos .1 (s, i, subst (λ (w : Txn). T (liveQuery w)) f q, subst (λ (w : Txn). place (w .start) vs ≡ k) f e)
+      back : (k : ℕ) → 0 < k → (s : ℕ) → s < S .slots → T (byStart (txn t′ s)) → place ((txn t′ s) .start) vs ≡ k → (txn t′ s ≡ txn t s) ⊎ (clock t ≤ (txn t′ s) .start) → k < length vs
+      back k pos s i q e (inl f) = g .reads k pos .1 (s, i, subst (λ (w : Txn). T (byStart w)) f q, subst (λ (w : Txn). place (w .start) vs ≡ k) f e)
       back k pos s i q e (inr b) = absurd (let c = reads-first ((txn t′ s) .start) vs (let d = g .first in omega arith) in omega arith)
+
+-- those past their writing: whoever is one was one, with the same stamp; it holds exclusively no more than it held, and of that the newest
+-- version is the same
+pub settled-carried :
+    (S : Sizes) (G G′ : Tables)
+    → ((s : ℕ) → s < S .slots → T (liveSettled (txn (G′ .txns) s)) → T (liveSettled (txn (G .txns) s)) × ((txn (G′ .txns) s) .start ≡ (txn (G .txns) s) .start))
+    → ((s x : ℕ) → s < S .slots → x < S .items → T (liveSettled (txn (G .txns) s)) → T (holdsExclusive (lock (G′ .locks) x) s)
+    → T (holdsExclusive (lock (G .locks) x) s) × (stampAt (versionsOf S (G′ .versions) x) 0 ≡ stampAt (versionsOf S (G .versions) x) 0))
+    → GoodSettled S G → GoodSettled S G′
+settled-carried S G G′ was held g =
+    record {
+      apart = λ r s i j d a b e.
+          let p = was r i a in
+          let q = was s j b in
+          g .apart r s i j d (p .0) (q .0) (sym (p .1) ∙ e ∙ q .1);
+      above = λ s x i j a b.
+          let p = was s i a in
+          let q = held s x i j (p .0) b in
+          let k = g .above s x i j (p .0) (q .0) in
+          let e = p .1 in
+          let f = q .1 in
+          omega arith;
+    }

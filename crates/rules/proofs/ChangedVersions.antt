@@ -13,12 +13,12 @@ use lib.Dec.{T}
 use Rattle.names.specs.declared.Sizes.{Sizes}
 use Rattle.names.specs.Layout.{clockAt}
 use Rattle.rules.specs.Words.{row}
-use Rattle.rules.specs.Tables.{Tables, txnWords, versionRow, clock, txn, setTxn, noTxn, live, liveUpdate, liveQuery}
-use Rattle.rules.specs.Tables.{starts, lock, holdsExclusive}
-use Rattle.rules.specs.Versions.{pairs, pairWords, versionsIn, versionsOf, rowOf, kept}
+use Rattle.rules.specs.Tables.{Tables, tables, txnWords, versionRow, clock, txn, setTxn, noTxn, live, liveUpdate, byStart}
+use Rattle.rules.specs.Tables.{starts, lock, holdsExclusive, release}
+use Rattle.rules.specs.Versions.{Version, pairs, pairWords, versionsIn, versionsOf, rowOf, kept, rewritten}
 use Rattle.rules.specs.Good.{Good, GoodVersions}
-use Rattle.rules.specs.Step.{committed, ended, withNew}
-use Rattle.rules.specs.Changed.{Committed, Ended}
+use Rattle.rules.specs.Step.{committedUnder, committed, settledCommitted, ended, settledAborted, withNew}
+use Rattle.rules.specs.Changed.{Committed, Ended, SettledEnded}
 use Rattle.rules.proofs.Tests.{same?, is-true, is-false}
 use Rattle.rules.proofs.Rows.{row-word}
 use Rattle.rules.proofs.Views.{txn-setTxn, txn-setTxn-other, txn-top}
@@ -27,7 +27,7 @@ use Rattle.rules.proofs.Trim.{kept-fixed}
 use Rattle.rules.proofs.Starts.{starts-same, starts-lt}
 use Rattle.rules.proofs.Rewrites.{length-rewritten, row-rewritten, versions-rewritten}
 use Rattle.rules.proofs.EqualVersions.{Good→read}
-use Rattle.rules.proofs.Callers.{query-not-update}
+use Rattle.rules.proofs.EqualRows.{update-live, reader-live}
 use Rattle.rules.proofs.Changes.{setTxn-changes, top-changes, release-changes}
 
 -- ---- a row's versions, written back
@@ -66,16 +66,20 @@ pub row-words :
 row-words w x v v′ e j h =
     sym (row-word w x j v′ h) ∙ ap (λ (r : List ℕ). getD r j 0) e ∙ row-word w x j v h
 
--- a free row is no query
-free-no-query : liveQuery noTxn ≡ false
-unfolding liveQuery live
-free-no-query = refl
+-- a free row is no reader
+free-no-reader : byStart noTxn ≡ false
+unfolding byStart live
+free-no-reader = refl
 
--- ---- the row of slot s goes from u, which has the rows of before: one query less than there are slots is left at most
+-- an update that writes is none
+update-no-reader : (t : List ℕ) (s : ℕ) → T (liveUpdate (txn t s)) → byStart (txn t s) ≡ false
+update-no-reader t s u = is-false (byStart (txn t s)) (λ q. reader-live (txn t s) q .1 (update-live (txn t s) u .1))
+
+-- ---- the row of slot s goes from u, which has the rows of before: one reader less than there are slots is left at most
 module _ (S : Sizes) (u : List ℕ) (size : length u ≡ txnWords S) (s : ℕ) (inside : s < S .slots) where
   pub left-starts : length (starts S (setTxn u s noTxn)) < S .slots
   left-starts =
-      starts-lt S (setTxn u s noTxn) s inside (ap liveQuery (txn-setTxn u s noTxn S size inside) ∙ free-no-query)
+      starts-lt S (setTxn u s noTxn) s inside (ap byStart (txn-setTxn u s noTxn S size inside) ∙ free-no-reader)
 
 module _ (S : Sizes) (G : Tables) (g : Good S G) (enough : S .slots ≤ S .places) (s : ℕ) (inside : s < S .slots) where
   abbrev t : List ℕ
@@ -120,24 +124,24 @@ module _ (S : Sizes) (G : Tables) (g : Good S G) (enough : S .slots ≤ S .place
     size′ : length (set t clockAt c) ≡ txnWords S
     size′ = length-set t clockAt c ∙ g .txnsExact
 
-    -- the committer is no query, so the queries are those of before
-    queries : starts S t′ ≡ starts S t
-    queries = starts-same t t′ (λ r. go r (same? r s)) S
+    -- the committer reads by no start, so the readers are those of before
+    readers : starts S t′ ≡ starts S t
+    readers = starts-same t t′ (λ r. go r (same? r s)) S
       where
-        go : (r : ℕ) → (r ≡ s) ⊎ (r ≢ s) → (txn t′ r ≡ txn t r) ⊎ ((liveQuery (txn t′ r) ≡ false) × (liveQuery (txn t r) ≡ false))
+        go : (r : ℕ) → (r ≡ s) ⊎ (r ≢ s) → (txn t′ r ≡ txn t r) ⊎ ((byStart (txn t′ r) ≡ false) × (byStart (txn t r) ≡ false))
         go r (inl e) =
             inr (
-              ap (λ (m : ℕ). liveQuery (txn t′ m)) e ∙ ap liveQuery (txn-setTxn (set t clockAt c) s noTxn S size′ inside) ∙ free-no-query,
-              ap (λ (m : ℕ). liveQuery (txn t m)) e ∙ is-false (liveQuery (txn t s)) (λ q. query-not-update t s q update),
+              ap (λ (m : ℕ). byStart (txn t′ m)) e ∙ ap byStart (txn-setTxn (set t clockAt c) s noTxn S size′ inside) ∙ free-no-reader,
+              ap (λ (m : ℕ). byStart (txn t m)) e ∙ update-no-reader t s update,
             )
         go r (inr d) = inl (txn-setTxn-other (set t clockAt c) s noTxn r d ∙ txn-top t clockAt c r (omega arith))
 
     pub committed-starts : starts S ((committed S s G) .txns) ≡ starts S (G .txns)
-    unfolding committed
-    committed-starts = queries
+    unfolding committed committedUnder
+    committed-starts = readers
 
     pub committed-room : length (starts S (G .txns)) < S .slots
-    committed-room = starts-lt S t s inside (is-false (liveQuery (txn t s)) (λ q. query-not-update t s q update))
+    committed-room = starts-lt S t s inside (update-no-reader t s update)
 
     room′ : length (starts S t′) < S .places
     room′ = let a = committed-room in let b = left-starts S (set t clockAt c) size′ s inside in omega arith
@@ -146,18 +150,18 @@ module _ (S : Sizes) (G : Tables) (g : Good S G) (enough : S .slots ≤ S .place
         (x : ℕ) → x < S .items
         → versionsOf S ((committed S s G) .versions) x
         ≡ kept (starts S (G .txns)) (withNew (G .locks) s (clock (G .txns) + 1) x (versionsOf S (G .versions) x))
-    unfolding committed
+    unfolding committed committedUnder
     committed-versions x known =
         versions-rewritten S (starts S t′) (withNew l s c) v room′ (g .versionsExact) x known
-        ∙ ap (λ (qs : List ℕ). kept qs (withNew l s c x (versionsOf S v x))) queries
+        ∙ ap (λ (qs : List ℕ). kept qs (withNew l s c x (versionsOf S v x))) readers
 
     rows : (x : ℕ) → x < S .items → row (versionRow S) x ((committed S s G) .versions) ≡ rowOf S (kept (starts S t) (withNew l s c x (versionsOf S v x)))
-    unfolding committed versionsOf
+    unfolding committed committedUnder versionsOf
     rows x known =
         row-rewritten S (starts S t′) (withNew l s c) v room′ (g .versionsExact) x known
-        ∙ ap (λ (qs : List ℕ). rowOf S (kept qs (withNew l s c x (versionsIn (row (versionRow S) x v))))) queries
+        ∙ ap (λ (qs : List ℕ). rowOf S (kept qs (withNew l s c x (versionsIn (row (versionRow S) x v))))) readers
 
-    -- trimming a good row for the same queries takes nothing, and writing it back gives the same words
+    -- trimming a good row for the same readers takes nothing, and writing it back gives the same words
     row-kept : (x : ℕ) → x < S .items → (T (holdsExclusive (lock l x) s) → ⊥) → row (versionRow S) x ((committed S s G) .versions) ≡ row (versionRow S) x v
     unfolding withNew versionsOf
     row-kept x known n =
@@ -169,7 +173,7 @@ module _ (S : Sizes) (G : Tables) (g : Good S G) (enough : S .slots ≤ S .place
         ∙ rowOf-versionsIn S r (length-row (versionRow S) x (S .items) v (g .versionsExact) known) (q .countMost) (q .unused))
 
     pub committed-changes : Committed S s G (committed S s G)
-    unfolding committed withNew
+    unfolding committed committedUnder withNew
     committed-changes =
         record {
           txns = top-changes S t (g .txnsExact) s inside clockAt c (omega arith) noTxn;
@@ -178,3 +182,41 @@ module _ (S : Sizes) (G : Tables) (g : Good S G) (enough : S .slots ≤ S .place
           written = λ x known a. rw (is-true (holdsExclusive (lock l x) s) a) at (rows x known);
           others = λ x j known b n. row-words (versionRow S) x v ((committed S s G) .versions) (row-kept x known n) j b;
         }
+
+  -- ---- request E6: the end of one past its writing, f being what becomes of an item's versions before they are trimmed
+  settled-end-changes :
+      (f : ℕ → List Version → List Version)
+      → SettledEnded S s (λ x. f x (versionsOf S v x)) G
+      (tables (setTxn t s noTxn) (release S s (G .locks)) (rewritten S (starts S (setTxn t s noTxn)) f v))
+  unfolding ended versionsOf
+  settled-end-changes f =
+      record {
+        txns = setTxn-changes S t (g .txnsExact) s inside noTxn;
+        locks = release-changes S s (G .locks) (g .locksExact);
+        size = length-rewritten S (starts S (setTxn t s noTxn)) f v ended-room (g .versionsExact) ∙ sym (g .versionsExact);
+        each = row-rewritten S (starts S (setTxn t s noTxn)) f v ended-room (g .versionsExact);
+      }
+
+  pub settled-commit-changes :
+      SettledEnded S s (λ x. withNew (G .locks) s ((txn (G .txns) s) .start) x (versionsOf S (G .versions) x)) G (settledCommitted S s G)
+  unfolding settledCommitted committedUnder
+  settled-commit-changes = settled-end-changes (withNew (G .locks) s ((txn t s) .start))
+
+  pub settled-abort-changes : SettledEnded S s (λ x. versionsOf S (G .versions) x) G (settledAborted S s G)
+  unfolding settledAborted
+  settled-abort-changes = settled-end-changes (λ x vs. vs)
+
+  -- the versions that are left
+  pub settled-commit-versions :
+      (x : ℕ) → x < S .items
+      → versionsOf S ((settledCommitted S s G) .versions) x
+      ≡ kept (starts S ((settledCommitted S s G) .txns)) (withNew (G .locks) s ((txn (G .txns) s) .start) x (versionsOf S (G .versions) x))
+  unfolding settledCommitted committedUnder ended
+  settled-commit-versions x known =
+      versions-rewritten S (starts S (setTxn t s noTxn)) (withNew (G .locks) s ((txn t s) .start)) v ended-room (g .versionsExact) x known
+
+  pub settled-abort-versions :
+      (x : ℕ) → x < S .items
+      → versionsOf S ((settledAborted S s G) .versions) x ≡ kept (starts S ((settledAborted S s G) .txns)) (versionsOf S (G .versions) x)
+  unfolding settledAborted ended
+  settled-abort-versions x known = versions-rewritten S (starts S (setTxn t s noTxn)) (λ x vs. vs) v ended-room (g .versionsExact) x known

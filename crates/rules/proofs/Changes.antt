@@ -11,18 +11,19 @@ use lib.Seq.{getD-set-same, getD-set-other}
 use lib.Dec.{T, eqb, ltb, eqb→eq}
 use borrow.Author.Tests.{ltb-true, ltb-false}
 use Rattle.names.specs.declared.Sizes.{Sizes}
-use Rattle.names.specs.Layout.{lastNumberAt, txnHead, txnLockAt, txnItemAt, txnRankAt, txnRow}
+use Rattle.names.specs.Layout.{lastNumberAt, clockAt, txnHead, txnLockAt, txnItemAt, txnRankAt, txnRow}
 use Rattle.rules.specs.Words.{bit, withoutBit}
-use Rattle.rules.specs.Tables.{Tables, txnAt, txnWords, lockRow, lockWords, lastNumber, Txn, txn, setTxn, setAwaited, noTxn, newTxn}
-use Rattle.rules.specs.Tables.{noLock, sharedLock, exclusiveLock, Lock, lock, setLock, holds, holdsShared, holdsExclusive, released, release}
+use Rattle.rules.specs.Tables.{Tables, txnAt, txnWords, lockRow, lockWords, lastNumber, clock, Txn, txn, setTxn, setAwaited, noTxn, newTxn, liveSettled, aSettled}
+use Rattle.rules.specs.Tables.{noLock, sharedLock, exclusiveLock, Lock, lock, setLock, holds, holdsShared, holdsExclusive, released, release, unshared, unshare}
 use Rattle.rules.specs.Waits.{closedUp}
 use Rattle.rules.specs.Good.{Good}
-use Rattle.rules.specs.Changed.{Elsewhere, RowChanged, WordAndRowChanged, AwaitedChanged, RowAndRanksChanged, NoRank, leaving, LockChanged, LocksReleased, newcomer, Begun, Locked, Aborted}
-use Rattle.rules.specs.Step.{begun, cleared, locked, aborted, awaitsOther, replaced, withTxns, withLocks}
+use Rattle.rules.specs.Changed.{Elsewhere, RowChanged, WordAndRowChanged, AwaitedChanged, RowAndRanksChanged, NoRank, leaving, LockChanged, LocksReleased, newcomer, Begun, Locked, Aborted, SharesGone, Settled}
+use Rattle.rules.specs.Step.{begun, cleared, locked, aborted, settled, awaitsOther, replaced, withTxns, withLocks}
 use Rattle.rules.proofs.Tests.{and-left, and-right, and-both, or-left, or-right, is-false, false-is, not-make, ne-make, same?}
+use Rattle.rules.proofs.EqualRows.{settled-reads}
 use Rattle.rules.proofs.EqualRanks.{awaits→}
 use Rattle.rules.proofs.Noting.{closed-length, closed-row, closed-word, closed-none}
-use Rattle.rules.proofs.Views.{length-setTxn, outside-setTxn, txn-setTxn, setAwaited-same, lock-setLock, length-setLock, lock-release, length-release}
+use Rattle.rules.proofs.Views.{length-setTxn, outside-setTxn, txn-setTxn, setAwaited-same, lock-setLock, length-setLock, lock-release, length-release, lock-unshare, length-unshare}
 
 -- ---- rows of the transactions
 module _ (S : Sizes) (t : List ℕ) (exact : length t ≡ txnWords S) (s : ℕ) (inside : s < S .slots) where
@@ -147,6 +148,19 @@ release-changes S s l e =
       others = λ x k i b n. lock-word l (release S s l) x k b (lock-release S s l e x i ∙ released-other s (lock l x) n);
     }
 
+-- a lock that s does not share stays as it is
+unshared-other : (s : ℕ) (h : Lock) → (T (holdsShared h s) → ⊥) → unshared s h ≡ h
+unfolding withoutBit holdsShared
+unshared-other s h n = let f : bit (h .shared) s ≡ false = is-false (bit (h .shared) s) n in rw f
+
+unshare-changes : (S : Sizes) (s : ℕ) (l : List ℕ) → length l ≡ lockWords S → SharesGone S s l (unshare S s l)
+unshare-changes S s l e =
+    record {
+      size = length-unshare S s l e ∙ sym e;
+      each = lock-unshare S s l e;
+      others = λ x k i b n. lock-word l (unshare S s l) x k b (lock-unshare S s l e x i ∙ unshared-other s (lock l x) n);
+    }
+
 -- ---- the calls' own
 module _ (S : Sizes) (G : Tables) (g : Good S G) (s : ℕ) (inside : s < S .slots) where
   pub begun-changes : (k q : ℕ) → Begun s k q G (begun k q s G)
@@ -226,3 +240,29 @@ module _ (S : Sizes) (G : Tables) (g : Good S G) (s : ℕ) (inside : s < S .slot
         → locked S s x (replaced (lock (G .locks) x) v) G ≡ withLocks G (G .txns) (setLock (G .locks) x (replaced (lock (G .locks) x) v))
     unfolding locked
     replace-unchanged v a e = ap (λ (t : List ℕ). withLocks G t (setLock (G .locks) x (replaced h v))) (write-idle a e)
+
+  -- ---- request E6: one past its writing awaits nothing
+  module _ (past : T (liveSettled (txn (G .txns) s))) where
+    past-idle : cleared S (G .txns) s ≡ G .txns
+    past-idle =
+        let o = g .txnGood s inside in
+        let z = o .readerIdle (settled-reads (txn (G .txns) s) past) in
+        cleared-same S (G .txns) s z (o .itemUnused z) (o .rankUnused z)
+
+    pub past-unchanged : withTxns G (cleared S (G .txns) s) ≡ G
+    past-unchanged = ap (withTxns G) past-idle
+
+    pub past-replaced :
+        (x v : ℕ) → locked S s x (replaced (lock (G .locks) x) v) G ≡ withLocks G (G .txns) (setLock (G .locks) x (replaced (lock (G .locks) x) v))
+    unfolding locked
+    past-replaced x v = ap (λ (t : List ℕ). withLocks G t (setLock (G .locks) x (replaced (lock (G .locks) x) v))) past-idle
+
+  -- "the clock moves there, .. and its shared locks go. Its row then has kind 2 and that stamp as start."
+  pub settled-changes : Settled S s G (settled S s G)
+  unfolding settled
+  settled-changes =
+      record {
+        txns = top-changes S (G .txns) (g .txnsExact) s inside clockAt (clock (G .txns) + 1) (omega arith) (newTxn ((txn (G .txns) s) .number) aSettled (clock (G .txns) + 1));
+        locks = unshare-changes S s (G .locks) (g .locksExact);
+        versions = refl;
+      }

@@ -11,6 +11,7 @@ use Rattle.rules.specs.Tables.{Tables, Txn, txn, txnWords, withRank, noL
 use Rattle.rules.specs.Waits.{awaits, awaitsOn, rankFor, raised, noted, conflicts, ahead, waitsFor, Walk, circleAt}
 use Rattle.rules.specs.Good.{Good}
 use Rattle.rules.specs.Conditions.{Circle}
+use Rattle.rules.proofs.EqualRows.{holder}
 use Rattle.rules.proofs.Tests.{true-is, false-is, same?}
 use Rattle.rules.proofs.Views.{awaiting}
 use Rattle.rules.proofs.EqualRanks.{awaits→, →awaits, awaitsOn→, →awaitsOn, waiter-inside}
@@ -29,7 +30,7 @@ module _ (S : Sizes) (G : Tables) (g : Good S G) (s k x : ℕ) (inside : s < S .
   t′ = noted S t l s k x
 
   holders : (y : ℕ) → y < S .items → (b : ℕ) → T (holds (lock l y) b) → b < S .slots
-  holders y h b u = g .lockGood y h .holders b u .0
+  holders y h b u = holder S t (lock l y) (g .lockGood y h) b u .0
 
   -- ---- it comes into the line
   module _ (new : T (awaitsOn x (txn t s)) → ⊥) where

@@ -17,6 +17,7 @@ use Rattle.rules.specs.Locks.{anotherShares, anotherExcludes, anotherAhe
 use Rattle.rules.specs.Answers.{granted}
 use Rattle.rules.specs.Step.{cellDeed, conflicted, access, done}
 use Rattle.rules.specs.Conditions.{NeedsLock}
+use Rattle.rules.proofs.EqualRows.{holder}
 use Rattle.rules.proofs.Tests.{and-left, and-right, and-both, or-cases, or-left, or-right, true-is, false-is, ne-make, ne-use, eq-make, is-false, same?}
 use Rattle.rules.proofs.Counts.{someBelow→, →someBelow}
 use Rattle.rules.proofs.Walks.{blocks→, →blocks}
@@ -296,7 +297,7 @@ module _ (S : Sizes) (G : Tables) (g : Good S G) (x : ℕ) (known : x < S .items
       go zero e = e
       go (suc b) e =
           let u : T (holdsExclusive h b) = eq-make (h .exclusive) (suc b) e in
-          let i : b < S .slots = g .lockGood x known .holders b (or-right (holdsShared h b) _ u) .0 in
+          let i : b < S .slots = g .lockGood x known .excluders b u .0 in
           absurd (n (excludes-blocked S t l x s k (another-excludes S t l x s b i (λ q. m (subst (λ (c : ℕ). T (holdsExclusive h c)) (sym q) u)) u)))
 
   -- without a conflict for exclusive, nobody but s holds it
@@ -309,4 +310,4 @@ module _ (S : Sizes) (G : Tables) (g : Good S G) (x : ℕ) (known : x < S .items
       (or-cases (holdsShared h r) (holdsExclusive h r) u)
     where
       i : r < S .slots
-      i = g .lockGood x known .holders r u .0
+      i = holder S (G .txns) h (g .lockGood x known) r u .0

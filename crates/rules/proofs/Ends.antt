@@ -1,4 +1,4 @@
--- Abort, a query's end and an update's commit leave good tables.
+-- Abort, a query's end, an update's commit and the end of one past its writing leave good tables.
 use Prim.Native.Nat.{ℕ, zero, suc, _+_, _-_, _≤_, _<_}
 use mathlib.Core.Path.{_≡_, refl, sym, ap, _∙_, subst}
 use mathlib.Core.Logic.{_≢_, _⊎_, inl, inr}
@@ -12,25 +12,30 @@ use Rattle.names.specs.declared.Sizes.{Sizes}
 use Rattle.names.specs.Sizes.{lastWord}
 use Rattle.rules.specs.Words.{row}
 use Rattle.rules.specs.Tables.{Tables, tables, txnWords, versionWords, versionRow, lastNumber, clock, Txn, txn, setTxn, noTxn, noLock, live}
-use Rattle.rules.specs.Tables.{liveUpdate, liveQuery, starts, lock, holds, holdsExclusive, release}
-use Rattle.rules.specs.Versions.{Version, versionsIn, stampAt, rowOf, kept, rewritten}
+use Rattle.rules.specs.Tables.{liveUpdate, liveQuery, liveSettled, byStart, starts, lock, holds, holdsExclusive, release}
+use Rattle.rules.specs.Versions.{Version, versionsIn, versionsOf, stampAt, rowOf, kept, rewritten}
 use Rattle.rules.specs.Good.{Good, GoodVersions}
 use Rattle.rules.specs.Tested.{lastOld, versionsGood}
 use Rattle.rules.specs.Waits.{closedUp}
-use Rattle.rules.specs.Step.{withTxns, cleared, committed, ended, aborted, withNew}
-use Rattle.rules.proofs.Tests.{same?}
+use Rattle.rules.specs.Step.{withTxns, cleared, committedUnder, committed, settledCommitted, ended, aborted, settledAborted, withNew}
+use Rattle.rules.proofs.Tests.{same?, true-is}
 use Rattle.rules.proofs.Counts.{mem-every}
 use Rattle.rules.proofs.Views.{txn-setTxn, txn-setTxn-other, clock-setTxn, txn-top}
 use Rattle.rules.proofs.Choice.{length-versionsIn, Falls, Falls→falls}
-use Rattle.rules.proofs.Trim.{rowOf-good}
+use Rattle.rules.proofs.Trim.{rowOf-good, kept-newest}
 use Rattle.rules.proofs.Starts.{in-start, starts-lt}
-use Rattle.rules.proofs.Rewrites.{length-rewritten, row-rewritten}
+use Rattle.rules.proofs.Rewrites.{length-rewritten, row-rewritten, versions-rewritten}
 use Rattle.rules.proofs.EqualVersions.{versions→Good}
-use Rattle.rules.proofs.EqualRows.{update-live, query-live}
+use Rattle.rules.proofs.EqualRows.{update-live, query-live, holder-live, reader-live, query-reads, settled-reads, holder}
 use Rattle.rules.proofs.Carried.{versions-carried}
 use Rattle.rules.proofs.Noting.{closed-length, closed-last, closed-clock}
 use Rattle.rules.proofs.Waited.{cleared-good, cleared-here, cleared-last, cleared-clock, cleared-update, cleared-as-closed}
-use Rattle.rules.proofs.Leaves.{released-good, released-holds, left-good}
+use Rattle.rules.proofs.Leaves.{released-good, released-other, released-holds, left-good}
+
+-- who does not hold an item exclusively puts no version there
+pub not-new : (l : List ℕ) (s c x : ℕ) (vs : List Version) → holdsExclusive (lock l x) s ≡ false → withNew l s c x vs ≡ vs
+unfolding withNew
+not-new l s c x vs e = rw e
 
 -- ---- the rows afterwards: that of slot s is free, the others are as they were
 module _ (S : Sizes) (t u : List ℕ) (s : ℕ) (inside : s < S .slots) (size : length u ≡ txnWords S) (same : (r : ℕ) → r ≢ s → txn u r ≡ txn t r) where
@@ -43,23 +48,23 @@ module _ (S : Sizes) (t u : List ℕ) (s : ℕ) (inside : s < S .slots) (size : 
   pub gone-there : (r : ℕ) → r ≢ s → txn t′ r ≡ txn t r
   gone-there r d = txn-setTxn-other u s noTxn r d ∙ same r d
 
-  pub gone-query : liveQuery (txn t′ s) ≡ false
-  unfolding liveQuery live
-  gone-query = rw gone-here
+  pub gone-reader : byStart (txn t′ s) ≡ false
+  unfolding byStart live
+  gone-reader = rw gone-here
 
-  -- a query that lives afterwards lived before
-  pub gone-lives : (r : ℕ) → T (liveQuery (txn t′ r)) → txn t′ r ≡ txn t r
+  -- a reader that lives afterwards lived before
+  pub gone-lives : (r : ℕ) → T (byStart (txn t′ r)) → txn t′ r ≡ txn t r
   gone-lives r h = go (same? r s)
     where
       go : (r ≡ s) ⊎ (r ≢ s) → txn t′ r ≡ txn t r
-      go (inl e) = absurd (subst T (ap (λ (m : ℕ). liveQuery (txn t′ m)) e ∙ gone-query) h)
+      go (inl e) = absurd (subst T (ap (λ (m : ℕ). byStart (txn t′ m)) e ∙ gone-reader) h)
       go (inr d) = gone-there r d
 
-  -- at most one query less than there are slots is left
+  -- at most one reader less than there are slots is left
   pub gone-room : length (starts S t′) < S .slots
-  gone-room = starts-lt S t′ s inside gone-query
+  gone-room = starts-lt S t′ s inside gone-reader
 
--- ---- a table of versions rewritten for the queries that are left
+-- ---- a table of versions rewritten for the readers that are left
 module _
     (S : Sizes) (enough : S .slots ≤ S .places) (G : Tables) (g : Good S G) (s : ℕ) (inside : s < S .slots)
     (u : List ℕ) (size : length u ≡ txnWords S) (same : (r : ℕ) → r ≢ s → txn u r ≡ txn (G .txns) r) (later : clock (G .txns) ≤ clock u)
@@ -83,7 +88,7 @@ module _
       pub first : stampAt vs 0 ≤ clock u
       pub last : (q : ℕ) → List·Memᴰ q qs → stampAt vs (length vs - 1) ≤ q
 
-    -- the versions of a good row are ready, since the queries that are left lived before
+    -- the versions of a good row are ready, since the readers that are left lived before
     pub old-ready : (r : List ℕ) → GoodVersions S (G .txns) r → Ready (versionsIn r)
     unfolding Falls
     old-ready r h =
@@ -96,8 +101,45 @@ module _
               let e = gone-lives S (G .txns) u s inside size same (i .0) (i .2) in
               subst (λ (k : ℕ). stampAt (versionsIn r) (length (versionsIn r) - 1) ≤ k)
               (ap (λ (a : Txn). a .start) (sym e) ∙ i .3)
-              (h .last (i .0) (i .1) (subst (λ (a : Txn). T (liveQuery a)) e (i .2)));
+              (h .last (i .0) (i .1) (subst (λ (a : Txn). T (byStart a)) e (i .2)));
         }
+
+    -- a new pair in front of a good row: its stamp is above the newest and at most the clock
+    pub new-ready :
+        (c value : ℕ) (r : List ℕ) → GoodVersions S (G .txns) r → stampAt (versionsIn r) 0 < c → c ≤ clock u
+        → Ready (record { stamp = c; value = value } ∷ versionsIn r)
+    unfolding Falls stampAt
+    new-ready c value r h above most = go (versionsIn r) (old-ready r h) above
+      where
+        go : (vs : List Version) → Ready vs → stampAt vs 0 < c → Ready (record { stamp = c; value = value } ∷ vs)
+        go [] o b = absurd (let a = o .some in omega arith)
+        go (v ∷ vs) o b =
+            record {
+              some = omega arith;
+              fall = fall;
+              first = most;
+              last = λ q m. subst (λ (k : ℕ). stampAt (record { stamp = c; value = value } ∷ v ∷ vs) k ≤ q) (let e : suc (length (v ∷ vs) - 1) ≡ length (record { stamp = c; value = value } ∷ v ∷ vs) - 1 = omega arith in e) (o .last q m);
+            }
+          where
+            fall : (i j : ℕ) → i < j → j < length (record { stamp = c; value = value } ∷ v ∷ vs) → stampAt (record { stamp = c; value = value } ∷ v ∷ vs) j < stampAt (record { stamp = c; value = value } ∷ v ∷ vs) i
+            fall zero zero l k = absurd (omega arith)
+            fall (suc i) zero l k = absurd (omega arith)
+            fall zero (suc zero) l k = omega arith
+            fall zero (suc (suc j)) l k = let a = o .fall 0 (suc j) (omega arith) (omega arith) in omega arith
+            fall (suc i) (suc j) l k = o .fall i j (omega arith) (omega arith)
+
+    -- so are the versions of each item after a commit of slot s under the stamp c
+    pub committed-ready :
+        (c : ℕ) → ((x : ℕ) → x < S .items → T (holdsExclusive (lock (G .locks) x) s) → stampAt (versionsOf S (G .versions) x) 0 < c) → c ≤ clock u
+        → (x : ℕ) → x < S .items → Ready (withNew (G .locks) s c x (versionsIn (row (versionRow S) x (G .versions))))
+    unfolding withNew versionsOf
+    committed-ready c above most x i = pick (holdsExclusive (lock (G .locks) x) s) refl
+      where
+        pick :
+            (b : Bool) → holdsExclusive (lock (G .locks) x) s ≡ b
+            → Ready (cond b (record { stamp = c; value = (lock (G .locks) x) .working } ∷ versionsIn (row (versionRow S) x (G .versions))) (versionsIn (row (versionRow S) x (G .versions))))
+        pick true e = new-ready c ((lock (G .locks) x) .working) (row (versionRow S) x (G .versions)) (g .versionsGood x i) (above x i (true-is e)) most
+        pick false e = old-ready (row (versionRow S) x (G .versions)) (g .versionsGood x i)
 
     trimmed : (vs : List Version) → Ready vs → T (versionsGood S (clock w) qs (rowOf S (kept qs vs)))
     unfolding stampAt lastOld
@@ -116,21 +158,28 @@ module _
           subst (λ (r : List ℕ). GoodVersions S w r) (sym (row-rewritten S qs f (G .versions) room (g .versionsExact) x i))
           (versions→Good S w _ (trimmed (f x (versionsIn (row (versionRow S) x (G .versions)))) (ready x i)))
 
+      -- the newest version of item x stays, where f leaves its versions
+      pub rewritten-top :
+          (x : ℕ) → x < S .items → f x (versionsOf S (G .versions) x) ≡ versionsOf S (G .versions) x
+          → stampAt (versionsOf S (rewritten S qs f (G .versions)) x) 0 ≡ stampAt (versionsOf S (G .versions) x) 0
+      rewritten-top x i e =
+          ap (λ (vs : List Version). stampAt vs 0) (versions-rewritten S qs f (G .versions) room (g .versionsExact) x i)
+          ∙ kept-newest qs (f x (versionsOf S (G .versions) x)) ∙ ap (λ (vs : List Version). stampAt vs 0) e
+
 -- ---- "A query only ends."
 module _ (S : Sizes) (enough : S .slots ≤ S .places) (G : Tables) (g : Good S G) (s : ℕ) (inside : s < S .slots) where
   pub ended-good : T (liveQuery (txn (G .txns) s)) → Good S (ended S s G)
   unfolding ended
   ended-good query =
-      left-good S G g s inside holds-nothing (g .txnGood s inside .queryIdle query) (G .txns) (g .txnsExact) (λ r d. refl) refl (omega arith) (g .clockMost)
+      left-good S G g s inside holds-nothing (g .txnGood s inside .readerIdle (query-reads (txn (G .txns) s) query)) (G .txns) (g .txnsExact) (λ r d. refl) refl (omega arith) (g .clockMost)
       (rewritten S (starts S (setTxn (G .txns) s noTxn)) (λ x vs. vs) (G .versions))
       (rewritten-size S enough G g s inside (G .txns) (g .txnsExact) (λ r d. refl) (omega arith) (λ x vs. vs) ready)
       (rewritten-good S enough G g s inside (G .txns) (g .txnsExact) (λ r d. refl) (omega arith) (λ x vs. vs) ready)
+      (λ r x i j a h. rewritten-top S enough G g s inside (G .txns) (g .txnsExact) (λ r d. refl) (omega arith) (λ x vs. vs) ready x j refl)
     where
       holds-nothing : (x : ℕ) → x < S .items → T (holds (lock (G .locks) x) s) → ⊥
       holds-nothing x i h =
-          let a = update-live (txn (G .txns) s) (g .lockGood x i .holders s h .1) .1 in
-          let b = query-live (txn (G .txns) s) query .1 in
-          absurd (omega arith)
+          holder-live (txn (G .txns) s) (holder S (G .txns) (lock (G .locks) x) (g .lockGood x i) s h .1) .1 (query-live (txn (G .txns) s) query .1)
 
       ready : (x : ℕ) → x < S .items → Ready S enough G g s inside (G .txns) (g .txnsExact) (λ r d. refl) (omega arith) (versionsIn (row (versionRow S) x (G .versions)))
       ready x i = old-ready S enough G g s inside (G .txns) (g .txnsExact) (λ r d. refl) (omega arith) (row (versionRow S) x (G .versions)) (g .versionsGood x i)
@@ -145,6 +194,7 @@ module _ (S : Sizes) (enough : S .slots ≤ S .places) (G : Tables) (g : Good S 
       (λ x i. versions-carried S t₁ (setTxn u s noTxn) _ (let a = clock-setTxn u s noTxn in let b = closed-clock S (G .txns) s in let c = h-clock in omega arith)
       (λ r j q. gone-there S t₁ u s inside (closed-length S (G .txns) s ∙ g .txnsExact) same r (stays′ r q))
       (λ r j q. inl (gone-lives S t₁ u s inside (closed-length S (G .txns) s ∙ g .txnsExact) same r q)) (h .versionsGood x i))
+      (λ r x i j a h. refl)
     where
       -- its wait is cleared first, then its locks go, then its row
       t₁ : List ℕ
@@ -171,12 +221,10 @@ module _ (S : Sizes) (enough : S .slots ≤ S .places) (G : Tables) (g : Good S 
       same : (r : ℕ) → r ≢ s → txn u r ≡ txn t₁ r
       same r d = sym (cleared-as-closed S (G .txns) (g .txnsExact) s inside r d)
 
-      stays′ : (r : ℕ) → T (liveQuery (txn t₁ r)) → r ≢ s
+      stays′ : (r : ℕ) → T (byStart (txn t₁ r)) → r ≢ s
       stays′ r q e =
-          let a = query-live (txn t₁ r) q .1 in
-          let b = update-live (txn t₁ s) (subst T (sym (cleared-update S (G .txns) (g .txnsExact) s inside s inside)) update) .1 in
-          let c : (txn t₁ r) .kind ≡ (txn t₁ s) .kind = ap (λ (m : ℕ). (txn t₁ m) .kind) e in
-          absurd (omega arith)
+          reader-live (txn t₁ r) q .1
+          (ap (λ (m : ℕ). (txn t₁ m) .kind) e ∙ update-live (txn t₁ s) (subst T (sym (cleared-update S (G .txns) (g .txnsExact) s inside s inside)) update) .1)
 
   -- ---- "An update takes clock plus 1"
   module _ (update : T (liveUpdate (txn (G .txns) s))) (resting : (txn (G .txns) s) .awaitedLock ≡ noLock) (unspent : clock (G .txns) ≢ lastWord) where
@@ -198,43 +246,61 @@ module _ (S : Sizes) (enough : S .slots ≤ S .places) (G : Tables) (g : Good S 
     u-later : clock (G .txns) ≤ clock u
     u-later = let a = u-clock in omega arith
 
-    abbrev R : List Version → Type 0
-    R vs = Ready S enough G g s inside u u-size u-rows u-later vs
+    above : (x : ℕ) → x < S .items → T (holdsExclusive (lock (G .locks) x) s) → stampAt (versionsOf S (G .versions) x) 0 < c
+    unfolding versionsOf
+    above x i h = let a = g .versionsGood x i .first in omega arith
 
-    -- a new pair in front of a good row: its stamp is above the clock of before
-    new-ready : (value : ℕ) (r : List ℕ) → GoodVersions S (G .txns) r → R (record { stamp = c; value = value } ∷ versionsIn r)
-    unfolding Falls stampAt
-    new-ready value r h = go (versionsIn r) (old-ready S enough G g s inside u u-size u-rows u-later r h) (h .first)
-      where
-        go : (vs : List Version) → R vs → stampAt vs 0 ≤ clock (G .txns) → R (record { stamp = c; value = value } ∷ vs)
-        go [] o b = absurd (let a = o .some in omega arith)
-        go (v ∷ vs) o b =
-            record {
-              some = omega arith;
-              fall = fall;
-              first = let a = u-clock in omega arith;
-              last = λ q m. subst (λ (k : ℕ). stampAt (record { stamp = c; value = value } ∷ v ∷ vs) k ≤ q) (let e : suc (length (v ∷ vs) - 1) ≡ length (record { stamp = c; value = value } ∷ v ∷ vs) - 1 = omega arith in e) (o .last q m);
-            }
-          where
-            fall : (i j : ℕ) → i < j → j < length (record { stamp = c; value = value } ∷ v ∷ vs) → stampAt (record { stamp = c; value = value } ∷ v ∷ vs) j < stampAt (record { stamp = c; value = value } ∷ v ∷ vs) i
-            fall zero zero l k = absurd (omega arith)
-            fall (suc i) zero l k = absurd (omega arith)
-            fall zero (suc zero) l k = omega arith
-            fall zero (suc (suc j)) l k = let a = o .fall 0 (suc j) (omega arith) (omega arith) in omega arith
-            fall (suc i) (suc j) l k = o .fall i j (omega arith) (omega arith)
+    ready : (x : ℕ) → x < S .items → Ready S enough G g s inside u u-size u-rows u-later (withNew (G .locks) s c x (versionsIn (row (versionRow S) x (G .versions))))
+    ready = committed-ready S enough G g s inside u u-size u-rows u-later c above (let a = u-clock in omega arith)
 
     pub committed-good : Good S (committed S s G)
-    unfolding committed withNew
+    unfolding committed committedUnder
     committed-good =
         left-good S (tables (G .txns) (release S s (G .locks)) (G .versions)) (released-good S G g s inside resting) s inside (released-holds S G g s inside resting) resting
         u u-size u-rows (getD-set-other (G .txns) 1 0 c 0 (omega arith)) u-later (let a = u-clock in let b = g .clockMost in omega arith)
         (rewritten S (starts S (setTxn u s noTxn)) (withNew (G .locks) s c) (G .versions))
         (rewritten-size S enough G g s inside u u-size u-rows u-later (withNew (G .locks) s c) ready)
         (rewritten-good S enough G g s inside u u-size u-rows u-later (withNew (G .locks) s c) ready)
-      where
-        pick : (b : Bool) (x : ℕ) → x < S .items → R (cond b (record { stamp = c; value = (lock (G .locks) x) .working } ∷ versionsIn (row (versionRow S) x (G .versions))) (versionsIn (row (versionRow S) x (G .versions))))
-        pick true x i = new-ready ((lock (G .locks) x) .working) (row (versionRow S) x (G .versions)) (g .versionsGood x i)
-        pick false x i = old-ready S enough G g s inside u u-size u-rows u-later (row (versionRow S) x (G .versions)) (g .versionsGood x i)
+        (λ r x i j a h.
+        rewritten-top S enough G g s inside u u-size u-rows u-later (withNew (G .locks) s c) ready x j
+        (not-new (G .locks) s c x (versionsOf S (G .versions) x) (released-other S G g s inside resting r x j h)))
 
-        ready : (x : ℕ) → x < S .items → R (withNew (G .locks) s c x (versionsIn (row (versionRow S) x (G .versions))))
-        ready x i = pick (holdsExclusive (lock (G .locks) x) s) x i
+  -- ---- request E6: "Its commit puts versions under that stamp"; "its abort trims rows as a query's end does"
+  module _ (past : T (liveSettled (txn (G .txns) s))) where
+    rests : (txn (G .txns) s) .awaitedLock ≡ noLock
+    rests = g .txnGood s inside .readerIdle (settled-reads (txn (G .txns) s) past)
+
+    abbrev q : ℕ
+    q = (txn (G .txns) s) .start
+
+    -- in both ends the row goes, and the locks; f says what becomes of an item's versions before they are trimmed
+    module _
+        (f : ℕ → List Version → List Version)
+        (fit : (x : ℕ) → x < S .items → Ready S enough G g s inside (G .txns) (g .txnsExact) (λ r d. refl) (omega arith) (f x (versionsIn (row (versionRow S) x (G .versions)))))
+        (same : (x : ℕ) → holdsExclusive (lock (G .locks) x) s ≡ false → f x (versionsOf S (G .versions) x) ≡ versionsOf S (G .versions) x)
+      where
+        gone-good : Good S (tables (setTxn (G .txns) s noTxn) (release S s (G .locks)) (rewritten S (starts S (setTxn (G .txns) s noTxn)) f (G .versions)))
+        gone-good =
+            left-good S (tables (G .txns) (release S s (G .locks)) (G .versions)) (released-good S G g s inside rests) s inside (released-holds S G g s inside rests) rests
+            (G .txns) (g .txnsExact) (λ r d. refl) refl (omega arith) (g .clockMost)
+            (rewritten S (starts S (setTxn (G .txns) s noTxn)) f (G .versions))
+            (rewritten-size S enough G g s inside (G .txns) (g .txnsExact) (λ r d. refl) (omega arith) f fit)
+            (rewritten-good S enough G g s inside (G .txns) (g .txnsExact) (λ r d. refl) (omega arith) f fit)
+            (λ r x i j a h.
+            rewritten-top S enough G g s inside (G .txns) (g .txnsExact) (λ r d. refl) (omega arith) f fit x j
+            (same x (released-other S G g s inside rests r x j h)))
+
+    pub settled-commit-good : Good S (settledCommitted S s G)
+    unfolding settledCommitted committedUnder
+    settled-commit-good =
+        gone-good (withNew (G .locks) s q)
+        (committed-ready S enough G g s inside (G .txns) (g .txnsExact) (λ r d. refl) (omega arith) q
+        (λ x i h. g .settledGood .above s x inside i past h) (g .txnGood s inside .readerStart (settled-reads (txn (G .txns) s) past)))
+        (λ x e. not-new (G .locks) s q x (versionsOf S (G .versions) x) e)
+
+    pub settled-abort-good : Good S (settledAborted S s G)
+    unfolding settledAborted
+    settled-abort-good =
+        gone-good (λ x vs. vs)
+        (λ x i. old-ready S enough G g s inside (G .txns) (g .txnsExact) (λ r d. refl) (omega arith) (row (versionRow S) x (G .versions)) (g .versionsGood x i))
+        (λ x e. refl)

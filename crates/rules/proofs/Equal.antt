@@ -14,12 +14,13 @@ use Rattle.rules.specs.Words.{implies, everyBelow, everyRow, row}
 use Rattle.rules.specs.Tables.{Tables, txnWords, lockWords, versionWords, versionRow, lastNumber, clock, txn, live, starts, lock}
 use Rattle.rules.specs.Waits.{noCircle}
 use Rattle.rules.specs.Good.{Good, GoodTxn, GoodLock}
-use Rattle.rules.specs.Tested.{sizesExact, topsMost, txnGood, distinct, lockGood, quotaGood, versionsGood, ranksGood, good}
+use Rattle.rules.specs.Tested.{sizesExact, topsMost, txnGood, distinct, lockGood, quotaGood, versionsGood, ranksGood, settledGood, good}
 use Rattle.rules.proofs.Tests.{and-left, and-right, and-both, implies-use, implies-make, ne-make, ne-use, eq-make}
 use Rattle.rules.proofs.Counts.{everyBelow→, →everyBelow}
 use Rattle.rules.proofs.Rows.{everyRow→, →everyRow}
-use Rattle.rules.proofs.EqualRows.{txn→Good, Good→txn, lock→Good, Good→lock, live-number, number-live}
+use Rattle.rules.proofs.EqualRows.{txn→Good, Good→txn, lock→Good, Good→lock, holder, live-number, number-live}
 use Rattle.rules.proofs.EqualRanks.{ranks→Good, Good→ranks}
+use Rattle.rules.proofs.EqualSettled.{settled→Good, Good→settled}
 use Rattle.rules.proofs.Quotas.{quota→Good, Good→quota}
 use Rattle.rules.proofs.EqualVersions.{versions→Good, Good→versions}
 use Rattle.rules.proofs.Walks.{no-circle→, →no-circle}
@@ -72,6 +73,7 @@ module _ (S : Sizes) (G : Tables) where
       let h₆ = and-right quotasTest _ h₅ in
       let h₇ = and-right versionsTest _ h₆ in
       let h₈ = and-right (ranksGood S t l) _ h₇ in
+      let h₉ = and-right (settledGood S G) _ h₈ in
       let a = and-left (sizesExact S G) _ h in
       let b = and-right (eqb (length t) (txnWords S)) _ a in
       let c = and-left (topsMost t) _ h₁ in
@@ -93,7 +95,8 @@ module _ (S : Sizes) (G : Tables) where
         versionsGood = λ x i. versions→Good S t (row (versionRow S) x (G .versions))
             (everyRow→ (S .items) (versionRow S) (λ x r. versionsGood S (clock t) (starts S t) r) 0 (G .versions) (and-left versionsTest _ h₆) x i);
         ranksGood = ranks→Good S t l (and-left (ranksGood S t l) _ h₇);
-        noCircle = no-circle→ S t l size (λ s i. rows s i .itemKnown) (λ x i b h. locks x i .holders b h .0) h₈;
+        settledGood = settled→Good S G (and-left (settledGood S G) _ h₈);
+        noCircle = no-circle→ S t l size (λ s i. rows s i .itemKnown) (λ x i b h. holder S t (lock l x) (locks x i) b h .0) h₉;
       }
     where
       pick : T (distinct S t) → (r s : ℕ) → r < S .slots → s < S .slots → T (live (txn t s)) → (r < s) ⊎ (s < r) → (txn t r) .number ≢ (txn t s) .number
@@ -118,7 +121,8 @@ module _ (S : Sizes) (G : Tables) where
       (and-both versionsTest _
       (→everyRow (S .items) (versionRow S) (λ x r. versionsGood S (clock t) (starts S t) r) 0 (G .versions) (λ x i. Good→versions S t (row (versionRow S) x (G .versions)) (g .versionsGood x i)))
       (and-both (ranksGood S t l) _ (Good→ranks S t l (g .ranksGood))
-      (→no-circle S t l (g .txnsExact) (λ s i. g .txnGood s i .itemKnown) (λ x i b h. g .lockGood x i .holders b h .0) (g .noCircle)))))))))
+      (and-both (settledGood S G) _ (Good→settled S G (g .settledGood))
+      (→no-circle S t l (g .txnsExact) (λ s i. g .txnGood s i .itemKnown) (λ x i b h. holder S t (lock l x) (g .lockGood x i) b h .0) (g .noCircle))))))))))
 
 -- the computed test and the document's sentences
 pub good↔Good : (S : Sizes) (G : Tables) → T (good S G) ↔ Good S G

@@ -2,15 +2,15 @@
 use Prim.Native.Nat.{ℕ, suc, _^_, _≤_, _<_}
 use mathlib.Core.Path.{_≡_, refl, sym, subst}
 use mathlib.Core.Logic.{_≢_, _⊎_, inl, inr}
-use mathlib.Core.Bool.{_&&_, _||_, not, cond}
+use mathlib.Core.Bool.{Bool, _&&_, _||_, not, cond}
 use mathlib.Core.List.{List}
 use native.Mathlib.Omega.{arith}
 use lib.Dec.{T, eqb, leb, ltb, eqb→eq, leb→le, le→leb, ltb→lt, lt→ltb}
 use borrow.Author.Tests.{eq-eqb, ne-eqb}
 use Rattle.names.specs.declared.Sizes.{Sizes}
 use Rattle.rules.specs.Words.{implies, bit}
-use Rattle.rules.specs.Tables.{lastNumber, clock, Txn, txn, noTxn, live, liveUpdate, liveQuery}
-use Rattle.rules.specs.Tables.{anUpdate, aQuery, noLock, sharedLock, exclusiveLock, Lock, lock, holdsShared, holdsExclusive, holds}
+use Rattle.rules.specs.Tables.{lastNumber, clock, Txn, txn, noTxn, live, liveUpdate, liveQuery, liveSettled, mayHold, byStart}
+use Rattle.rules.specs.Tables.{anUpdate, aQuery, aSettled, noLock, sharedLock, exclusiveLock, Lock, lock, holdsShared, holdsExclusive, holds}
 use Rattle.rules.specs.Good.{GoodTxn, GoodLock}
 use Rattle.rules.specs.Tested.{freeZero, listed, startGood, awaitedGood, awaiterGood, txnGood, holdersLive, lockGood}
 use Rattle.rules.proofs.Tests.{and-left, and-right, and-both, or-cases, or-left, or-right, implies-use, implies-make}
@@ -59,6 +59,45 @@ pub live-query : (r : Txn) → T (live r) → r .kind ≡ aQuery → T (liveQuer
 unfolding liveQuery
 live-query r h e = and-both (live r) _ h (eq-make (r .kind) aQuery e)
 
+pub settled-live : (r : Txn) → T (liveSettled r) → T (live r) × (r .kind ≡ aSettled)
+unfolding liveSettled
+settled-live r h = (and-left (live r) _ h, eqb→eq (r .kind) aSettled (and-right (live r) _ h))
+
+pub live-settled : (r : Txn) → T (live r) → r .kind ≡ aSettled → T (liveSettled r)
+unfolding liveSettled
+live-settled r h e = and-both (live r) _ h (eq-make (r .kind) aSettled e)
+
+-- who may hold is no query, who reads by a start no update that writes
+pub holder-live : (r : Txn) → T (mayHold r) → T (live r) × (r .kind ≢ aQuery)
+unfolding mayHold
+holder-live r h = go (or-cases (liveUpdate r) _ h)
+  where
+    go : T (liveUpdate r) ⊎ T (liveSettled r) → T (live r) × (r .kind ≢ aQuery)
+    go (inl u) = let k = update-live r u in (k .0, λ e. (let z = k .1 in omega arith))
+    go (inr u) = let k = settled-live r u in (k .0, λ e. (let z = k .1 in omega arith))
+
+pub reader-live : (r : Txn) → T (byStart r) → T (live r) × (r .kind ≢ anUpdate)
+unfolding byStart
+reader-live r h = (and-left (live r) _ h, ne-use (r .kind) anUpdate (and-right (live r) _ h))
+
+pub live-reader : (r : Txn) → T (live r) → r .kind ≢ anUpdate → T (byStart r)
+unfolding byStart
+live-reader r h d = and-both (live r) _ h (ne-make (r .kind) anUpdate d)
+
+pub update-holds : (r : Txn) → T (liveUpdate r) → T (mayHold r)
+unfolding mayHold
+update-holds r u = or-left (liveUpdate r) _ u
+
+pub settled-holds : (r : Txn) → T (liveSettled r) → T (mayHold r)
+unfolding mayHold
+settled-holds r u = or-right (liveUpdate r) _ u
+
+pub query-reads : (r : Txn) → T (liveQuery r) → T (byStart r)
+query-reads r u = let k = query-live r u in live-reader r (k .0) (λ e. let z = k .1 in omega arith)
+
+pub settled-reads : (r : Txn) → T (liveSettled r) → T (byStart r)
+settled-reads r u = let k = settled-live r u in live-reader r (k .0) (λ e. let z = k .1 in omega arith)
+
 -- ---- a transaction row
 module _ (S : Sizes) (t l : List ℕ) (s : ℕ) (r : Txn) where
   abbrev h : Lock
@@ -75,16 +114,18 @@ module _ (S : Sizes) (t l : List ℕ) (s : ℕ) (r : Txn) where
       let b₂ = and-left (startGood (clock t) r) _ a₃ in
       let b₃ = and-left (awaitedGood S r) _ a₄ in
       let b₄ = and-right (awaitedGood S r) _ a₄ in
-      let queried = and-right (implies (liveUpdate r) (eqb (r .start) 0)) _ b₂ in
+      let started = and-right (implies (liveUpdate r) (eqb (r .start) 0)) _ b₂ in
+      let reads = and-left (implies (byStart r) (leb (r .start) (clock t) && eqb (r .awaitedLock) noLock)) _ started in
       let u = implies (eqb (r .awaitedLock) sharedLock) (not (holds h s)) in
       record {
         free = λ e. zeros e (implies-use (not (live r)) _ (and-left (freeZero r) _ a) (not-make (live r) (λ z. ne-use (r .number) 0 z e)));
         given = leb→le (r .number) (lastNumber t) (and-left (leb (r .number) (lastNumber t)) _ a₁);
-        kindListed = two (r .kind) (leb→le (r .kind) aQuery (and-left (leb (r .kind) aQuery) _ b₁));
-        lockListed = leb→le (r .awaitedLock) exclusiveLock (and-right (leb (r .kind) aQuery) _ b₁);
+        kindListed = three (r .kind) (leb→le (r .kind) aSettled (and-left (leb (r .kind) aSettled) _ b₁));
+        lockListed = leb→le (r .awaitedLock) exclusiveLock (and-right (leb (r .kind) aSettled) _ b₁);
         updateStart = λ z. eqb→eq (r .start) 0 (implies-use (liveUpdate r) _ (and-left (implies (liveUpdate r) (eqb (r .start) 0)) _ b₂) z);
-        queryStart = λ z. leb→le (r .start) (clock t) (and-left (leb (r .start) (clock t)) _ (implies-use (liveQuery r) _ queried z));
-        queryIdle = λ z. eqb→eq (r .awaitedLock) noLock (and-right (leb (r .start) (clock t)) _ (implies-use (liveQuery r) _ queried z));
+        readerStart = λ z. leb→le (r .start) (clock t) (and-left (leb (r .start) (clock t)) _ (implies-use (byStart r) _ reads z));
+        readerIdle = λ z. eqb→eq (r .awaitedLock) noLock (and-right (leb (r .start) (clock t)) _ (implies-use (byStart r) _ reads z));
+        settledStart = λ z. leb→le 1 (r .start) (implies-use (liveSettled r) _ (and-right (implies (byStart r) (leb (r .start) (clock t) && eqb (r .awaitedLock) noLock)) _ started) z);
         itemKnown = λ d. ltb→lt (r .awaitedItem) (S .items) (rw (ne-eqb (r .awaitedLock) noLock d) at b₃);
         itemUnused = λ e. eqb→eq (r .awaitedItem) 0 (and-left (eqb (r .awaitedItem) 0) _ (rw (eq-eqb (r .awaitedLock) noLock e) at b₃));
         rankUnused = λ e. eqb→eq (r .rank) 0 (and-right (eqb (r .awaitedItem) 0) _ (rw (eq-eqb (r .awaitedLock) noLock e) at b₃));
@@ -92,12 +133,13 @@ module _ (S : Sizes) (t l : List ℕ) (s : ℕ) (r : Txn) where
         awaitsExclusive = λ e. not-use (holdsExclusive h s) (implies-use (eqb (r .awaitedLock) exclusiveLock) _ (and-right u _ b₄) (eq-make (r .awaitedLock) exclusiveLock e));
       }
     where
-      two : (k : ℕ) → k ≤ aQuery → (k ≡ anUpdate) ⊎ (k ≡ aQuery)
-      two k b = go (same? k anUpdate)
+      three : (k : ℕ) → k ≤ aSettled → (k ≡ anUpdate) ⊎ ((k ≡ aQuery) ⊎ (k ≡ aSettled))
+      three k b = go (same? k anUpdate) (same? k aQuery)
         where
-          go : (k ≡ anUpdate) ⊎ (k ≢ anUpdate) → (k ≡ anUpdate) ⊎ (k ≡ aQuery)
-          go (inl e) = inl e
-          go (inr d) = inr (omega arith)
+          go : (k ≡ anUpdate) ⊎ (k ≢ anUpdate) → (k ≡ aQuery) ⊎ (k ≢ aQuery) → (k ≡ anUpdate) ⊎ ((k ≡ aQuery) ⊎ (k ≡ aSettled))
+          go (inl e) z = inl e
+          go (inr d) (inl e) = inr (inl e)
+          go (inr d) (inr f) = inr (inr (omega arith))
 
       zeros : r .number ≡ 0 → T (eqb (r .kind) 0 && (eqb (r .start) 0 && (eqb (r .awaitedLock) 0 && (eqb (r .awaitedItem) 0 && eqb (r .rank) 0)))) → r ≡ noTxn
       zeros e z =
@@ -117,19 +159,22 @@ module _ (S : Sizes) (t l : List ℕ) (s : ℕ) (r : Txn) where
       and-both (freeZero r) _ free
       (and-both (leb (r .number) (lastNumber t)) _ (le→leb (r .number) (lastNumber t) (g .given))
       (and-both (listed r) _
-      (and-both (leb (r .kind) aQuery) _ (le→leb (r .kind) aQuery (kinds (g .kindListed))) (le→leb (r .awaitedLock) exclusiveLock (g .lockListed)))
+      (and-both (leb (r .kind) aSettled) _ (le→leb (r .kind) aSettled (kinds (g .kindListed))) (le→leb (r .awaitedLock) exclusiveLock (g .lockListed)))
       (and-both (startGood (clock t) r) _
       (and-both (implies (liveUpdate r) (eqb (r .start) 0)) _
       (implies-make (liveUpdate r) _ (λ z. eq-make (r .start) 0 (g .updateStart z)))
-      (implies-make (liveQuery r) _ (λ z. and-both (leb (r .start) (clock t)) _ (le→leb (r .start) (clock t) (g .queryStart z)) (eq-make (r .awaitedLock) noLock (g .queryIdle z)))))
+      (and-both (implies (byStart r) (leb (r .start) (clock t) && eqb (r .awaitedLock) noLock)) _
+      (implies-make (byStart r) _ (λ z. and-both (leb (r .start) (clock t)) _ (le→leb (r .start) (clock t) (g .readerStart z)) (eq-make (r .awaitedLock) noLock (g .readerIdle z))))
+      (implies-make (liveSettled r) _ (λ z. le→leb 1 (r .start) (g .settledStart z)))))
       (and-both (awaitedGood S r) _ (awaited (same? (r .awaitedLock) noLock))
       (and-both (implies (eqb (r .awaitedLock) sharedLock) (not (holds h s))) _
       (implies-make (eqb (r .awaitedLock) sharedLock) _ (λ z. not-make (holds h s) (g .awaitsShared (eqb→eq (r .awaitedLock) sharedLock z))))
       (implies-make (eqb (r .awaitedLock) exclusiveLock) _ (λ z. not-make (holdsExclusive h s) (g .awaitsExclusive (eqb→eq (r .awaitedLock) exclusiveLock z)))))))))
     where
-      kinds : (r .kind ≡ anUpdate) ⊎ (r .kind ≡ aQuery) → r .kind ≤ aQuery
+      kinds : (r .kind ≡ anUpdate) ⊎ ((r .kind ≡ aQuery) ⊎ (r .kind ≡ aSettled)) → r .kind ≤ aSettled
       kinds (inl e) = omega arith
-      kinds (inr e) = omega arith
+      kinds (inr (inl e)) = omega arith
+      kinds (inr (inr e)) = omega arith
 
       free : T (implies (not (not (eqb (r .number) 0))) (eqb (r .kind) 0 && (eqb (r .start) 0 && (eqb (r .awaitedLock) 0 && (eqb (r .awaitedItem) 0 && eqb (r .rank) 0)))))
       free = implies-make (not (not (eqb (r .number) 0))) _ (λ z. go (same? (r .number) 0) z)
@@ -145,7 +190,19 @@ module _ (S : Sizes) (t l : List ℕ) (s : ℕ) (r : Txn) where
       awaited (inr d) = rw (ne-eqb (r .awaitedLock) noLock d) (lt→ltb (r .awaitedItem) (S .items) (g .itemKnown d))
 
 -- ---- a lock
+-- whoever holds it may hold one
+pub holder : (S : Sizes) (t : List ℕ) (o : Lock) → GoodLock S t o → (s : ℕ) → T (holds o s) → (s < S .slots) × T (mayHold (txn t s))
+unfolding holds
+holder S t o g s h = go (or-cases (holdsShared o s) (holdsExclusive o s) h)
+  where
+    go : T (holdsShared o s) ⊎ T (holdsExclusive o s) → (s < S .slots) × T (mayHold (txn t s))
+    go (inl a) = let b = g .sharers s a in (b .0, update-holds (txn t s) (b .1))
+    go (inr a) = g .excluders s a
+
 module _ (S : Sizes) (t : List ℕ) (o : Lock) where
+  abbrev held : ℕ → Bool
+  held s = implies (holdsShared o s) (liveUpdate (txn t s)) && implies (holdsExclusive o s) (mayHold (txn t s))
+
   pub lock→Good : T (lockGood S t o) → GoodLock S t o
   unfolding lockGood holdersLive holds holdsShared holdsExclusive
   lock→Good a =
@@ -154,17 +211,16 @@ module _ (S : Sizes) (t : List ℕ) (o : Lock) where
       let b₁ = and-right (ltb (o .shared) (2 ^ S .slots)) _ b in
       let b₂ = and-right (leb (o .exclusive) (S .slots)) _ b₁ in
       record {
-        holders = λ s h.
-            let i = below s (ltb→lt (o .shared) (2 ^ S .slots) (and-left (ltb (o .shared) (2 ^ S .slots)) _ b)) (leb→le (o .exclusive) (S .slots) (and-left (leb (o .exclusive) (S .slots)) _ b₁)) (or-cases (holdsShared o s) _ h) in
-            (i, implies-use (holds o s) _ (everyBelow→ (S .slots) (λ s. implies (holds o s) (liveUpdate (txn t s))) b₂ s i) h);
+        sharers = λ s h.
+            let i = bit-below (o .shared) s (S .slots) (ltb→lt (o .shared) (2 ^ S .slots) (and-left (ltb (o .shared) (2 ^ S .slots)) _ b)) h in
+            (i, implies-use (holdsShared o s) _ (and-left (implies (holdsShared o s) (liveUpdate (txn t s))) _ (everyBelow→ (S .slots) held b₂ s i)) h);
+        excluders = λ s h.
+            let i : s < S .slots = (let e = eqb→eq (o .exclusive) (suc s) h in let q = leb→le (o .exclusive) (S .slots) (and-left (leb (o .exclusive) (S .slots)) _ b₁) in omega arith) in
+            (i, implies-use (holdsExclusive o s) _ (and-right (implies (holdsShared o s) (liveUpdate (txn t s))) _ (everyBelow→ (S .slots) held b₂ s i)) h);
         neverBoth = either (or-cases (eqb (o .shared) 0) _ (and-left (eqb (o .shared) 0 || eqb (o .exclusive) 0) _ a₁));
         noWorking = λ e. eqb→eq (o .working) 0 (implies-use (eqb (o .exclusive) 0) _ (and-right (eqb (o .shared) 0 || eqb (o .exclusive) 0) _ a₁) (eq-make (o .exclusive) 0 e));
       }
     where
-      below : (s : ℕ) → o .shared < 2 ^ S .slots → o .exclusive ≤ S .slots → T (bit (o .shared) s) ⊎ T (eqb (o .exclusive) (suc s)) → s < S .slots
-      below s p q (inl h) = bit-below (o .shared) s (S .slots) p h
-      below s p q (inr h) = let e = eqb→eq (o .exclusive) (suc s) h in omega arith
-
       either : T (eqb (o .shared) 0) ⊎ T (eqb (o .exclusive) 0) → (o .shared ≡ 0) ⊎ (o .exclusive ≡ 0)
       either (inl h) = inl (eqb→eq (o .shared) 0 h)
       either (inr h) = inr (eqb→eq (o .exclusive) 0 h)
@@ -174,16 +230,19 @@ module _ (S : Sizes) (t : List ℕ) (o : Lock) where
   Good→lock g =
       and-both (holdersLive S t o) _
       (and-both (ltb (o .shared) (2 ^ S .slots)) _
-      (lt→ltb (o .shared) (2 ^ S .slots) (below-bits (S .slots) (o .shared) (λ b h. g .holders b (or-left (bit (o .shared) b) _ h) .0)))
+      (lt→ltb (o .shared) (2 ^ S .slots) (below-bits (S .slots) (o .shared) (λ b h. g .sharers b h .0)))
       (and-both (leb (o .exclusive) (S .slots)) _
       (le→leb (o .exclusive) (S .slots) (few (o .exclusive) refl))
-      (→everyBelow (S .slots) (λ s. implies (holds o s) (liveUpdate (txn t s))) (λ s i. implies-make (holds o s) _ (λ h. g .holders s h .1)))))
+      (→everyBelow (S .slots) held
+      (λ s i.
+      and-both (implies (holdsShared o s) (liveUpdate (txn t s))) _ (implies-make (holdsShared o s) _ (λ h. g .sharers s h .1))
+      (implies-make (holdsExclusive o s) _ (λ h. g .excluders s h .1))))))
       (and-both (eqb (o .shared) 0 || eqb (o .exclusive) 0) _ (either (g .neverBoth))
       (implies-make (eqb (o .exclusive) 0) _ (λ h. eq-make (o .working) 0 (g .noWorking (eqb→eq (o .exclusive) 0 h)))))
     where
       few : (e : ℕ) → o .exclusive ≡ e → e ≤ S .slots
       few ℕ.zero q = omega arith
-      few (suc b) q = g .holders b (or-right (bit (o .shared) b) _ (eq-make (o .exclusive) (suc b) q)) .0
+      few (suc b) q = g .excluders b (eq-make (o .exclusive) (suc b) q) .0
 
       either : (o .shared ≡ 0) ⊎ (o .exclusive ≡ 0) → T (eqb (o .shared) 0 || eqb (o .exclusive) 0)
       either (inl e) = or-left (eqb (o .shared) 0) _ (eq-make (o .shared) 0 e)

@@ -10,7 +10,7 @@ use lib.Seq.{getD-drop}
 use lib.Dec.{T, eqb, leb, leb→le, le→leb}
 use Rattle.names.specs.declared.Sizes.{Sizes}
 use Rattle.rules.specs.Words.{every}
-use Rattle.rules.specs.Tables.{clock, txn, liveQuery, starts}
+use Rattle.rules.specs.Tables.{clock, txn, byStart, starts}
 use Rattle.rules.specs.Versions.{Version, versionsIn, stampAt, place, readBySome}
 use Rattle.rules.specs.Good.{GoodVersions}
 use Rattle.rules.specs.Tested.{falls, lastOld, allRead, versionsGood}
@@ -66,7 +66,7 @@ module _ (S : Sizes) (t r : List ℕ) where
       least : 1 ≤ getD r 0 0
       least = leb→le 1 (getD r 0 0) (and-left (leb 1 (getD r 0 0)) _ h)
 
-      last : (s : ℕ) → s < S .slots → T (liveQuery (txn t s)) → stampAt vs (length vs - 1) ≤ (txn t s) .start
+      last : (s : ℕ) → s < S .slots → T (byStart (txn t s)) → stampAt vs (length vs - 1) ≤ (txn t s) .start
       last s l q =
           leb→le (stampAt vs (length vs - 1)) ((txn t s) .start)
           (every-mem (λ q. leb (stampAt vs (length vs - 1)) q) (and-left (lastOld qs vs) (allRead qs vs 0 vs) h₆) (start-in S t s l q))
@@ -74,14 +74,14 @@ module _ (S : Sizes) (t r : List ℕ) where
       -- an older version has a reader among the starts
       to :
           (k : ℕ) → 0 < k → k < length vs
-          → (s : ℕ) × (s < S .slots) × T (liveQuery (txn t s)) × (place ((txn t s) .start) vs ≡ k)
+          → (s : ℕ) × (s < S .slots) × T (byStart (txn t s)) × (place ((txn t s) .start) vs ≡ k)
       to k z l =
           let m = reader qs vs (and-right (lastOld qs vs) (allRead qs vs 0 vs) h₆) k z l in
           let s = in-start S t (m .0) (m .1) in
           (s .0, s .1, s .2, ap (λ (q : ℕ). place q vs) (s .3) ∙ m .2)
 
-      -- each live query reads a version that is there: the last is old enough
-      from : (k : ℕ) → (s : ℕ) × (s < S .slots) × T (liveQuery (txn t s)) × (place ((txn t s) .start) vs ≡ k) → k < length vs
+      -- each reader reads a version that is there: the last is old enough
+      from : (k : ℕ) → (s : ℕ) × (s < S .slots) × T (byStart (txn t s)) × (place ((txn t s) .start) vs ≡ k) → k < length vs
       from k m =
           subst (λ (j : ℕ). j < length vs) (m .3)
           (place-exists ((txn t (m .0)) .start) vs (let e = length-versionsIn r in omega (arith, least)) (last (m .0) (m .1) (m .2)))

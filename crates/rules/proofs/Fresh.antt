@@ -12,7 +12,7 @@ use lib.Dec.{T, eqb, ltb, eqb·zero-suc}
 use borrow.Author.Tests.{ltb-true, ltb-false}
 use Rattle.names.specs.declared.Sizes.{Sizes}
 use Rattle.rules.specs.Words.{row, bit}
-use Rattle.rules.specs.Tables.{withCounts, txnAt, txnWords, lockWords, lockRow, versionWords, versionRow, Txn, txn, noTxn, live, liveQuery}
+use Rattle.rules.specs.Tables.{withCounts, txnAt, txnWords, lockWords, lockRow, versionWords, versionRow, Txn, txn, noTxn, live, liveSettled, byStart}
 use Rattle.rules.specs.Tables.{Lock, lock, holds, holdsShared, holdsExclusive, fresh}
 use Rattle.rules.specs.Versions.{versionsIn, pairs, stampAt}
 use Rattle.rules.specs.Waits.{awaits, waitsFor, Walk, one, more}
@@ -20,7 +20,7 @@ use Rattle.rules.specs.Good.{Good, GoodTxn, GoodLock, GoodQuota, GoodVer
 use Rattle.rules.proofs.Tests.{or-cases, false-is}
 use Rattle.rules.proofs.Bits.{bit-none}
 use Rattle.rules.proofs.Rows.{length-mapRows, row-mapRows}
-use Rattle.rules.proofs.EqualRows.{live-number}
+use Rattle.rules.proofs.EqualRows.{live-number, settled-live, reader-live}
 use Rattle.rules.proofs.Quotas.{free-quota}
 use Rattle.rules.proofs.Carried.{free-row}
 use Rattle.rules.proofs.EqualRanks.{awaits→, awaitsOn→}
@@ -87,9 +87,11 @@ module _ (S : Sizes) (room : 1 ≤ S .places) where
   not-live : (s : ℕ) → T (live (txn ((fresh S) .txns) s)) → ⊥
   not-live s h = live-number (txn ((fresh S) .txns) s) h (ap (λ (r : Txn). r .number) (txn-free s))
 
-  not-query : (s : ℕ) → T (liveQuery (txn ((fresh S) .txns) s)) → ⊥
-  unfolding liveQuery live
-  not-query s h = subst (λ (r : Txn). T (liveQuery r)) (txn-free s) h
+  not-reader : (s : ℕ) → T (byStart (txn ((fresh S) .txns) s)) → ⊥
+  not-reader s h = not-live s (reader-live (txn ((fresh S) .txns) s) h .0)
+
+  not-settled : (s : ℕ) → T (liveSettled (txn ((fresh S) .txns) s)) → ⊥
+  not-settled s h = not-live s (settled-live (txn ((fresh S) .txns) s) h .0)
 
   lock-free : (x : ℕ) → lock ((fresh S) .locks) x ≡ record { shared = 0; exclusive = 0; working = 0 }
   unfolding fresh lock
@@ -99,11 +101,13 @@ module _ (S : Sizes) (room : 1 ≤ S .places) where
 
   free-lock : GoodLock S ((fresh S) .txns) (record { shared = 0; exclusive = 0; working = 0 })
   unfolding holds holdsShared holdsExclusive
-  free-lock = record { holders = λ s h. absurd (none s (or-cases (bit 0 s) _ h)); neverBoth = inl refl; noWorking = λ e. refl }
-    where
-      none : (s : ℕ) → T (bit 0 s) ⊎ T (eqb 0 (suc s)) → ⊥
-      none s (inl h) = false-is (bit-none s) h
-      none s (inr h) = false-is (eqb·zero-suc s) h
+  free-lock =
+      record {
+        sharers = λ s h. absurd (false-is (bit-none s) h);
+        excluders = λ s h. absurd (false-is (eqb·zero-suc s) h);
+        neverBoth = inl refl;
+        noWorking = λ e. refl;
+      }
 
   -- a row of words that are zero behind its count of 1
   first-row : (ws : List ℕ) → ((j : ℕ) → getD ws j 0 ≡ 0) → GoodVersions S ((fresh S) .txns) (1 ∷ ws)
@@ -115,8 +119,8 @@ module _ (S : Sizes) (room : 1 ≤ S .places) where
         unused = behind;
         fall = λ i j l h. absurd (omega arith);
         first = let a = z 0 in omega arith;
-        last = λ s i q. absurd (not-query s q);
-        reads = λ k p. (λ h. absurd (omega arith), λ m. absurd (not-query (m .0) (m .2)));
+        last = λ s i q. absurd (not-reader s q);
+        reads = λ k p. (λ h. absurd (omega arith), λ m. absurd (not-reader (m .0) (m .2)));
       }
     where
       behind : (k : ℕ) → 2 * 1 < k → getD (1 ∷ ws) k 0 ≡ 0
@@ -155,5 +159,6 @@ module _ (S : Sizes) (room : 1 ≤ S .places) where
               apart = λ x r s i j d a b. absurd (no-wait r (awaitsOn→ x (txn ((fresh S) .txns) r) a .0));
               exchangers = λ x r s i j a b c n. absurd (no-wait r (awaitsOn→ x (txn ((fresh S) .txns) r) a .0));
             };
+        settledGood = record { apart = λ r s i j d a b. absurd (not-settled r a); above = λ s x i j a b. absurd (not-settled s a) };
         noCircle = λ a w. no-walk w;
       }

@@ -8,7 +8,7 @@ use native.Mathlib.Omega.{arith}
 use lib.Dec.{T, eqb, eqb→eq}
 use Rattle.names.specs.declared.Sizes.{Sizes}
 use Rattle.rules.specs.Words.{bit, withBit, withoutBit}
-use Rattle.rules.specs.Tables.{Tables, tables, Txn, txn, withRank, liveUpdate, noLock, Lock, lock, setLock, holdsShared, holdsExclusive, holds, exclusivesOf}
+use Rattle.rules.specs.Tables.{Tables, tables, Txn, txn, withRank, liveUpdate, liveSettled, noLock, Lock, lock, setLock, holdsShared, holdsExclusive, holds, exclusivesOf}
 use Rattle.rules.specs.Waits.{awaits, conflicts, waitsFor}
 use Rattle.rules.specs.Changed.{leaving}
 use Rattle.rules.specs.Good.{Good, GoodTxn, GoodLock, GoodQuota}
@@ -16,13 +16,14 @@ use Rattle.rules.specs.Step.{withTxns, cleared, locked, sharedToo, taken
 use Rattle.rules.proofs.Tests.{and-left, and-right, and-both, or-cases, or-left, or-right, same?, is-false, true-is, false-is, iff-eq}
 use Rattle.rules.proofs.Bits.{withBit-there, withoutBit-here, withoutBit-there, no-bits}
 use Rattle.rules.proofs.Views.{lock-setLock, lock-setLock-other, length-setLock}
-use Rattle.rules.proofs.Carried.{NoMore, no-more-same, txn-carried, lock-carried}
+use Rattle.rules.proofs.Carried.{NoMore, no-more-same, txn-carried, lock-carried, settled-carried}
 use Rattle.rules.proofs.Quotas.{exclusives-fewer, exclusives-one-more, quota-carried}
+use Rattle.rules.proofs.EqualRows.{update-live, settled-live, update-holds}
 use Rattle.rules.proofs.EqualRanks.{awaits→}
 use Rattle.rules.proofs.Lines.{same-leaving, left-ranks, left-links}
 use Rattle.rules.proofs.Walks.{waits-for→}
 use Rattle.rules.proofs.Deadlock.{grant-no-circle}
-use Rattle.rules.proofs.Waited.{cleared-good, cleared-here, cleared-update}
+use Rattle.rules.proofs.Waited.{cleared-good, cleared-here, cleared-update, cleared-holder}
 
 -- who holds no more conflicts with no more
 pub conflicts-fewer : (k b : ℕ) (h h′ : Lock) → NoMore b h h′ → T (conflicts h′ k b) → T (conflicts h k b)
@@ -39,12 +40,13 @@ conflicts-fewer k b h h′ n a = go (or-cases (holdsExclusive h′ b) (eqb k 2 &
 abbrev pub Room : Sizes → List ℕ → ℕ → ℕ → Type 0
 Room S l s x = T (holdsExclusive (lock l x) s) ⊎ (exclusivesOf S l s ≢ S .quota)
 
--- ---- the lock of item x becomes h′; slot s awaits nothing, and has room where it holds the item exclusively now and did not before; the
--- other slots hold no more of it than before, and share it as before
+-- ---- the lock of item x becomes h′; slot s awaits nothing, and has room where it holds the item exclusively now and did not before, which
+-- it does not past its writing; the other slots hold no more of it than before, and share it as before
 module _ (S : Sizes) (G : Tables) (g : Good S G) (s x : ℕ) (known : x < S .items) (idle : (txn (G .txns) s) .awaitedLock ≡ noLock)
     (h′ : Lock) (good′ : GoodLock S (G .txns) h′) (others : (r : ℕ) → r ≢ s → NoMore r (lock (G .locks) x) h′)
     (keeps : (r : ℕ) → r ≢ s → T (holdsShared (lock (G .locks) x) r) → T (holdsShared h′ r)) (holder-inside : s < S .slots)
-    (room : T (holdsExclusive h′ s) → Room S (G .locks) s x) where
+    (room : T (holdsExclusive h′ s) → Room S (G .locks) s x)
+    (past : T (liveSettled (txn (G .txns) s)) → T (holdsExclusive h′ s) → T (holdsExclusive (lock (G .locks) x) s)) where
   abbrev t : List ℕ
   t = G .txns
 
@@ -145,24 +147,54 @@ module _ (S : Sizes) (G : Tables) (g : Good S G) (s x : ℕ) (known : x < S .ite
         quotaGood = quotas;
         versionsGood = g .versionsGood;
         ranksGood = left-ranks S t t l s holder-inside stay no-wait (g .ranksGood) l′ shares;
+        settledGood = settled-carried S G (tables t l′ (G .versions)) (λ r i h. (h, refl)) (λ r y i j a h. (settled r y a h (same? r s) (same? y x), refl)) (g .settledGood);
         noCircle = grant-no-circle S G g s t l′ (λ b h. waits-for→ t l′ s b h .0 idle) links;
       }
+    where
+      settled : (r y : ℕ) → T (liveSettled (txn t r)) → T (holdsExclusive (lock l′ y) r) → (r ≡ s) ⊎ (r ≢ s) → (y ≡ x) ⊎ (y ≢ x) → T (holdsExclusive (lock l y) r)
+      settled r y a h (inr d) e = fewer r d y .exclusive h
+      settled r y a h (inl d) (inr e) = subst (λ (o : Lock). T (holdsExclusive o r)) (there y e) h
+      settled r y a h (inl d) (inl e) =
+          subst (λ (m : ℕ). T (holdsExclusive (lock l y) m)) (sym d)
+          (subst (λ (z : ℕ). T (holdsExclusive (lock l z) s)) (sym e)
+          (past (subst (λ (m : ℕ). T (liveSettled (txn t m))) d a)
+          (subst (λ (o : Lock). T (holdsExclusive o s)) here (subst (λ (z : ℕ). T (holdsExclusive (lock l′ z) s)) e (subst (λ (m : ℕ). T (holdsExclusive (lock l′ y) m)) d h)))))
 
 -- ---- the locks that a grant leaves
+pub replaced-others : (h : Lock) (v r : ℕ) → NoMore r h (replaced h v)
+unfolding holdsShared holdsExclusive
+replaced-others h v r = record { shared = λ a. a; exclusive = λ a. a }
+
+pub replaced-keeps : (h : Lock) (v r : ℕ) → T (holdsShared h r) → T (holdsShared (replaced h v) r)
+unfolding holdsShared
+replaced-keeps h v r a = a
+
+-- "replace the working value", where slot s holds exclusively
+pub replaced-too : (S : Sizes) (t : List ℕ) (h : Lock) → GoodLock S t h → (s v : ℕ) → T (holdsExclusive h s) → GoodLock S t (replaced h v)
+unfolding holdsShared holdsExclusive
+replaced-too S t h g s v own =
+    record {
+      sharers = g .sharers;
+      excluders = g .excluders;
+      neverBoth = g .neverBoth;
+      noWorking = λ e. absurd (let a = eqb→eq (h .exclusive) (suc s) own in omega arith);
+    }
+
 module _ (S : Sizes) (t : List ℕ) (h : Lock) (g : GoodLock S t h) (s : ℕ) (inside : s < S .slots) (update : T (liveUpdate (txn t s))) where
   -- "take shared", where nobody holds exclusively
   pub shared-too : h .exclusive ≡ 0 → GoodLock S t (sharedToo h s)
-  unfolding holds holdsShared holdsExclusive
+  unfolding holdsShared holdsExclusive
   shared-too free =
       record {
-        holders = λ r a. go r a (same? r s);
+        sharers = λ r a. go r a (same? r s);
+        excluders = g .excluders;
         neverBoth = inr free;
         noWorking = g .noWorking;
       }
     where
-      go : (r : ℕ) → T (bit (withBit (h .shared) s) r || eqb (h .exclusive) (suc r)) → (r ≡ s) ⊎ (r ≢ s) → (r < S .slots) × T (liveUpdate (txn t r))
+      go : (r : ℕ) → T (bit (withBit (h .shared) s) r) → (r ≡ s) ⊎ (r ≢ s) → (r < S .slots) × T (liveUpdate (txn t r))
       go r a (inl e) = rw e (inside, update)
-      go r a (inr d) = g .holders r (subst (λ (b : Bool). T (b || eqb (h .exclusive) (suc r))) (withBit-there (h .shared) s r d) a)
+      go r a (inr d) = g .sharers r (subst T (withBit-there (h .shared) s r d) a)
 
   pub shared-others : (r : ℕ) → r ≢ s → NoMore r h (sharedToo h s)
   unfolding holdsShared holdsExclusive
@@ -171,24 +203,6 @@ module _ (S : Sizes) (t : List ℕ) (h : Lock) (g : GoodLock S t h) (s : ℕ) (i
   pub shared-keeps : (r : ℕ) → r ≢ s → T (holdsShared h r) → T (holdsShared (sharedToo h s) r)
   unfolding holdsShared
   shared-keeps r d a = subst T (sym (withBit-there (h .shared) s r d)) a
-
-  -- "replace the working value", where the caller holds exclusively
-  pub replaced-too : (v : ℕ) → T (holdsExclusive h s) → GoodLock S t (replaced h v)
-  unfolding holds holdsShared holdsExclusive
-  replaced-too v own =
-      record {
-        holders = g .holders;
-        neverBoth = g .neverBoth;
-        noWorking = λ e. absurd (let a = eqb→eq (h .exclusive) (suc s) own in omega arith);
-      }
-
-  pub replaced-others : (v r : ℕ) → NoMore r h (replaced h v)
-  unfolding holdsShared holdsExclusive
-  replaced-others v r = record { shared = λ a. a; exclusive = λ a. a }
-
-  pub replaced-keeps : (v r : ℕ) → T (holdsShared h r) → T (holdsShared (replaced h v) r)
-  unfolding holdsShared
-  replaced-keeps v r a = a
 
   -- "A taken exclusive lock", where nobody else holds
   module _ (alone : (r : ℕ) → r ≢ s → T (holds h r) → ⊥) (v : ℕ) where
@@ -207,14 +221,11 @@ module _ (S : Sizes) (t : List ℕ) (h : Lock) (g : GoodLock S t h) (s : ℕ) (i
     unfolding holds holdsShared holdsExclusive
     taken-good =
         record {
-          holders = λ r a. go r (or-cases (bit (withoutBit (h .shared) s) r) _ a);
+          sharers = λ r a. absurd (subst T (no-shared r) a);
+          excluders = λ r a. rw (own r a) (inside, update-holds (txn t s) update);
           neverBoth = inl (no-bits (withoutBit (h .shared) s) no-shared);
           noWorking = λ e. absurd (omega arith);
         }
-      where
-        go : (r : ℕ) → T (bit (withoutBit (h .shared) s) r) ⊎ T (eqb (suc s) (suc r)) → (r < S .slots) × T (liveUpdate (txn t r))
-        go r (inl a) = absurd (subst T (no-shared r) a)
-        go r (inr a) = rw (own r a) (inside, update)
 
     pub taken-others : (r : ℕ) → r ≢ s → NoMore r h (taken h s v)
     unfolding holdsShared holdsExclusive
@@ -234,5 +245,7 @@ unfolding locked
 locked-good S G g s x inside update known h′ good′ others keeps room =
     relocked-good S (withTxns G (cleared S (G .txns) s)) (cleared-good S G g s inside update) s x known
     (ap (λ (w : Txn). w .awaitedLock) (cleared-here S (G .txns) (g .txnsExact) s inside)) h′
-    (lock-carried S (G .txns) (cleared S (G .txns) s) h′ (λ r a u. subst T (sym (cleared-update S (G .txns) (g .txnsExact) s inside r (good′ .holders r a .0))) u) good′)
+    (lock-carried S (G .txns) (cleared S (G .txns) s) h′ (λ r a u. subst T (sym (cleared-update S (G .txns) (g .txnsExact) s inside r (good′ .sharers r a .0))) u)
+    (λ r a u. subst T (sym (cleared-holder S (G .txns) (g .txnsExact) s inside r (good′ .excluders r a .0))) u) good′)
     others keeps inside room
+    (λ a b. absurd (let k = settled-live _ a .1 in let m = update-live _ (subst T (sym (cleared-update S (G .txns) (g .txnsExact) s inside s inside)) update) .1 in omega arith))

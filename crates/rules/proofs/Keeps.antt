@@ -6,7 +6,7 @@ use mathlib.Core.List.{List}
 use native.Mathlib.Omega.{arith}
 use Rattle.names.specs.declared.Sizes.{Sizes}
 use Rattle.names.specs.Sizes.{lastWord}
-use Rattle.rules.specs.Tables.{Tables, lastNumber, lock, holdsExclusive}
+use Rattle.rules.specs.Tables.{Tables, lastNumber, txn, lock, holdsExclusive}
 use Rattle.rules.specs.Good.{Good}
 use Rattle.rules.specs.Answers.{Call, Outcome, Deed}
 use Rattle.rules.specs.Step.{act, judged, done, queryRead}
@@ -14,11 +14,14 @@ use Rattle.rules.specs.Promises.{StaysGood}
 use Rattle.rules.proofs.Steps.{acts}
 use Rattle.rules.proofs.Begins.{begun-good}
 use Rattle.rules.proofs.Waited.{only-this, waited-good, cleared-good}
-use Rattle.rules.proofs.Grants.{locked-good, shared-too, shared-others, shared-keeps, replaced-too, replaced-others, replaced-keeps, taken-good, taken-others, taken-keeps}
-use Rattle.rules.proofs.Ends.{ended-good, aborted-good, committed-good}
+use Rattle.rules.proofs.Grants.{relocked-good, locked-good, shared-too, shared-others, shared-keeps, replaced-too, replaced-others, replaced-keeps, taken-good, taken-others, taken-keeps}
+use Rattle.rules.proofs.Ends.{ended-good, aborted-good, committed-good, settled-commit-good, settled-abort-good}
+use Rattle.rules.proofs.Settles.{settled-good}
+use Rattle.rules.proofs.EqualRows.{settled-reads}
+use Rattle.rules.proofs.Changes.{past-unchanged, past-replaced}
 use Rattle.rules.proofs.Judged.{way}
-use Rattle.rules.proofs.Ways.{Way, refused, waited, beganUpdate, beganQuery, readOwn, readNewest, readShared, readQuery}
-use Rattle.rules.proofs.Ways.{wroteOwn, wroteTaken, committedUpdate, committedQuery, abortedUpdate, abortedQuery}
+use Rattle.rules.proofs.Ways.{Way, refused, waited, beganUpdate, beganQuery, readOwn, readNewest, readShared, readSettled, readByStart}
+use Rattle.rules.proofs.Ways.{wroteOwn, wroteSettled, wroteTaken, committedUpdate, committedSettled, committedQuery, abortedUpdate, abortedSettled, abortedQuery, settledUpdate, keptWaiting}
 
 module _ (S : Sizes) (enough : S .slots ≤ S .places) (G : Tables) (g : Good S G) where
   abbrev t : List ℕ
@@ -45,13 +48,20 @@ module _ (S : Sizes) (enough : S .slots ≤ S .places) (G : Tables) (g : Good S 
       (shared-others S t (lock l x) (g .lockGood x (U .known)) s (U .caller .inside) (U .update))
       (shared-keeps S t (lock l x) (g .lockGood x (U .known)) s (U .caller .inside) (U .update))
       (λ k. inl (unfold holdsExclusive in k))
-  way-keeps c d (readQuery n s x C q i) = g
+  way-keeps c d (keptWaiting s C q) = g
+  way-keeps c d (readSettled n s x C p i h) = subst (Good S) (sym (past-unchanged S G g s (C .inside) p)) g
+  way-keeps c d (readByStart n s x C q i o b) = g
   way-keeps c d (wroteOwn n s x v U h) =
       locked-good S G g s x (U .caller .inside) (U .update) (U .known) _
-      (replaced-too S t (lock l x) (g .lockGood x (U .known)) s (U .caller .inside) (U .update) v h)
-      (λ r e. replaced-others S t (lock l x) (g .lockGood x (U .known)) s (U .caller .inside) (U .update) v r)
-      (λ r e. replaced-keeps S t (lock l x) (g .lockGood x (U .known)) s (U .caller .inside) (U .update) v r)
+      (replaced-too S t (lock l x) (g .lockGood x (U .known)) s v h)
+      (λ r e. replaced-others (lock l x) v r)
+      (λ r e. replaced-keeps (lock l x) v r)
       (λ k. inl h)
+  way-keeps c d (wroteSettled n s x v C p i h) =
+      subst (Good S) (sym (past-replaced S G g s (C .inside) p x v))
+      (relocked-good S G g s x i (g .txnGood s (C .inside) .readerIdle (settled-reads (txn t s) p)) _
+      (replaced-too S t (lock l x) (g .lockGood x i) s v h)
+      (λ r e. replaced-others (lock l x) v r) (λ r e. replaced-keeps (lock l x) v r) (C .inside) (λ k. inl h) (λ a k. h))
   way-keeps c d (wroteTaken n s x v U h alone room) =
       locked-good S G g s x (U .caller .inside) (U .update) (U .known) _
       (taken-good S t (lock l x) (g .lockGood x (U .known)) s (U .caller .inside) (U .update) alone v)
@@ -59,9 +69,12 @@ module _ (S : Sizes) (enough : S .slots ≤ S .places) (G : Tables) (g : Good S 
       (taken-keeps S t (lock l x) (g .lockGood x (U .known)) s (U .caller .inside) (U .update) alone v)
       (λ k. inr room)
   way-keeps c d (committedUpdate n s C u i m) = committed-good S enough G g s (C .inside) u i m
+  way-keeps c d (committedSettled n s C p) = settled-commit-good S enough G g s (C .inside) p
   way-keeps c d (committedQuery n s C q) = ended-good S enough G g s (C .inside) q
   way-keeps c d (abortedUpdate n s C u) = aborted-good S enough G g s (C .inside) u
+  way-keeps c d (abortedSettled n s C p) = settled-abort-good S enough G g s (C .inside) p
   way-keeps c d (abortedQuery n s C q) = ended-good S enough G g s (C .inside) q
+  way-keeps c d (settledUpdate n s C u i m) = settled-good S G g s (C .inside) u i m
 
 pub keeps : (S : Sizes) → S .slots ≤ S .places → StaysGood S
 unfolding act

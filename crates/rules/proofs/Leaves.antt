@@ -11,15 +11,16 @@ use Rattle.names.specs.declared.Sizes.{Sizes}
 use Rattle.names.specs.Sizes.{lastWord}
 use Rattle.rules.specs.Words.{bit, withoutBit, row}
 use Rattle.rules.specs.Tables.{Tables, tables, txnWords, versionWords, versionRow, lastNumber, clock, Txn, txn, setTxn, noTxn, withRank, live}
-use Rattle.rules.specs.Tables.{liveUpdate, noLock, Lock, lock, holdsShared, holdsExclusive, holds, released, release}
+use Rattle.rules.specs.Tables.{liveUpdate, liveSettled, mayHold, noLock, Lock, lock, holdsShared, holdsExclusive, holds, released, release}
+use Rattle.rules.specs.Versions.{versionsOf, stampAt}
 use Rattle.rules.specs.Waits.{awaits, awaitsOn, waitsFor}
 use Rattle.rules.specs.Changed.{leaving}
 use Rattle.rules.specs.Good.{Good, GoodTxn, GoodLock, GoodQuota, GoodVersions, GoodRanks}
-use Rattle.rules.proofs.Tests.{or-cases, or-left, same?, false-is}
+use Rattle.rules.proofs.Tests.{or-cases, or-left, or-right, same?, false-is}
 use Rattle.rules.proofs.Bits.{withoutBit-here, withoutBit-there, bit-none, no-bits}
 use Rattle.rules.proofs.Views.{length-setTxn, lastNumber-setTxn, clock-setTxn, txn-setTxn, txn-setTxn-other, lock-release, length-release}
-use Rattle.rules.proofs.EqualRows.{live-number}
-use Rattle.rules.proofs.Carried.{free-row, NoMore, no-more-same, no-more-holds, txn-carried, lock-carried}
+use Rattle.rules.proofs.EqualRows.{live-number, settled-live}
+use Rattle.rules.proofs.Carried.{free-row, NoMore, no-more-same, txn-carried, lock-carried, settled-carried}
 use Rattle.rules.proofs.Quotas.{exclusives-fewer, free-quota, quota-carried, quotas-but}
 use Rattle.rules.proofs.EqualRanks.{awaits→, awaitsOn→, waiter-inside}
 use Rattle.rules.proofs.Lines.{same-leaving, left-ranks, left-links}
@@ -75,7 +76,8 @@ module _ (s : ℕ) (h : Lock) where
   pub released-lock : (S : Sizes) (t : List ℕ) → GoodLock S t h → GoodLock S t (released s h)
   released-lock S t g =
       record {
-        holders = λ r a. g .holders r (no-more-holds r h (released s h) (released-fewer r) a);
+        sharers = λ r a. g .sharers r (released-fewer r .shared a);
+        excluders = λ r a. g .excluders r (released-fewer r .exclusive a);
         neverBoth = both (holdsExclusive h s) refl (g .neverBoth);
         noWorking = working (holdsExclusive h s) refl;
       }
@@ -157,13 +159,19 @@ module _ (S : Sizes) (G : Tables) (g : Good S G) (s : ℕ) (within : s < S .slot
         quotaGood = λ r i. quota-carried S l l′ r (txn t r) (exclusives-fewer S l l′ r (λ x k. fewer r x k .exclusive)) (g .quotaGood r i);
         versionsGood = g .versionsGood;
         ranksGood = ranked;
+        settledGood = settled-carried S G (tables t l′ (G .versions)) (λ r i h. (h, refl)) (λ r x i j a h. (fewer r x j .exclusive h, refl)) (g .settledGood);
         noCircle = fewer-no-circle S G g t l′ links;
       }
+
+  -- what another holds exclusively afterwards, s did not hold
+  pub released-other : (r x : ℕ) → x < S .items → T (holdsExclusive (lock (release S s (G .locks)) x) r) → holdsExclusive (lock (G .locks) x) s ≡ false
+  released-other r x i a = released-exclusive s (lock l x) r (subst (λ (o : Lock). T (holdsExclusive o r)) (freed x i) a) .1
 
   pub released-holds : (x : ℕ) → x < S .items → T (holds (lock (release S s (G .locks)) x) s) → ⊥
   released-holds x i a = released-none s (lock l x) (subst (λ (o : Lock). T (holds o s)) (freed x i) a)
 
--- ---- the row of slot s, which holds nothing, goes; u has the rows of before, and its clock may be later; the versions are others
+-- ---- the row of slot s, which holds nothing, goes; u has the rows of before, and its clock may be later; the versions are others, but for
+-- the newest of what is held by one past its writing
 module _
     (S : Sizes) (G : Tables) (g : Good S G) (s : ℕ) (inside : s < S .slots)
     (empty : (x : ℕ) → x < S .items → T (holds (lock (G .locks) x) s) → ⊥)
@@ -172,6 +180,9 @@ module _
     (later : clock (G .txns) ≤ clock u) (most : clock u ≤ lastWord)
     (v′ : List ℕ) (vsize : length v′ ≡ versionWords S)
     (rows′ : (x : ℕ) → x < S .items → GoodVersions S (setTxn u s noTxn) (row (versionRow S) x v′))
+    (tops :
+    (r x : ℕ) → r < S .slots → x < S .items → T (liveSettled (txn (G .txns) r)) → T (holdsExclusive (lock (G .locks) x) r)
+    → stampAt (versionsOf S v′ x) 0 ≡ stampAt (versionsOf S (G .versions) x) 0)
   where
     abbrev t₀ : List ℕ
     t₀ = G .txns
@@ -242,9 +253,13 @@ module _
           txnGood = rows;
           distinct = apart;
           lockGood = λ x i. lock-carried S t₀ t′ (lock (G .locks) x)
-              (λ r h q. subst (λ (w : Txn). T (liveUpdate w)) (sym (there r (λ e. empty x i (subst (λ (m : ℕ). T (holds (lock (G .locks) x) m)) e h)))) q) (g .lockGood x i);
+              (λ r h q. subst (λ (w : Txn). T (liveUpdate w)) (sym (there r (λ e. empty x i (subst (λ (m : ℕ). T (holds (lock (G .locks) x) m)) e (unfold holds in (or-left (holdsShared (lock (G .locks) x) r) _ h)))))) q)
+              (λ r h q. subst (λ (w : Txn). T (mayHold w)) (sym (there r (λ e. empty x i (subst (λ (m : ℕ). T (holds (lock (G .locks) x) m)) e (unfold holds in (or-right (holdsShared (lock (G .locks) x) r) _ h)))))) q) (g .lockGood x i);
           quotaGood = quotas;
           versionsGood = rows′;
           ranksGood = left-ranks S t₀ t′ (G .locks) s inside others gone (g .ranksGood) (G .locks) (λ x r d. refl);
+          settledGood = settled-carried S G (tables t′ (G .locks) v′)
+              (λ r i h. let e = there r (not-here r (settled-live (txn t′ r) h .0)) in (subst (λ (w : Txn). T (liveSettled w)) e h, ap (λ (w : Txn). w .start) e))
+              (λ r x i j a h. (h, tops r x i j a h)) (g .settledGood);
           noCircle = fewer-no-circle S G g t′ (G .locks) links′;
         }

@@ -20,6 +20,7 @@ pub mod Noting
 pub mod EqualVersions
 pub mod Looked
 pub mod EqualRows
+pub mod EqualSettled
 pub mod Equal
 pub mod Carried
 pub mod Deadlock
@@ -30,6 +31,7 @@ pub mod Waited
 pub mod Grants
 pub mod Leaves
 pub mod Ends
+pub mod Settles
 pub mod Steps
 pub mod Callers
 pub mod Decisions
@@ -48,6 +50,7 @@ pub mod Calls
 pub mod Granted
 pub mod Spent
 pub mod Waiting
+pub mod Silent
 pub mod InOrder
 pub mod Ranked
 pub mod Queries

@@ -15,7 +15,8 @@ use Rattle.rules.specs.Tables.{Txn, txn, txnWords, withRank, lock, holds
 use Rattle.rules.specs.Waits.{awaits, awaitsOn, waitersOn, lowered, conflicts, ahead, waitsFor}
 use Rattle.rules.specs.Good.{GoodRanks}
 use Rattle.rules.specs.Changed.{leaving}
-use Rattle.rules.proofs.Tests.{true-is, false-is, is-true, is-false, same?}
+use Rattle.rules.proofs.Tests.{true-is, false-is, is-true, is-false, same?, and-right, and-both, and-also, not-use, ne-make, eq-make}
+use Rattle.rules.proofs.Counts.{count-fewer}
 use Rattle.rules.proofs.EqualRanks.{awaits→, →awaits, awaitsOn→, →awaitsOn, waiter-inside}
 use Rattle.rules.proofs.Walks.{ahead→, →ahead, waits-for→, →waits-for}
 
@@ -47,6 +48,18 @@ count-one-less (suc n) p q s h a b f = go (same? n s) (λ l. count-one-less n p 
         step : (b : Bool) → suc (countBelow n q) ≡ countBelow n p → suc (cond b (suc (countBelow n q)) (countBelow n q)) ≡ cond b (suc (countBelow n p)) (countBelow n p)
         step true e = ap suc e
         step false e = e
+
+-- more pass where one passes besides
+pub count-more :
+    (n : ℕ) (p q : ℕ → Bool) (s : ℕ) → s < n → T (p s) → (T (q s) → ⊥) → ((i : ℕ) → i < n → T (q i) → T (p i))
+    → countBelow n q < countBelow n p
+count-more n p q s h a b f =
+    let few = count-fewer n q others (λ i l u. and-both (p i) _ (f i l u) (ne-make i s (λ e. b (subst (λ (m : ℕ). T (q m)) e u)))) in
+    let one = count-one-less n p others s h a (λ u. not-use (eqb s s) (and-right (p s) _ u) (eq-make s s refl)) (λ i l d. sym (and-also (p i) (not (eqb i s)) (ne-make i s d))) in
+    omega arith
+  where
+    others : ℕ → Bool
+    others i = p i && not (eqb i s)
 
 -- a rank changes nothing of what is awaited
 pub awaitsOn-rank : (x p : ℕ) (r : Txn) → awaitsOn x (withRank r p) ≡ awaitsOn x r

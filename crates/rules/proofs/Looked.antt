@@ -1,4 +1,4 @@
--- How far a query looks: to the newest version that is old enough, and at most 2 plus the number of live queries with a
+-- How far a reader by a start looks: to the newest version that is old enough, and at most 2 plus the number of others who read by a
 -- later start.
 use Prim.Native.Nat.{ℕ, suc, _+_, _-_, _≤_, _<_}
 use mathlib.Core.Path.{_≡_, refl, ap, subst}
@@ -9,7 +9,7 @@ use lib.ListN.{length}
 use lib.Dec.{T, eqb, ltb, lt→ltb}
 use Rattle.names.specs.declared.Sizes.{Sizes}
 use Rattle.rules.specs.Words.{some}
-use Rattle.rules.specs.Tables.{txn, liveQuery, starts}
+use Rattle.rules.specs.Tables.{txn, byStart, starts}
 use Rattle.rules.specs.Versions.{Version, versionsIn, stampAt, place}
 use Rattle.rules.specs.Good.{GoodVersions}
 use Rattle.rules.specs.Tested.{allRead}
@@ -57,7 +57,7 @@ module _ (S : Sizes) (t r : List ℕ) (g : GoodVersions S t r) where
   pub looked-good : (q : ℕ) → suc (place q (versionsIn r)) ≤ 2 + later q (starts S t)
   looked-good q = looked-most (starts S t) vs q (Good→read S t r g)
 
-  module _ (s : ℕ) (inside : s < S .slots) (query : T (liveQuery (txn t s))) where
+  module _ (s : ℕ) (inside : s < S .slots) (query : T (byStart (txn t s))) where
     abbrev q : ℕ
     q = (txn t s) .start
 

@@ -11,22 +11,22 @@ use Rattle.rules.specs.Tables.{lock, setLock, holds, holdsShared, holdsE
 use Rattle.rules.specs.Versions.{versionsOf, newest, place, choice}
 use Rattle.rules.specs.Good.{Good}
 use Rattle.rules.specs.Tested.{good}
-use Rattle.rules.specs.Answers.{Call, BeginUpdate, BeginQuery, Read, Write, Commit, Abort, Outcome, says, granted, code, refuses, BadTables, Deed}
+use Rattle.rules.specs.Answers.{Call, BeginUpdate, BeginQuery, Read, Write, Commit, Abort, Settle, Outcome, says, granted, code, refuses, BadTables, Deed}
 use Rattle.rules.specs.Step.{step, act, judged, done, begun, queryRead}
 use Rattle.rules.specs.Step.{withLocks, locked, replaced, sharedToo, taken, committed, ended, aborted}
-use Rattle.rules.specs.Changed.{Granted, updateBegins, queryBegins, ownRead, sharedRead, sharedTaken, queryReads, valueReplaced}
-use Rattle.rules.specs.Changed.{sharedExchanged, exclusiveTaken, updateCommits, queryCommits, updateAborts, queryAborts}
+use Rattle.rules.specs.Changed.{Granted, updateBegins, queryBegins, ownRead, sharedRead, sharedTaken, settledOwnRead, startReads, valueReplaced, settledReplaced}
+use Rattle.rules.specs.Changed.{sharedExchanged, exclusiveTaken, updateCommits, settledCommits, queryCommits, updateAborts, settledAborts, updateSettles, queryAborts}
 use Rattle.rules.specs.Promises.{GrantedChanges}
 use Rattle.rules.proofs.Tests.{or-left, or-right, true-is}
 use Rattle.rules.proofs.Equal.{good→Good}
 use Rattle.rules.proofs.Steps.{cond-case}
 use Rattle.rules.proofs.Callers.{Caller, Free}
 use Rattle.rules.proofs.Changes.{setLock-changes, begun-changes, locked-changes, aborted-changes}
-use Rattle.rules.proofs.Changes.{own-unchanged, replace-unchanged}
-use Rattle.rules.proofs.ChangedVersions.{committed-changes, ended-changes}
+use Rattle.rules.proofs.Changes.{own-unchanged, replace-unchanged, past-unchanged, past-replaced, settled-changes}
+use Rattle.rules.proofs.ChangedVersions.{committed-changes, ended-changes, settled-commit-changes, settled-abort-changes}
 use Rattle.rules.proofs.Judged.{way}
-use Rattle.rules.proofs.Ways.{refusal-code, Updater, Way, refused, waited, beganUpdate, beganQuery, readOwn, readNewest, readShared, readQuery}
-use Rattle.rules.proofs.Ways.{wroteOwn, wroteTaken, committedUpdate, committedQuery, abortedUpdate, abortedQuery}
+use Rattle.rules.proofs.Ways.{refusal-code, Updater, Way, refused, waited, beganUpdate, beganQuery, readOwn, readNewest, readShared, readSettled, readByStart}
+use Rattle.rules.proofs.Ways.{wroteOwn, wroteSettled, wroteTaken, committedUpdate, committedSettled, committedQuery, abortedUpdate, abortedSettled, abortedQuery, settledUpdate, keptWaiting}
 
 -- what is shown of an outcome o of the call c
 abbrev Shown : Sizes → Tables → Call → Outcome → Type 0
@@ -56,16 +56,26 @@ module _ (S : Sizes) (enough : S .slots ≤ S .places) (G : Tables) (g : Good S 
       (sharedRead n x s U h)
   way-shown c d (readShared n s x U h f) z =
       sharedTaken n x s U h (locked-changes S G g s (U .caller .inside) x (U .known) (sharedToo (lock (G .locks) x) s))
-  way-shown c d (readQuery n s x C q i) z = queryReads n x s C q i
+  way-shown c d (keptWaiting s C q) z = absurd (omega arith)
+  way-shown c d (readSettled n s x C p i h) z =
+      subst (λ (H : Tables). Granted S G (Read n x) (says granted ((lock (G .locks) x) .working) 0 0 H)) (sym (past-unchanged S G g s (C .inside) p))
+      (settledOwnRead n x s C p i h)
+  way-shown c d (readByStart n s x C q i o b) z = startReads n x s C q i
   way-shown c d (wroteOwn n s x v U h) z =
       subst (λ (H : Tables). Granted S G (Write n x v) (says granted 0 0 0 H))
       (sym (replace-unchanged S G g s (U .caller .inside) x (U .known) v h (U .free)))
       (valueReplaced n x v s U h (setLock-changes S (G .locks) (g .locksExact) x (U .known) (replaced (lock (G .locks) x) v)))
+  way-shown c d (wroteSettled n s x v C p i h) z =
+      subst (λ (H : Tables). Granted S G (Write n x v) (says granted 0 0 0 H)) (sym (past-replaced S G g s (C .inside) p x v))
+      (settledReplaced n x v s C p i h (setLock-changes S (G .locks) (g .locksExact) x i (replaced (lock (G .locks) x) v)))
   way-shown c d (wroteTaken n s x v U h alone room) z = takes n s x v U h
   way-shown c d (committedUpdate n s C u i m) z = updateCommits n s C u (committed-changes S G g enough s (C .inside) u)
+  way-shown c d (committedSettled n s C p) z = settledCommits n s C p (settled-commit-changes S G g enough s (C .inside))
   way-shown c d (committedQuery n s C q) z = queryCommits n s C q (ended-changes S G g enough s (C .inside))
   way-shown c d (abortedUpdate n s C u) z = updateAborts n s C u (aborted-changes S G g s (C .inside))
+  way-shown c d (abortedSettled n s C p) z = settledAborts n s C p (settled-abort-changes S G g enough s (C .inside))
   way-shown c d (abortedQuery n s C q) z = queryAborts n s C q (ended-changes S G g enough s (C .inside))
+  way-shown c d (settledUpdate n s C u i m) z = updateSettles n s C u (settled-changes S G g s (C .inside))
 
 -- a granted call was made on good tables
 pub granted-good : (S : Sizes) (c : Call) (G : Tables) → (step S c G) .answer .code ≡ granted → Good S G

@@ -1,4 +1,4 @@
--- What a query's read is, and that trimming takes no version that a live query reads and leaves no other but the newest.
+-- What a read by a start is, and that trimming takes no version that somebody reads by a start and leaves no other but the newest.
 use Prim.Native.Nat.{ℕ, suc, _+_, _≤_, _<_}
 use mathlib.Core.Path.{_≡_, refl, sym, ap, _∙_, subst}
 use mathlib.Core.Bool.{Bool, true, false, cond}
@@ -9,41 +9,41 @@ use lib.Dec.{T}
 use borrow.Author.Tests.{lt-leb}
 use Rattle.names.specs.declared.Sizes.{Sizes}
 use Rattle.rules.specs.Words.{row}
-use Rattle.rules.specs.Tables.{Tables, versionRow, clock, txn, liveUpdate, liveQuery, starts, lock, holdsExclusive}
+use Rattle.rules.specs.Tables.{Tables, versionRow, clock, txn, liveUpdate, liveSettled, byStart, starts, lock, holdsExclusive}
 use Rattle.rules.specs.Versions.{Version, noVersion, versionsIn, versionsOf, place, choice, keptFrom, kept}
 use Rattle.rules.specs.Good.{Good}
 use Rattle.rules.specs.Tested.{allRead}
-use Rattle.rules.specs.Step.{committed, ended, withNew}
-use Rattle.rules.specs.Promises.{QueryReads, TrimmedTo, EndTrims, CommitTrims, CommitKeeps}
+use Rattle.rules.specs.Step.{committedUnder, committed, settledCommitted, ended, settledAborted, withNew}
+use Rattle.rules.specs.Promises.{StartReads, TrimmedTo, EndTrims, SettledTrims, CommitTrims, CommitKeeps}
 use Rattle.rules.proofs.Choice.{choice-miss}
 use Rattle.rules.proofs.Trim.{kept-first, kept-choice, kept-read, length-kept, reader}
 use Rattle.rules.proofs.Starts.{start-in, in-start}
 use Rattle.rules.proofs.Looked.{looked-good, looked-chosen}
-use Rattle.rules.proofs.Calls.{query-reads}
-use Rattle.rules.proofs.ChangedVersions.{left-starts, ended-versions, committed-room, committed-starts, committed-versions}
+use Rattle.rules.proofs.Calls.{start-reads}
+use Rattle.rules.proofs.ChangedVersions.{left-starts, ended-versions, committed-room, committed-starts, committed-versions, settled-commit-versions, settled-abort-versions}
 
 -- ---- "The value is that of the newest version whose stamp is at most its start. ..": the place that `choice` finds
-pub query-read : (S : Sizes) → QueryReads S
+pub start-read : (S : Sizes) → StartReads S
 unfolding versionsOf choice
-query-read S G n s x g C query known =
+start-read S G n s x g C query known other free =
     let r = row (versionRow S) x (G .versions) in
     let w = looked-chosen S (G .txns) r (g .versionsGood x known) s (C .inside) query in (
       place ((txn (G .txns) s) .start) (versionsIn r),
       record { there = w .0; upTo = w .1; newest = w .2 },
-      query-reads S G g n s C query x known,
+      start-reads S G g n s C query x known other free,
       looked-good S (G .txns) r (g .versionsGood x known) ((txn (G .txns) s) .start),
     )
 
 -- the newest version stays in front
-kept-newest : (qs : List ℕ) (vs : List Version) → getD (kept qs vs) 0 noVersion ≡ getD vs 0 noVersion
+kept-front : (qs : List ℕ) (vs : List Version) → getD (kept qs vs) 0 noVersion ≡ getD vs 0 noVersion
 unfolding kept keptFrom
-kept-newest qs [] = refl
-kept-newest qs (v ∷ vs) = ap (λ (l : List Version). getD l 0 noVersion) (kept-first qs v vs)
+kept-front qs [] = refl
+kept-front qs (v ∷ vs) = ap (λ (l : List Version). getD l 0 noVersion) (kept-first qs v vs)
 
 -- where every version behind the newest is read, it is read by a query that lives
 read-by-one :
     (S : Sizes) (t : List ℕ) (vs : List Version) → T (allRead (starts S t) vs 0 vs)
-    → (k : ℕ) → 0 < k → k < length vs → (r : ℕ) × (r < S .slots) × T (liveQuery (txn t r)) × (place ((txn t r) .start) vs ≡ k)
+    → (k : ℕ) → 0 < k → k < length vs → (r : ℕ) × (r < S .slots) × T (byStart (txn t r)) × (place ((txn t r) .start) vs ≡ k)
 read-by-one S t vs h k pos there =
     let w = reader (starts S t) vs h k pos there in
     let r = in-start S t (w .0) (w .1) in
@@ -60,7 +60,7 @@ module _ (S : Sizes) (enough : S .slots ≤ S .places) (G : Tables) (s : ℕ) (g
       let e = ended-versions S G g enough s inside x known in
       let vs = versionsOf S (G .versions) x in
       record {
-        newest = ap (λ (l : List Version). getD l 0 noVersion) e ∙ kept-newest left vs;
+        newest = ap (λ (l : List Version). getD l 0 noVersion) e ∙ kept-front left vs;
         read = λ r i q. ap (choice ((txn ((ended S s G) .txns) r) .start)) e ∙ kept-choice left vs _ (start-in S ((ended S s G) .txns) r i q);
         noOther = λ k pos there.
             read-by-one S ((ended S s G) .txns) (versionsOf S ((ended S s G) .versions) x)
@@ -89,7 +89,7 @@ module _ (S : Sizes) (enough : S .slots ≤ S .places) (G : Tables) (s : ℕ) (g
     commit-trims x known =
         let e = written x known in
         record {
-          newest = ap (λ (l : List Version). getD l 0 noVersion) e ∙ kept-newest qs (new x);
+          newest = ap (λ (l : List Version). getD l 0 noVersion) e ∙ kept-front qs (new x);
           read = λ r i q. ap (choice ((txn ((committed S s G) .txns) r) .start)) e ∙ kept-choice qs (new x) _ (start-in S ((committed S s G) .txns) r i q);
           noOther = λ k pos there.
               read-by-one S ((committed S s G) .txns) (versionsOf S ((committed S s G) .versions) x)
@@ -101,7 +101,7 @@ module _ (S : Sizes) (enough : S .slots ≤ S .places) (G : Tables) (s : ℕ) (g
 
     -- the new pair is above every start
     unseen :
-        (r : ℕ) → r < S .slots → T (liveQuery (txn (G .txns) r)) → (x : ℕ)
+        (r : ℕ) → r < S .slots → T (byStart (txn (G .txns) r)) → (x : ℕ)
         → choice ((txn (G .txns) r) .start) (new x) ≡ choice ((txn (G .txns) r) .start) (versionsOf S (G .versions) x)
     unfolding withNew
     unseen r i query x = go (holdsExclusive (lock (G .locks) x) s)
@@ -113,17 +113,43 @@ module _ (S : Sizes) (enough : S .slots ≤ S .places) (G : Tables) (s : ℕ) (g
         vs = versionsOf S (G .versions) x
 
         go : (b : Bool) → choice q (cond b (record { stamp = clock (G .txns) + 1; value = (lock (G .locks) x) .working } ∷ vs) vs) ≡ choice q vs
-        go true = choice-miss q _ vs (lt-leb (clock (G .txns) + 1) q (let a = g .txnGood r i .queryStart query in omega arith))
+        go true = choice-miss q _ vs (lt-leb (clock (G .txns) + 1) q (let a = g .txnGood r i .readerStart query in omega arith))
         go false = refl
 
     keeps-choice :
-        (r : ℕ) → r < S .slots → T (liveQuery (txn (G .txns) r)) → (x : ℕ) → x < S .items
+        (r : ℕ) → r < S .slots → T (byStart (txn (G .txns) r)) → (x : ℕ) → x < S .items
         → choice ((txn (G .txns) r) .start) (versionsOf S ((committed S s G) .versions) x)
         ≡ choice ((txn (G .txns) r) .start) (versionsOf S (G .versions) x)
     keeps-choice r i query x known =
         ap (choice ((txn (G .txns) r) .start)) (committed-versions S G g enough s inside update x known)
         ∙ kept-choice (starts S (G .txns)) (new x) ((txn (G .txns) r) .start) (start-in S (G .txns) r i query)
         ∙ unseen r i query x
+
+-- ---- request E6: after the end of one past its writing, w x being the versions of item x before they are trimmed
+module _ (S : Sizes) (enough : S .slots ≤ S .places) (G : Tables) (s : ℕ) (g : Good S G) (inside : s < S .slots) (past : T (liveSettled (txn (G .txns) s))) where
+  settled-trims-to :
+      (H : Tables) (x : ℕ) (vs : List Version) → length (starts S (H .txns)) < S .slots → versionsOf S (H .versions) x ≡ kept (starts S (H .txns)) vs
+      → TrimmedTo S vs H x
+  settled-trims-to H x vs few e =
+      let qs = starts S (H .txns) in
+      record {
+        newest = ap (λ (l : List Version). getD l 0 noVersion) e ∙ kept-front qs vs;
+        read = λ r i q. ap (choice ((txn (H .txns) r) .start)) e ∙ kept-choice qs vs _ (start-in S (H .txns) r i q);
+        noOther = λ k pos there. read-by-one S (H .txns) (versionsOf S (H .versions) x) (subst (λ (vs : List Version). T (allRead qs vs 0 vs)) (sym e) (kept-read qs vs)) k pos there;
+        places = rw e (let b = length-kept qs vs in omega arith);
+      }
+
+  both-trim :
+      (x : ℕ) → x < S .items
+      → TrimmedTo S (withNew (G .locks) s ((txn (G .txns) s) .start) x (versionsOf S (G .versions) x)) (settledCommitted S s G) x
+      × TrimmedTo S (versionsOf S (G .versions) x) (settledAborted S s G) x
+  both-trim x known = (
+    settled-trims-to (settledCommitted S s G) x _ (unfold settledCommitted committedUnder in (left-starts S (G .txns) (g .txnsExact) s inside)) (settled-commit-versions S G g enough s inside x known),
+    settled-trims-to (settledAborted S s G) x _ (unfold settledAborted in (left-starts S (G .txns) (g .txnsExact) s inside)) (settled-abort-versions S G g enough s inside x known),
+  )
+
+pub settled-trims : (S : Sizes) → S .slots ≤ S .places → SettledTrims S
+settled-trims S enough G s g inside past x known = both-trim S enough G s g inside past x known
 
 pub ended-trims : (S : Sizes) → S .slots ≤ S .places → EndTrims S
 ended-trims S enough G s g inside x known = end-trims S enough G s g inside x known

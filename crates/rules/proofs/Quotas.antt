@@ -7,11 +7,12 @@ use mathlib.Core.List.{List}
 use native.Mathlib.Omega.{arith}
 use lib.Dec.{T, eqb, eqb→eq, leb→le, le→leb}
 use Rattle.names.specs.declared.Sizes.{Sizes}
-use Rattle.rules.specs.Tables.{withRank, Tables, Txn, txn, noTxn, live, liveUpdate, exclusiveLock, lock, holds, holdsShared, holdsExclusive, exclusivesOf}
+use Rattle.rules.specs.Tables.{withRank, Tables, Txn, txn, noTxn, live, liveUpdate, liveSettled, mayHold, exclusiveLock, lock, holds, holdsShared, holdsExclusive, exclusivesOf}
 use Rattle.rules.specs.Good.{Good, GoodLock, GoodQuota}
 use Rattle.rules.specs.Tested.{quotaMost, fullIdle, quotaGood}
 use Rattle.rules.specs.Step.{writesFurther}
 use Rattle.rules.proofs.Tests.{and-left, and-right, and-both, or-right, implies-use, implies-make, not-make, not-use, ne-make, ne-use, eq-make, is-true, is-false, true-is, false-is, same?}
+use Rattle.rules.proofs.EqualRows.{update-holds}
 use Rattle.rules.proofs.Counts.{count-fewer, count-one-more, count-none}
 
 -- ---- the test of one slot says what GoodQuota says
@@ -23,18 +24,18 @@ module _ (S : Sizes) (l : List ℕ) (s : ℕ) (r : Txn) where
   unfolding quotaGood quotaMost fullIdle
   quota→Good h =
       record {
-        most = λ u. leb→le n (S .quota) (implies-use (liveUpdate r) _ (and-left (quotaMost S n r) _ h) u);
+        most = λ u. leb→le n (S .quota) (implies-use (mayHold r) _ (and-left (quotaMost S n r) _ h) u);
         fullIdle = λ u e. ne-use (r .awaitedLock) exclusiveLock
-            (implies-use (liveUpdate r && eqb n (S .quota)) _ (and-right (quotaMost S n r) _ h) (and-both (liveUpdate r) _ u (eq-make n (S .quota) e)));
+            (implies-use (mayHold r && eqb n (S .quota)) _ (and-right (quotaMost S n r) _ h) (and-both (mayHold r) _ u (eq-make n (S .quota) e)));
       }
 
   pub Good→quota : GoodQuota S l s r → T (quotaGood S l s r)
   unfolding quotaGood quotaMost fullIdle
   Good→quota q =
       and-both (quotaMost S n r) _
-      (implies-make (liveUpdate r) _ (λ u. le→leb n (S .quota) (q .most u)))
-      (implies-make (liveUpdate r && eqb n (S .quota)) _
-      (λ h. ne-make (r .awaitedLock) exclusiveLock (q .fullIdle (and-left (liveUpdate r) _ h) (eqb→eq n (S .quota) (and-right (liveUpdate r) _ h)))))
+      (implies-make (mayHold r) _ (λ u. le→leb n (S .quota) (q .most u)))
+      (implies-make (mayHold r && eqb n (S .quota)) _
+      (λ h. ne-make (r .awaitedLock) exclusiveLock (q .fullIdle (and-left (mayHold r) _ h) (eqb→eq n (S .quota) (and-right (mayHold r) _ h)))))
 
 -- ---- how many are held
 -- with no lock more, no more are held
@@ -53,19 +54,19 @@ pub exclusives-one-more :
 unfolding exclusivesOf
 exclusives-one-more S l l′ s y f = count-one-more (S .items) _ _ y f
 
--- who is no live update holds none
+-- who may not hold one holds none
 pub exclusives-none :
     (S : Sizes) (t l : List ℕ) → ((x : ℕ) → x < S .items → GoodLock S t (lock l x))
-    → (s : ℕ) → (T (liveUpdate (txn t s)) → ⊥) → exclusivesOf S l s ≡ 0
-unfolding exclusivesOf holds
+    → (s : ℕ) → (T (mayHold (txn t s)) → ⊥) → exclusivesOf S l s ≡ 0
+unfolding exclusivesOf
 exclusives-none S t l g s d =
     count-none (S .items) _
-    (λ x i h. d (g x i .holders s (or-right (holdsShared (lock l x) s) _ h) .1))
+    (λ x i h. d (g x i .excluders s h .1))
 
 -- ---- the clauses carried to other tables
 -- a free row
 pub free-quota : (S : Sizes) (l : List ℕ) (s : ℕ) → GoodQuota S l s noTxn
-unfolding liveUpdate live
+unfolding liveUpdate liveSettled mayHold live
 free-quota S l s = record { most = λ u. absurd u; fullIdle = λ u. absurd u }
 
 -- the same row, with no more held
@@ -91,7 +92,7 @@ quotas-but S l t t′ s there new old r i = go (same? r s)
 pub quotas-but-rank :
     (S : Sizes) (l t t′ : List ℕ) (s : ℕ) (f : Txn → ℕ) → ((r : ℕ) → r < S .slots → r ≢ s → txn t′ r ≡ withRank (txn t r) (f (txn t r)))
     → GoodQuota S l s (txn t′ s) → ((r : ℕ) → r < S .slots → GoodQuota S l r (txn t r)) → (r : ℕ) → r < S .slots → GoodQuota S l r (txn t′ r)
-unfolding liveUpdate live
+unfolding liveUpdate liveSettled mayHold live
 quotas-but-rank S l t t′ s f there new old r i = go (same? r s)
   where
     go : (r ≡ s) ⊎ (r ≢ s) → GoodQuota S l r (txn t′ r)
@@ -128,4 +129,4 @@ pub awaited-not-further :
 unfolding writesFurther
 awaited-not-further S G g s x i u a =
     is-false (writesFurther S (G .locks) s x)
-    (λ w. g .quotaGood s i .fullIdle u (eqb→eq (exclusivesOf S (G .locks) s) (S .quota) (and-left (eqb (exclusivesOf S (G .locks) s) (S .quota)) _ w)) a)
+    (λ w. g .quotaGood s i .fullIdle (update-holds _ u) (eqb→eq (exclusivesOf S (G .locks) s) (S .quota) (and-left (eqb (exclusivesOf S (G .locks) s) (S .quota)) _ w)) a)

@@ -1,6 +1,6 @@
 -- A table of versions whose rows are all rewritten and trimmed: its size, its rows, its versions.
 use Prim.Native.Nat.{ℕ, _*_, _≤_, _<_}
-use mathlib.Core.Path.{_≡_, ap, _∙_}
+use mathlib.Core.Path.{_≡_, sym, ap, _∙_, subst}
 use mathlib.Core.List.{List}
 use native.Mathlib.Omega.{arith}
 use native.Mathlib.Nat.{zero-add}
@@ -9,7 +9,7 @@ use Rattle.names.specs.declared.Sizes.{Sizes}
 use Rattle.rules.specs.Words.{row}
 use Rattle.rules.specs.Tables.{versionRow, versionWords}
 use Rattle.rules.specs.Versions.{Version, versionsIn, versionsOf, rowOf, kept, rewritten}
-use Rattle.rules.proofs.Rows.{length-mapRows, row-mapRows}
+use Rattle.rules.proofs.Rows.{length-mapRows, row-mapRows, rows-mapped}
 use Rattle.rules.proofs.Choice.{length-rowOf, versionsIn-rowOf}
 use Rattle.rules.proofs.Trim.{length-kept}
 
@@ -42,3 +42,18 @@ module _
     unfolding versionsOf
     versions-rewritten x h =
         ap versionsIn (row-rewritten x h) ∙ versionsIn-rowOf S (kept qs (f x (versionsIn (row (versionRow S) x v))))
+
+-- rewritten once more with the same starts, where what was kept first makes no difference
+pub rewritten-twice :
+    (S : Sizes) (qs : List ℕ) (f : ℕ → List Version → List Version) (v : List ℕ) → length qs < S .places → length v ≡ versionWords S
+    → ((x : ℕ) → x < S .items → kept qs (f x (kept qs (versionsOf S v x))) ≡ kept qs (f x (versionsOf S v x)))
+    → rewritten S qs f (rewritten S qs (λ x vs. vs) v) ≡ rewritten S qs f v
+unfolding rewritten versionsOf
+rewritten-twice S qs f v room exact same =
+    rows-mapped (versionRow S) (new S qs f v room exact) (new S qs f v room exact) (S .items) 0 (rewritten S qs (λ x vs. vs) v) v
+    (length-rewritten S qs (λ x vs. vs) v room exact)
+    exact
+    (λ k h.
+    subst (λ (y : ℕ). new S qs f v room exact y (row (versionRow S) k (rewritten S qs (λ x vs. vs) v)) ≡ new S qs f v room exact y (row (versionRow S) k v)) (sym (zero-add k))
+    (ap (λ (vs : List Version). rowOf S (kept qs (f k vs))) (versions-rewritten S qs (λ x vs. vs) v room exact k h)
+    ∙ ap (rowOf S) (same k h)))

@@ -1,8 +1,8 @@
 -- Rows of a table: a test of every row says what it says, and a table whose rows are replaced has the new rows.
 use Prim.Native.Nat.{ℕ, zero, suc, _+_, _*_, _≤_, _<_}
-use mathlib.Core.Path.{_≡_, refl, sym, ap, _∙_}
+use mathlib.Core.Path.{_≡_, refl, sym, ap, ap₂, _∙_}
 use mathlib.Core.Bool.{Bool}
-use mathlib.Core.List.{List, _++_}
+use mathlib.Core.List.{List, [], _∷_, _++_}
 use native.Mathlib.Omega.{arith}
 use native.Mathlib.Nat.{add-zero, add-suc, suc-add, le-of-suc-le-suc, not-suc-le-zero, mul-zero}
 use lib.ListN.{length, getD, take, drop, length-append, length-drop}
@@ -63,6 +63,22 @@ module _ (w : ℕ) (f : ℕ → List ℕ → List ℕ) (keeps : (i : ℕ) (r : L
       ∙ ap (row w k) (drop-at (f i (take w l)) (mapRows n w f (suc i) (drop w l)) w e)
       ∙ row-mapRows n (suc i) (drop w l) (rw length-drop (omega arith)) k (le-of-suc-le-suc b)
       ∙ rw (add-suc, ← suc-add, row-next)
+
+-- two tables whose rows become the same rows become the same table
+no-words : (l : List ℕ) → length l ≡ 0 → l ≡ []
+no-words [] e = refl
+no-words (a ∷ l) e = absurd (omega arith)
+
+pub rows-mapped :
+    (w : ℕ) (f g : ℕ → List ℕ → List ℕ) (n i : ℕ) (l m : List ℕ) → length l ≡ w * n → length m ≡ w * n
+    → ((k : ℕ) → k < n → f (i + k) (row w k l) ≡ g (i + k) (row w k m)) → mapRows n w f i l ≡ mapRows n w g i m
+unfolding mapRows
+rows-mapped w f g zero i l m a b h = no-words l (omega arith) ∙ sym (no-words m (omega arith))
+rows-mapped w f g (suc n) i l m a b h =
+    ap₂ _++_
+    (rw (add-zero, row-first w l, row-first w m) at (h 0 (omega arith)))
+    (rows-mapped w f g n (suc i) (drop w l) (drop w m) (rw length-drop (omega arith)) (rw length-drop (omega arith))
+    (λ k c. rw (suc-add, row-next w k l, row-next w k m) (rw add-suc at (h (suc k) (omega arith)))))
 
 -- a word of a row is a word of the table
 pub row-word : (w x j : ℕ) (l : List ℕ) → j < w → getD (row w x l) j 0 ≡ getD l (w * x + j) 0

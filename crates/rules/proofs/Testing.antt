@@ -2,7 +2,7 @@
 -- deed which way it is and that its code is that of the first refusal in a list whose condition holds.
 use Prim.Native.Nat.{ℕ, _<_}
 use mathlib.Core.Path.{_≡_, refl, sym, subst}
-use mathlib.Core.Logic.{_≢_, inl, inr, _↔_}
+use mathlib.Core.Logic.{_≢_, _⊎_, inl, inr, ⊎-elim, _↔_}
 use mathlib.Core.Bool.{Bool, true, false, _&&_, not, cond}
 use mathlib.Core.List.{List, [], _∷_}
 use native.Mathlib.Omega.{arith}
@@ -10,22 +10,23 @@ use lib.Dec.{T, eqb, leb, eqb→eq}
 use borrow.Author.Tests.{eqb-true, eqb-false, leb-true, leb-false}
 use Rattle.names.specs.declared.Sizes.{Sizes}
 use Rattle.names.specs.Sizes.{lastWord}
-use Rattle.rules.specs.Tables.{Tables, lastNumber, txn, noLock, exclusiveLock}
-use Rattle.rules.specs.Tables.{liveUpdate, liveQuery, lock, holdsExclusive, exclusivesOf, slotOf, freeSlot}
+use Rattle.rules.specs.Tables.{Tables, lastNumber, txn, aSettled, noLock, exclusiveLock}
+use Rattle.rules.specs.Tables.{liveUpdate, liveQuery, liveSettled, byStart, lock, holdsExclusive, exclusivesOf, slotOf, freeSlot}
 use Rattle.rules.specs.Waits.{rankFor, blocks, noted, circleAt}
 use Rattle.rules.specs.Good.{Good}
 use Rattle.rules.specs.Locks.{Asked, wanted}
 use Rattle.rules.specs.Answers.{Call, granted, code, Refusal, asSlot, asItem, asStamp}
 use Rattle.rules.specs.Answers.{Wait, Deadlock, UnknownTransaction, UnknownItem, StillWaiting}
-use Rattle.rules.specs.Answers.{NoSlot, NumbersSpent, ClockSpent, QuotaSpent, Deed, Refused, Begins, Waits}
-use Rattle.rules.specs.Step.{done, beginBy, conflicted, awaitsOther, writesFurther}
-use Rattle.rules.specs.Conditions.{Names, Wants, CallerIn, NeedsLock, ConflictIn, Circle, When, Answered}
-use Rattle.rules.proofs.Tests.{and-left, and-right, and-both, true-is, false-is, not-make, not-use, ne-make, ne-use, eq-make}
+use Rattle.rules.specs.Answers.{NoSlot, NumbersSpent, ClockSpent, QuotaSpent, PastWriting, Deed, Refused, Begins, Waits}
+use Rattle.rules.specs.Step.{done, beginBy, conflicted, awaitsOther, writesPast, writesFurther}
+use Rattle.rules.specs.Conditions.{Names, Wants, IsSettle, CallerIn, NeedsLock, ConflictIn, HeldBackIn, Circle, When, Answered}
+use Rattle.rules.proofs.Tests.{and-left, and-right, and-both, is-true, true-is, false-is, not-make, not-use, ne-make, ne-use, eq-make}
 use Rattle.rules.proofs.Quotas.{has-room, further→}
+use Rattle.rules.proofs.EqualRows.{update-live, settled-live, reader-live}
 use Rattle.rules.proofs.Deadlock.{circle-is}
-use Rattle.rules.proofs.Callers.{caller-is, caller-none, caller-found, Free, free-found, free-none, query-not-update}
+use Rattle.rules.proofs.Callers.{caller-is, caller-none, caller-found, Free, free-found, free-none, is-settled, settled-kind}
 use Rattle.rules.proofs.Decisions.{blockedFor, blocked-other, wanted-lock}
-use Rattle.rules.proofs.Ways.{Mere, Way, refused}
+use Rattle.rules.proofs.Ways.{Mere, Way, refused, keptWaiting}
 
 module _ (S : Sizes) (c : Call) (G : Tables) where
   -- the code of the deed is that of the first of these whose condition holds
@@ -67,13 +68,22 @@ module _ (S : Sizes) (c : Call) (G : Tables) where
       (λ f w. eqb-false (lastNumber (G .txns)) lastWord f w)
       (λ f. grants _ (w (freeSlot S (G .txns)) (free-found S (G .txns) e) (eqb-false (lastNumber (G .txns)) lastWord f)) refl))
 
-  -- where there is no conflict, the call is granted
+  -- where there is no conflict and nobody is held back, the call is granted
   pub unblocked :
-      (d : Deed) → ((r j y : ℕ) → ConflictIn c S G r j y → ⊥) → Way S G c d → (done S d G) .answer .code ≡ granted → Goes (Deadlock ∷ Wait ∷ []) d
+      (d : Deed) → ((r j y : ℕ) → ConflictIn c S G r j y → ⊥) → ((r y : ℕ) → HeldBackIn c S G r y → ⊥) → Way S G c d
+      → (done S d G) .answer .code ≡ granted → Goes (Deadlock ∷ Wait ∷ []) d
   unfolding When
-  unblocked d f w e =
+  unblocked d f h w e =
       skips Deadlock (Wait ∷ []) d (λ w. f (w .0) (w .1) (w .2) (w .3))
-      (skips Wait [] d (λ w. f (w .0) (w .1) (w .2) (w .3)) (grants d w e))
+      (skips Wait [] d (⊎-elim (λ w. f (w .0) (w .1) (w .2) (w .3)) (λ w. h (w .0) (w .1) (w .2))) (grants d w e))
+
+  -- where a reader is held back, it waits
+  pub held-back :
+      (s x : ℕ) → ((r j y : ℕ) → ConflictIn c S G r j y → ⊥) → HeldBackIn c S G s x → Goes (Deadlock ∷ Wait ∷ []) (Refused Wait)
+  unfolding When Answered done
+  held-back s x f K =
+      skips Deadlock (Wait ∷ []) (Refused Wait) (λ w. f (w .0) (w .1) (w .2) (w .3))
+      (keptWaiting s (K .caller) (K .reader), inl (inr (s, x, K), refl))
 
 -- ---- the calls that name a transaction: c names n and no other
 module _ (S : Sizes) (G : Tables) (g : Good S G) (c : Call) (n : ℕ) (says-n : Names c n) (only-n : (m : ℕ) → Names c m → m ≡ n) where
@@ -101,9 +111,11 @@ module _ (S : Sizes) (G : Tables) (g : Good S G) (c : Call) (n : ℕ) (says-n : 
   pub at-caller : (P : ℕ → Type 0) (r : ℕ) → CallerIn c S G r → P r → P s
   at-caller P r C h = subst P (sym (there r C)) h
 
-  pub no-clock : T (liveQuery (txn (G .txns) s)) → When S c G ClockSpent → ⊥
+  pub no-clock : T (byStart (txn (G .txns) s)) → When S c G ClockSpent → ⊥
   unfolding When
-  no-clock q w = query-not-update (G .txns) s q (at-caller (λ (r : ℕ). T (liveUpdate (txn (G .txns) r))) (w .0) (w .1) (w .2))
+  no-clock q w =
+      reader-live (txn (G .txns) s) q .1
+      (update-live (txn (G .txns) s) (at-caller (λ (r : ℕ). T (liveUpdate (txn (G .txns) r))) (w .0) (w .1) (w .2)) .1)
 
   -- ---- read and write: c asks for a lock on x and no other
   module _ (a : Asked) (x : ℕ) (asks : Wants c (wanted a) x) (only-asks : (k y : ℕ) → Wants c k y → (k ≡ wanted a) × (y ≡ x)) where
@@ -152,15 +164,45 @@ module _ (S : Sizes) (G : Tables) (g : Good S G) (c : Call) (n : ℕ) (says-n : 
             let m = at-caller (λ (r : ℕ). Wants c ((txn (G .txns) r) .awaitedLock) ((txn (G .txns) r) .awaitedItem) → ⊥) (w .0) (w .1) (w .3) in
             false-is e (and-both (not (eqb k noLock)) (not same) (ne-make k noLock d) (not-make same (λ t. m (again t))))
 
+    -- a write past the writing, of what is not held
+    pub past-tests :
+        (rs : List Refusal) (d : Deed) → wanted a ≡ exclusiveLock → CallerIn c S G s → (IsSettle c → ⊥)
+        → (writesPast (G .txns) (G .locks) s x ≡ false → Goes S c G rs d)
+        → Goes S c G (PastWriting ∷ rs) (cond (writesPast (G .txns) (G .locks) s x) (Refused PastWriting) d)
+    unfolding When writesPast
+    past-tests rs d w C no-settle h =
+        tests S c G PastWriting rs (writesPast (G .txns) (G .locks) s x) d (λ z. omega arith, λ z. omega arith)
+        (λ e. (
+          s,
+          C,
+          is-settled (G .txns) s (C .alive) (is-true _ (and-left (eqb ((txn (G .txns) s) .kind) aSettled) _ (true-is e))),
+          inl (x, subst (λ (k : ℕ). Wants c k x) w asks, not-use (holdsExclusive (lock (G .locks) x) s) (and-right (eqb ((txn (G .txns) s) .kind) aSettled) _ (true-is e))),
+        ))
+        (λ e m. no e (m .0) (m .1) (m .2) (m .3))
+        h
+      where
+        no :
+            writesPast (G .txns) (G .locks) s x ≡ false → (r : ℕ) → CallerIn c S G r → T (liveSettled (txn (G .txns) r))
+            → ((y : ℕ) × Wants c exclusiveLock y × (T (holdsExclusive (lock (G .locks) y) r) → ⊥)) ⊎ IsSettle c → ⊥
+        no e r D p (inr z) = no-settle z
+        no e r D p (inl (y, m, n)) =
+            false-is e
+            (and-both (eqb ((txn (G .txns) s) .kind) aSettled) _
+            (eq-make _ aSettled (settled-kind (G .txns) s (at-caller (λ (i : ℕ). T (liveSettled (txn (G .txns) i))) r D p)))
+            (not-make (holdsExclusive (lock (G .locks) x) s)
+            (subst (λ (z : ℕ). T (holdsExclusive (lock (G .locks) z) s) → ⊥) (only-asks exclusiveLock y m .1)
+            (at-caller (λ (i : ℕ). T (holdsExclusive (lock (G .locks) y) i) → ⊥) r D n))))
+
     -- an update's write of a further item
     pub quota-tests :
-        (rs : List Refusal) (d : Deed) → wanted a ≡ exclusiveLock → CallerIn c S G s → T (liveUpdate (txn (G .txns) s))
+        (rs : List Refusal) (d : Deed) → wanted a ≡ exclusiveLock → CallerIn c S G s
+        → ((T (holdsExclusive (lock (G .locks) x) s) → ⊥) → T (liveUpdate (txn (G .txns) s)))
         → (writesFurther S (G .locks) s x ≡ false → Goes S c G rs d)
         → Goes S c G (QuotaSpent ∷ rs) (cond (writesFurther S (G .locks) s x) (Refused QuotaSpent) d)
     unfolding When
     quota-tests rs d w C up h =
         tests S c G QuotaSpent rs (writesFurther S (G .locks) s x) d (λ z. omega arith, λ z. omega arith)
-        (λ e. let f = further→ S (G .locks) s x e in (s, x, C, up, subst (λ (k : ℕ). Wants c k x) w asks, f .0, f .1))
+        (λ e. let f = further→ S (G .locks) s x e in (s, x, C, up (f .1), subst (λ (k : ℕ). Wants c k x) w asks, f .0, f .1))
         (λ e m. no e (m .0) (m .1) (m .2) (m .4) (m .5) (m .6))
         h
       where
@@ -201,7 +243,13 @@ module _ (S : Sizes) (G : Tables) (g : Good S G) (c : Call) (n : ℕ) (says-n : 
       pub free :
           (d : Deed) → (NeedsLock (lock (G .locks) x) (wanted a) s → T (blockedFor S (G .txns) (G .locks) (wanted a) x s) → ⊥)
           → Way S G c d → (done S d G) .answer .code ≡ granted → Goes S c G (Deadlock ∷ Wait ∷ []) d
-      free d b w e = unblocked S c G d (λ r k y K. let m = conflict-here r k y K in b (m .0) (m .1)) w e
+      free d b w e =
+          unblocked S c G d (λ r k y K. let m = conflict-here r k y K in b (m .0) (m .1))
+          (λ r y K. writer-here r (K .caller) (K .reader)) w e
+        where
+          -- an update that writes reads by no start
+          writer-here : (r : ℕ) → CallerIn c S G r → T (byStart (txn (G .txns) r)) → ⊥
+          writer-here r D h = reader-live (txn (G .txns) s) (at-caller (λ (i : ℕ). T (byStart (txn (G .txns) i))) r D h) .1 (update-live (txn (G .txns) s) up .1)
 
       pub conflicting :
           NeedsLock (lock (G .locks) x) (wanted a) s → T (blockedFor S (G .txns) (G .locks) (wanted a) x s)
@@ -212,7 +260,7 @@ module _ (S : Sizes) (G : Tables) (g : Good S G) (c : Call) (n : ℕ) (says-n : 
           tests S c G Deadlock (Wait ∷ []) (circleAt S (noted S (G .txns) (G .locks) s (wanted a) x) (G .locks) s) _ (λ z. omega arith, λ z. omega arith)
           (λ e. (s, wanted a, x, K, I .0 (true-is e)))
           (λ e w. false-is e (I .1 (circle-here (w .0) (w .1) (w .2) (w .3) (w .4))))
-          (λ e. (w (λ z. false-is e (I .1 z)), inl ((s, wanted a, x, K, λ w. false-is e (I .1 w)), refl)))
+          (λ e. (w (λ z. false-is e (I .1 z)), inl (inl (s, wanted a, x, K, λ w. false-is e (I .1 w)), refl)))
         where
           I : T (circleAt S (noted S (G .txns) (G .locks) s (wanted a) x) (G .locks) s) ↔ Circle S G s (wanted a) x
           I = circle-is S G g s (wanted a) x (C .inside) known (wanted-lock a)

@@ -24,6 +24,12 @@ pub kept-first : (qs : List ℕ) (v : Version) (vs : List Version) → kept qs (
 unfolding kept keptFrom
 kept-first qs v vs = refl
 
+-- the newest stays the newest
+pub kept-newest : (qs : List ℕ) (vs : List Version) → stampAt (kept qs vs) 0 ≡ stampAt vs 0
+unfolding kept keptFrom stampAt
+kept-newest qs [] = refl
+kept-newest qs (v ∷ vs) = ap (λ (ws : List Version). stampAt ws 0) (kept-first qs v vs)
+
 -- ---- what allRead says of each place
 pub allRead→ :
     (qs : List ℕ) (vs : List Version) (k : ℕ) (rest : List Version) → T (allRead qs vs k rest)

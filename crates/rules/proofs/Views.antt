@@ -15,7 +15,7 @@ use Rattle.names.specs.declared.Sizes.{Sizes}
 use Rattle.names.specs.Layout.{txnHead, txnNumberAt, txnKindAt, txnStartAt, txnLockAt, txnItemAt, txnRankAt, txnRow}
 use Rattle.rules.specs.Words.{row}
 use Rattle.rules.specs.Tables.{behind, wordsFrom, putFrom, Txn, txnIn, txnWordsOf, txn, setTxn, noTxn, newTxn, txnAt, txnWords, lastNumber, clock, setAwaited, withRank, reranked}
-use Rattle.rules.specs.Tables.{Lock, lock, setLock, lockRow, lockWords, lockIn, lockWordsOf, released, release}
+use Rattle.rules.specs.Tables.{Lock, lock, setLock, lockRow, lockWords, lockIn, lockWordsOf, released, release, unshared, unshare}
 use Rattle.rules.specs.Changed.{NoRank}
 use Rattle.rules.proofs.Rows.{row-word, row-mapRows, length-mapRows}
 
@@ -263,3 +263,16 @@ pub length-release : (S : Sizes) (s : ℕ) (l : List ℕ) → length l ≡ lockW
 unfolding release
 length-release S s l e =
     length-mapRows lockRow (λ x r. lockWordsOf (released s (lockIn r))) (λ x r k. refl) (S .items) 0 l (omega arith) ∙ e
+
+-- request E6: the locks without the shared bits of slot s
+pub lock-unshare : (S : Sizes) (s : ℕ) (l : List ℕ) → length l ≡ lockWords S → (x : ℕ) → x < S .items → lock (unshare S s l) x ≡ unshared s (lock l x)
+unfolding unshare
+lock-unshare S s l e x h =
+    sym (lock-row (unshare S s l) x)
+    ∙ ap lockIn (row-mapRows lockRow (λ x r. lockWordsOf (unshared s (lockIn r))) (λ i r k. refl) (S .items) 0 l (omega arith) x h)
+    ∙ ap (unshared s) (lock-row l x)
+
+pub length-unshare : (S : Sizes) (s : ℕ) (l : List ℕ) → length l ≡ lockWords S → length (unshare S s l) ≡ lockWords S
+unfolding unshare
+length-unshare S s l e =
+    length-mapRows lockRow (λ x r. lockWordsOf (unshared s (lockIn r))) (λ x r k. refl) (S .items) 0 l (omega arith) ∙ e

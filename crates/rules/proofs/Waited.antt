@@ -9,7 +9,7 @@ use lib.ListN.{length}
 use lib.Dec.{T, eqb, eqb→eq}
 use borrow.Author.Tests.{eq-eqb}
 use Rattle.names.specs.declared.Sizes.{Sizes}
-use Rattle.rules.specs.Tables.{Tables, txnWords, lastNumber, clock, Txn, txn, setTxn, withRank, live, liveUpdate, liveQuery}
+use Rattle.rules.specs.Tables.{Tables, txnWords, lastNumber, clock, Txn, txn, setTxn, withRank, live, liveUpdate, liveSettled, mayHold}
 use Rattle.rules.specs.Tables.{noLock, sharedLock, exclusiveLock, Lock, lock, holds, holdsShared, holdsExclusive, exclusivesOf}
 use Rattle.rules.specs.Waits.{awaits, awaitsOn, waitersOn, exchangersOn, rankFor, raised, noted, closedUp, conflicts, waitsFor, Walk, one, more}
 use Rattle.rules.specs.Good.{Good, GoodTxn, GoodQuota, GoodRanks}
@@ -198,6 +198,14 @@ module _ (S : Sizes) (t : List ℕ) (size : length t ≡ txnWords S) (s : ℕ) (
       go : (r ≡ s) ⊎ (r ≢ s) → liveUpdate (txn (cleared S t s) r) ≡ liveUpdate (txn t r)
       go (inl e) = ap (λ (m : ℕ). liveUpdate (txn (cleared S t s) m)) e ∙ ap liveUpdate cleared-here ∙ ap (λ (m : ℕ). liveUpdate (txn t m)) (sym e)
       go (inr d) = ap liveUpdate (cleared-there r i d)
+
+  pub cleared-holder : (r : ℕ) → r < S .slots → mayHold (txn (cleared S t s) r) ≡ mayHold (txn t r)
+  unfolding mayHold liveUpdate liveSettled live
+  cleared-holder r i = go (same? r s)
+    where
+      go : (r ≡ s) ⊎ (r ≢ s) → mayHold (txn (cleared S t s) r) ≡ mayHold (txn t r)
+      go (inl e) = ap (λ (m : ℕ). mayHold (txn (cleared S t s) m)) e ∙ ap mayHold cleared-here ∙ ap (λ (m : ℕ). mayHold (txn t m)) (sym e)
+      go (inr d) = ap mayHold (cleared-there r i d)
 
   pub cleared-idle : T (awaits (txn (cleared S t s) s)) → ⊥
   cleared-idle h = awaits→ (txn (cleared S t s) s) h (ap (λ (w : Txn). w .awaitedLock) cleared-here)

@@ -9,16 +9,17 @@ use lib.Dec.{T}
 use lib.ListN.{set}
 use Rattle.names.specs.declared.Sizes.{Sizes}
 use Rattle.names.specs.Layout.{txnHead, lastNumberAt, clockAt}
-use Rattle.rules.specs.Tables.{Tables, Txn, txn, setTxn, withRank, noTxn, live, liveQuery, noLock}
+use Rattle.rules.specs.Tables.{Tables, Txn, txn, setTxn, withRank, noTxn, live, byStart, noLock}
 use Rattle.rules.specs.Waits.{awaitsOn, noted, closedUp}
 use Rattle.rules.specs.Good.{Good}
-use Rattle.rules.specs.Answers.{Outcome, Call, BeginUpdate, BeginQuery, Read, Write, Commit, Abort, Deed, granted, code, Refusal}
-use Rattle.rules.specs.Answers.{Wait, Deadlock, UnknownTransaction, UnknownItem, QueryMayNotWrite, StillWaiting, NoSlot, NumbersSpent, ClockSpent, BadTables, QuotaSpent}
-use Rattle.rules.specs.Step.{act, judged, done, begun, cleared, locked, committed, ended, aborted, awaitsOther, queryRead, withTxns}
+use Rattle.rules.specs.Answers.{Outcome, Call, BeginUpdate, BeginQuery, Read, Write, Commit, Abort, Settle, Deed, granted, code, Refusal}
+use Rattle.rules.specs.Answers.{Wait, Deadlock, UnknownTransaction, UnknownItem, QueryMayNotWrite, StillWaiting, NoSlot, NumbersSpent, ClockSpent, BadTables, QuotaSpent, PastWriting}
+use Rattle.rules.specs.Step.{act, step, judged, done, begun, cleared, locked, committedUnder, committed, settledCommitted, ended, aborted, settledAborted, settled, awaitsOther, queryRead, withTxns}
 use Rattle.rules.specs.Conditions.{Caller, Free, Updater, CallerIn, ConflictIn, Names, Wants, Circle, When, order, Answered}
 use Rattle.rules.specs.Promises.{codeOf, after, SameButRank, StaysWaiting, OthersLeave, RepeatedWaits}
 use Rattle.rules.proofs.Tests.{false-is, true-is, ne-make, same?}
 use Rattle.rules.proofs.Views.{txn-setTxn-other, txn-top}
+use Rattle.rules.proofs.EqualRows.{query-reads, settled-reads}
 use Rattle.rules.proofs.EqualRanks.{→awaits, awaitsOn→, →awaitsOn}
 use Rattle.rules.proofs.Noting.{noted-known, noted-there, closed-row}
 use Rattle.rules.proofs.Waited.{only-this, cleared-there}
@@ -26,9 +27,9 @@ use Rattle.rules.proofs.Steps.{acts}
 use Rattle.rules.proofs.Callers.{caller-found}
 use Rattle.rules.proofs.Deadlock.{repeated}
 use Rattle.rules.proofs.Judged.{way}
-use Rattle.rules.proofs.Ways.{Way, refused, waited, beganUpdate, beganQuery, readOwn, readNewest, readShared, readQuery}
-use Rattle.rules.proofs.Ways.{wroteOwn, wroteTaken, committedUpdate, committedQuery, abortedUpdate, abortedQuery}
-use Rattle.rules.proofs.Refused.{wait-is}
+use Rattle.rules.proofs.Ways.{Way, refused, waited, beganUpdate, beganQuery, readOwn, readNewest, readShared, readSettled, readByStart}
+use Rattle.rules.proofs.Ways.{wroteOwn, wroteSettled, wroteTaken, committedUpdate, committedSettled, committedQuery, abortedUpdate, abortedSettled, abortedQuery, settledUpdate, keptWaiting}
+use Rattle.rules.proofs.Refused.{NotedDown, HeldSilently, wait-is}
 use Rattle.rules.proofs.Answered.{answered}
 
 -- ---- a call names one transaction at most, and wants one lock
@@ -39,6 +40,7 @@ named? (Read n x) m = same? n m
 named? (Write n x v) m = same? n m
 named? (Commit n) m = same? n m
 named? (Abort n) m = same? n m
+named? (Settle n) m = same? n m
 
 one-name : (c : Call) (m n : ℕ) → Names c m → Names c n → m ≡ n
 one-name BeginUpdate m n a b = absurd a
@@ -47,6 +49,7 @@ one-name (Read i x) m n a b = sym a ∙ b
 one-name (Write i x v) m n a b = sym a ∙ b
 one-name (Commit i) m n a b = sym a ∙ b
 one-name (Abort i) m n a b = sym a ∙ b
+one-name (Settle i) m n a b = sym a ∙ b
 
 pub one-want : (c : Call) (j k x y : ℕ) → Wants c j x → Wants c k y → (j ≡ k) × (x ≡ y)
 one-want BeginUpdate j k x y a b = absurd a
@@ -55,6 +58,7 @@ one-want (Read i z) j k x y a b = (a .0 ∙ sym (b .0), sym (a .1) ∙ b .1)
 one-want (Write i z v) j k x y a b = (a .0 ∙ sym (b .0), sym (a .1) ∙ b .1)
 one-want (Commit i) j k x y a b = absurd a
 one-want (Abort i) j k x y a b = absurd a
+one-want (Settle i) j k x y a b = absurd a
 
 -- and has one caller
 pub one-caller : (S : Sizes) (G : Tables) → Good S G → (c : Call) (r s : ℕ) → CallerIn c S G r → CallerIn c S G s → r ≡ s
@@ -113,7 +117,7 @@ module _ (S : Sizes) (G : Tables) (g : Good S G) (s : ℕ) (inside : s < S .slot
     named c o n r h C = apart c o r (subst (Names c) (sym (C .name)) h)
 
     other-row : (c : Call) (d : Deed) → Way S G c d → (Names c (R .number) → ⊥) → Same d
-    unfolding done queryRead begun locked committed ended aborted
+    unfolding done queryRead begun locked committedUnder committed settledCommitted ended aborted settledAborted settled
     other-row c d (refused r m) o = same-row refl
     other-row c d (waited r k x w) o = noted-other r (apart c o r (w .caller .named)) (w .caller .inside) k x
     other-row c d (beganUpdate r F l) o = left-other r (new r F) lastNumberAt _ (omega arith) _
@@ -121,13 +125,19 @@ module _ (S : Sizes) (G : Tables) (g : Good S G) (s : ℕ) (inside : s < S .slot
     other-row c d (readOwn n r x U h) o = cleared-other r (named c o n r refl (U .caller)) (U .caller .inside)
     other-row c d (readNewest n r x U h) o = cleared-other r (named c o n r refl (U .caller)) (U .caller .inside)
     other-row c d (readShared n r x U h f) o = cleared-other r (named c o n r refl (U .caller)) (U .caller .inside)
-    other-row c d (readQuery n r x C q i) o = same-row refl
+    other-row c d (keptWaiting r C q) o = same-row refl
+    other-row c d (readSettled n r x C p i h) o = cleared-other r (named c o n r refl C) (C .inside)
+    other-row c d (readByStart n r x C q i b e) o = same-row refl
     other-row c d (wroteOwn n r x v U h) o = cleared-other r (named c o n r refl (U .caller)) (U .caller .inside)
+    other-row c d (wroteSettled n r x v C p i h) o = cleared-other r (named c o n r refl C) (C .inside)
     other-row c d (wroteTaken n r x v U h f m) o = cleared-other r (named c o n r refl (U .caller)) (U .caller .inside)
     other-row c d (committedUpdate n r C u i l) o = left-other r (named c o n r refl C) clockAt _ (omega arith) noTxn
+    other-row c d (committedSettled n r C p) o = gone-other r (named c o n r refl C) noTxn
     other-row c d (committedQuery n r C q) o = gone-other r (named c o n r refl C) noTxn
     other-row c d (abortedUpdate n r C u) o = aborted-other r (named c o n r refl C) noTxn
+    other-row c d (abortedSettled n r C p) o = gone-other r (named c o n r refl C) noTxn
     other-row c d (abortedQuery n r C q) o = gone-other r (named c o n r refl C) noTxn
+    other-row c d (settledUpdate n r C u i l) o = left-other r (named c o n r refl C) clockAt _ (omega arith) _
 
   -- ---- its own calls, while it awaits
   module _ (awaits′ : R .awaitedLock ≢ noLock) where
@@ -155,8 +165,8 @@ module _ (S : Sizes) (G : Tables) (g : Good S G) (s : ℕ) (inside : s < S .slot
       busy : Caller S G n r → (txn t r) .awaitedLock ≡ noLock → ⊥
       busy C i = awaits′ (subst (λ (m : ℕ). (txn t m) .awaitedLock ≡ noLock) (here n r e C) i)
 
-      idle : Caller S G n r → T (liveQuery (txn t r)) → ⊥
-      idle C q = busy C (g .txnGood r (C .inside) .queryIdle q)
+      idle : Caller S G n r → T (byStart (txn t r)) → ⊥
+      idle C q = busy C (g .txnGood r (C .inside) .readerIdle q)
 
     own-row : (c : Call) (d : Deed) → Way S G c d → Names c (R .number) → Stays c d
     unfolding done
@@ -174,13 +184,19 @@ module _ (S : Sizes) (G : Tables) (g : Good S G) (s : ℕ) (inside : s < S .slot
     own-row c d (readOwn n r x U h) e = let p = it n r e U in inr (inl (e, (p .0, sym (p .1)), refl))
     own-row c d (readNewest n r x U h) e = let p = it n r e U in inr (inl (e, (p .0, sym (p .1)), refl))
     own-row c d (readShared n r x U h f) e = let p = it n r e U in inr (inl (e, (p .0, sym (p .1)), refl))
-    own-row c d (readQuery n r x C q i) e = absurd (idle n r e C q)
+    own-row c d (keptWaiting r C q) e = inl (same-row refl)
+    own-row c d (readSettled n r x C p i h) e = absurd (idle n r e C (settled-reads (txn t r) p))
+    own-row c d (readByStart n r x C q i o b) e = absurd (idle n r e C q)
     own-row c d (wroteOwn n r x v U h) e = let p = it n r e U in inr (inl (e, (p .0, sym (p .1)), refl))
+    own-row c d (wroteSettled n r x v C p i h) e = absurd (idle n r e C (settled-reads (txn t r) p))
     own-row c d (wroteTaken n r x v U h f m) e = let p = it n r e U in inr (inl (e, (p .0, sym (p .1)), refl))
     own-row c d (committedUpdate n r C u i l) e = absurd (busy n r e C i)
-    own-row c d (committedQuery n r C q) e = absurd (idle n r e C q)
+    own-row c d (committedSettled n r C p) e = absurd (idle n r e C (settled-reads (txn t r) p))
+    own-row c d (committedQuery n r C q) e = absurd (idle n r e C (query-reads (txn t r) q))
     own-row c d (abortedUpdate n r C u) e = inr (inr (ap Abort e))
-    own-row c d (abortedQuery n r C q) e = absurd (idle n r e C q)
+    own-row c d (abortedSettled n r C p) e = inr (inr (ap Abort e))
+    own-row c d (abortedQuery n r C q) e = absurd (idle n r e C (query-reads (txn t r) q))
+    own-row c d (settledUpdate n r C u i l) e = absurd (busy n r e C i)
 
 -- ---- told of `step`
 pub others-leave : (S : Sizes) → OthersLeave S
@@ -223,6 +239,7 @@ deadlocked S c G (r ∷ rs) k (inl p) e = it r (p .0) (sym (p .1) ∙ e)
     it ClockSpent w q = absurd (omega arith)
     it BadTables w q = absurd (omega arith)
     it QuotaSpent w q = absurd (omega arith)
+    it PastWriting w q = absurd (omega arith)
 deadlocked S c G (r ∷ rs) k (inr p) e = deadlocked S c G rs k (p .1) e
 
 pub repeated-waits : (S : Sizes) → RepeatedWaits S
@@ -243,10 +260,13 @@ repeated-waits S c G s g C awaits wants = (λ e. never (deadlocked S c G (order 
         (subst (λ (y : ℕ). Circle S G s (w .1) y) (q .1) (subst (λ (r : ℕ). Circle S G r (w .1) (w .2)) (one-caller S G g c (w .0) s (K .caller) C) (w .4)))
 
     again : codeOf S c G ≡ code Wait → after S c G ≡ G
-    again e =
-        let w = wait-is S c G e in
-        let q = one-want c (w .1) (R .awaitedLock) (w .2) (R .awaitedItem) (w .4) wants in
-        w .6
-        ∙ ap (λ (r : ℕ). withTxns G (noted S (G .txns) (G .locks) r (w .1) (w .2))) (one-caller S G g c (w .0) s (w .3) C)
-        ∙ ap (λ (x : ℕ). withTxns G (noted S (G .txns) (G .locks) s (w .1) x)) (q .1)
-        ∙ ap (withTxns G) (noted-known S (G .txns) (G .locks) s (w .1) (R .awaitedItem) stands)
+    again e = go (wait-is S c G e)
+      where
+        go : NotedDown S c G (step S c G) ⊎ HeldSilently S c G (step S c G) → after S c G ≡ G
+        go (inr h) = h .1
+        go (inl w) =
+            let q = one-want c (w .1) (R .awaitedLock) (w .2) (R .awaitedItem) (w .4) wants in
+            w .6
+            ∙ ap (λ (r : ℕ). withTxns G (noted S (G .txns) (G .locks) r (w .1) (w .2))) (one-caller S G g c (w .0) s (w .3) C)
+            ∙ ap (λ (x : ℕ). withTxns G (noted S (G .txns) (G .locks) s (w .1) x)) (q .1)
+            ∙ ap (withTxns G) (noted-known S (G .txns) (G .locks) s (w .1) (R .awaitedItem) stands)

@@ -8,13 +8,13 @@ use native.Mathlib.Omega.{arith}
 use lib.Dec.{T}
 use Rattle.names.specs.declared.Sizes.{Sizes}
 use Rattle.names.specs.Sizes.{firstStamp, lastWord}
-use Rattle.rules.specs.Tables.{Tables, lastNumber, clock, txn, liveUpdate, liveQuery, exclusivesOf}
+use Rattle.rules.specs.Tables.{Tables, lastNumber, clock, txn, liveUpdate, liveQuery, liveSettled, byStart, exclusivesOf}
 use Rattle.rules.specs.Tables.{anUpdate, aQuery, noLock, sharedLock, exclusiveLock, lock, holds, holdsShared, holdsExclusive}
-use Rattle.rules.specs.Answers.{Call, BeginUpdate, BeginQuery, Read, Write, Commit, Abort, granted, code, Refusal}
-use Rattle.rules.specs.Answers.{Wait, Deadlock, UnknownTransaction, UnknownItem, QueryMayNotWrite, StillWaiting, NoSlot, NumbersSpent, ClockSpent, BadTables, QuotaSpent}
+use Rattle.rules.specs.Answers.{Call, BeginUpdate, BeginQuery, Read, Write, Commit, Abort, Settle, granted, code, Refusal}
+use Rattle.rules.specs.Answers.{Wait, Deadlock, UnknownTransaction, UnknownItem, QueryMayNotWrite, StillWaiting, NoSlot, NumbersSpent, ClockSpent, BadTables, QuotaSpent, PastWriting}
 use Rattle.rules.specs.Answers.{Deed, Refused, Waits, Begins, ReadsByStart, ReadsOwn, ReadsNewest, TakesShared}
-use Rattle.rules.specs.Answers.{Replaces, TakesExclusive, Commits, Ends, Aborts, asSlot, asItem, asStamp}
-use Rattle.rules.specs.Step.{awaitsOther}
+use Rattle.rules.specs.Answers.{Replaces, TakesExclusive, Commits, Ends, Aborts, Settles, CommitsSettled, AbortsSettled, asSlot, asItem, asStamp}
+use Rattle.rules.specs.Step.{awaitsOther, heldBack}
 pub use Rattle.rules.specs.Conditions.{Updater}
 use Rattle.rules.specs.Conditions.{Caller, Free, CallerIn, Wants, Circle}
 use Rattle.rules.proofs.Awaits.{MayAwait}
@@ -32,9 +32,10 @@ refusal-code NumbersSpent e = omega arith
 refusal-code ClockSpent e = omega arith
 refusal-code BadTables e = omega arith
 refusal-code QuotaSpent e = omega arith
+refusal-code PastWriting e = omega arith
 
 -- and none has a code above the last one
-pub refusal-most : (r : Refusal) → code r ≤ code QuotaSpent
+pub refusal-most : (r : Refusal) → code r ≤ code PastWriting
 refusal-most Wait = omega arith
 refusal-most Deadlock = omega arith
 refusal-most UnknownTransaction = omega arith
@@ -46,6 +47,7 @@ refusal-most NumbersSpent = omega arith
 refusal-most ClockSpent = omega arith
 refusal-most BadTables = omega arith
 refusal-most QuotaSpent = omega arith
+refusal-most PastWriting = omega arith
 
 -- a refusal of a call on good tables, that is no wait
 abbrev pub Mere : Refusal → Type 0
@@ -64,6 +66,8 @@ pub record Waiter (c : Call) (S : Sizes) (G : Tables) (s k x : ℕ) : Type 0 whe
 pub data Way (S : Sizes) (G : Tables) : Call → Deed → Type 0 where
   refused : {c : Call} (r : Refusal) → Mere r → Way S G c (Refused r)
   waited : {c : Call} (s k x : ℕ) → Waiter c S G s k x → Way S G c (Waits (asSlot s) k (asItem x))
+  -- request E6: who reads by a start is held back, and nothing is noted
+  keptWaiting : {c : Call} (s : ℕ) → CallerIn c S G s → T (byStart (txn (G .txns) s)) → Way S G c (Refused Wait)
   beganUpdate : (s : ℕ) → Free S (G .txns) s → lastNumber (G .txns) ≢ lastWord → Way S G BeginUpdate (Begins (asSlot s) anUpdate (asStamp firstStamp))
   beganQuery : (s : ℕ) → Free S (G .txns) s → lastNumber (G .txns) ≢ lastWord → Way S G BeginQuery (Begins (asSlot s) aQuery (asStamp (clock (G .txns))))
   readOwn : (n s x : ℕ) → Updater S G n s sharedLock x → T (holdsExclusive (lock (G .locks) x) s) → Way S G (Read n x) (ReadsOwn (asSlot s) (asItem x))
@@ -71,9 +75,17 @@ pub data Way (S : Sizes) (G : Tables) : Call → Deed → Type 0 where
   readShared :
       (n s x : ℕ) → Updater S G n s sharedLock x → (T (holds (lock (G .locks) x) s) → ⊥) → (lock (G .locks) x) .exclusive ≡ 0
       → Way S G (Read n x) (TakesShared (asSlot s) (asItem x))
-  readQuery : (n s x : ℕ) → Caller S G n s → T (liveQuery (txn (G .txns) s)) → x < S .items → Way S G (Read n x) (ReadsByStart (asSlot s) (asItem x))
+  readSettled :
+      (n s x : ℕ) → Caller S G n s → T (liveSettled (txn (G .txns) s)) → x < S .items → T (holdsExclusive (lock (G .locks) x) s)
+      → Way S G (Read n x) (ReadsOwn (asSlot s) (asItem x))
+  readByStart :
+      (n s x : ℕ) → Caller S G n s → T (byStart (txn (G .txns) s)) → x < S .items → (T (holdsExclusive (lock (G .locks) x) s) → ⊥)
+      → heldBack S (G .txns) (G .locks) x s ≡ false → Way S G (Read n x) (ReadsByStart (asSlot s) (asItem x))
   wroteOwn :
       (n s x v : ℕ) → Updater S G n s exclusiveLock x → T (holdsExclusive (lock (G .locks) x) s)
+      → Way S G (Write n x v) (Replaces (asSlot s) (asItem x) v)
+  wroteSettled :
+      (n s x v : ℕ) → Caller S G n s → T (liveSettled (txn (G .txns) s)) → x < S .items → T (holdsExclusive (lock (G .locks) x) s)
       → Way S G (Write n x v) (Replaces (asSlot s) (asItem x) v)
   wroteTaken :
       (n s x v : ℕ) → Updater S G n s exclusiveLock x → T (holdsShared (lock (G .locks) x) s) ⊎ (T (holds (lock (G .locks) x) s) → ⊥)
@@ -82,6 +94,11 @@ pub data Way (S : Sizes) (G : Tables) : Call → Deed → Type 0 where
   committedUpdate :
       (n s : ℕ) → Caller S G n s → T (liveUpdate (txn (G .txns) s)) → (txn (G .txns) s) .awaitedLock ≡ noLock → clock (G .txns) ≢ lastWord
       → Way S G (Commit n) (Commits (asSlot s))
+  committedSettled : (n s : ℕ) → Caller S G n s → T (liveSettled (txn (G .txns) s)) → Way S G (Commit n) (CommitsSettled (asSlot s))
   committedQuery : (n s : ℕ) → Caller S G n s → T (liveQuery (txn (G .txns) s)) → Way S G (Commit n) (Ends (asSlot s))
   abortedUpdate : (n s : ℕ) → Caller S G n s → T (liveUpdate (txn (G .txns) s)) → Way S G (Abort n) (Aborts (asSlot s))
+  abortedSettled : (n s : ℕ) → Caller S G n s → T (liveSettled (txn (G .txns) s)) → Way S G (Abort n) (AbortsSettled (asSlot s))
   abortedQuery : (n s : ℕ) → Caller S G n s → T (liveQuery (txn (G .txns) s)) → Way S G (Abort n) (Ends (asSlot s))
+  settledUpdate :
+      (n s : ℕ) → Caller S G n s → T (liveUpdate (txn (G .txns) s)) → (txn (G .txns) s) .awaitedLock ≡ noLock → clock (G .txns) ≢ lastWord
+      → Way S G (Settle n) (Settles (asSlot s))

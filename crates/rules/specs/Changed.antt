@@ -10,12 +10,12 @@ use lib.Dec.{T}
 use Rattle.names.specs.declared.Sizes.{Sizes}
 use Rattle.names.specs.Layout.{lastNumberAt, clockAt, txnRow, txnLockAt, txnItemAt, txnRankAt}
 use Rattle.rules.specs.Words.{row}
-use Rattle.rules.specs.Tables.{Tables, txnAt, lockRow, versionRow, lastNumber, clock, Txn, txn, noTxn, newTxn, noLock, anUpdate, aQuery}
-use Rattle.rules.specs.Tables.{sharedLock, exclusiveLock, liveUpdate, liveQuery, starts, Lock, lock, setLock, holds, holdsShared, holdsExclusive, released}
+use Rattle.rules.specs.Tables.{Tables, txnAt, lockRow, versionRow, lastNumber, clock, Txn, txn, noTxn, newTxn, noLock, anUpdate, aQuery, aSettled}
+use Rattle.rules.specs.Tables.{sharedLock, exclusiveLock, liveUpdate, liveQuery, liveSettled, byStart, starts, Lock, lock, setLock, holds, holdsShared, holdsExclusive, released, unshared}
 use Rattle.rules.specs.Waits.{awaits, lowered}
-use Rattle.rules.specs.Versions.{versionsOf, newest, place, choice, rowOf, kept}
-use Rattle.rules.specs.Answers.{Call, BeginUpdate, BeginQuery, Read, Write, Commit, Abort, Outcome, says, granted}
-use Rattle.rules.specs.Step.{begun, locked, replaced, sharedToo, taken, withLocks, committed, ended, aborted}
+use Rattle.rules.specs.Versions.{Version, versionsOf, newest, place, choice, rowOf, kept}
+use Rattle.rules.specs.Answers.{Call, BeginUpdate, BeginQuery, Read, Write, Commit, Abort, Settle, Outcome, says, granted}
+use Rattle.rules.specs.Step.{begun, locked, replaced, sharedToo, taken, withLocks, withNew, committed, settledCommitted, ended, aborted, settledAborted, settled}
 use Rattle.rules.specs.Conditions.{Caller, Free, Updater}
 
 -- ---- what is said of two lists of words, t before and t′ after
@@ -74,6 +74,13 @@ pub record LocksReleased (S : Sizes) (s : ℕ) (l l′ : List ℕ) : Type 0 wher
   pub others :
       (x k : ℕ) → x < S .items → k < lockRow → (T (holds (lock l x) s) → ⊥) → getD l′ (lockRow * x + k) 0 ≡ getD l (lockRow * x + k) 0
 
+-- request E6: no lock is shared by slot s afterwards, and a lock that s does not share keeps every word
+pub record SharesGone (S : Sizes) (s : ℕ) (l l′ : List ℕ) : Type 0 where
+  pub size : length l′ ≡ length l
+  pub each : (x : ℕ) → x < S .items → lock l′ x ≡ unshared s (lock l x)
+  pub others :
+      (x k : ℕ) → x < S .items → k < lockRow → (T (holdsShared (lock l x) s) → ⊥) → getD l′ (lockRow * x + k) 0 ≡ getD l (lockRow * x + k) 0
+
 -- ---- the calls' own
 -- the row that a begin writes
 abbrev pub newcomer : Tables → ℕ → ℕ → Txn
@@ -122,6 +129,22 @@ pub record Ended (S : Sizes) (s : ℕ) (G G′ : Tables) : Type 0 where
       (x : ℕ) → x < S .items
       → row (versionRow S) x (G′ .versions) ≡ rowOf S (kept (starts S (G′ .txns)) (versionsOf S (G .versions) x))
 
+-- request E6, "the update takes clock plus 1 as its stamp, the clock moves there, .. and its shared locks go. Its row then has kind 2 and
+-- that stamp as start."
+pub record Settled (S : Sizes) (s : ℕ) (G G′ : Tables) : Type 0 where
+  pub txns :
+      WordAndRowChanged clockAt (clock (G .txns) + 1) s (newTxn ((txn (G .txns) s) .number) aSettled (clock (G .txns) + 1)) (G .txns) (G′ .txns)
+  pub locks : SharesGone S s (G .locks) (G′ .locks)
+  pub versions : G′ .versions ≡ G .versions
+
+-- the end of one past its writing: its row and its locks go, and of the versions, those of item x being f x before, what none but it
+-- read
+pub record SettledEnded (S : Sizes) (s : ℕ) (f : ℕ → List Version) (G G′ : Tables) : Type 0 where
+  pub txns : RowChanged s noTxn (G .txns) (G′ .txns)
+  pub locks : LocksReleased S s (G .locks) (G′ .locks)
+  pub size : length (G′ .versions) ≡ length (G .versions)
+  pub each : (x : ℕ) → x < S .items → row (versionRow S) x (G′ .versions) ≡ rowOf S (kept (starts S (G′ .txns)) (f x))
+
 -- ---- every granted call: its four numbers, the tables afterwards, and which words of them are others than before
 pub data Granted (S : Sizes) (G : Tables) : Call → Outcome → Type 0 where
   -- "begin: number is the new number"
@@ -144,9 +167,13 @@ pub data Granted (S : Sizes) (G : Tables) : Call → Outcome → Type 0 where
       (n x s : ℕ) → Updater S G n s sharedLock x → (T (holds (lock (G .locks) x) s) → ⊥)
       → Locked S s x (sharedToo (lock (G .locks) x) s) G (locked S s x (sharedToo (lock (G .locks) x) s) G)
       → Granted S G (Read n x) (says granted (newest S (G .versions) x) 0 1 (locked S s x (sharedToo (lock (G .locks) x) s) G))
-  -- "the newest version whose stamp is at most its start": no word changes
-  queryReads :
-      (n x s : ℕ) → Caller S G n s → T (liveQuery (txn (G .txns) s)) → x < S .items
+  -- request E6, "sees its own working values": no word changes
+  settledOwnRead :
+      (n x s : ℕ) → Caller S G n s → T (liveSettled (txn (G .txns) s)) → x < S .items → T (holdsExclusive (lock (G .locks) x) s)
+      → Granted S G (Read n x) (says granted ((lock (G .locks) x) .working) 0 0 G)
+  -- "the newest version whose stamp is at most its start", by a query or by one past its writing: no word changes
+  startReads :
+      (n x s : ℕ) → Caller S G n s → T (byStart (txn (G .txns) s)) → x < S .items
       → Granted S G (Read n x)
       (says granted
       ((choice ((txn (G .txns) s) .start) (versionsOf S (G .versions) x)) .value)
@@ -156,6 +183,11 @@ pub data Granted (S : Sizes) (G : Tables) : Call → Outcome → Type 0 where
   -- "replace the working value": the transactions and the versions are the very same lists
   valueReplaced :
       (n x v s : ℕ) → Updater S G n s exclusiveLock x → T (holdsExclusive (lock (G .locks) x) s)
+      → LockChanged x (replaced (lock (G .locks) x) v) (G .locks) (setLock (G .locks) x (replaced (lock (G .locks) x) v))
+      → Granted S G (Write n x v) (says granted 0 0 0 (withLocks G (G .txns) (setLock (G .locks) x (replaced (lock (G .locks) x) v))))
+  -- request E6, "writes only what it already holds"
+  settledReplaced :
+      (n x v s : ℕ) → Caller S G n s → T (liveSettled (txn (G .txns) s)) → x < S .items → T (holdsExclusive (lock (G .locks) x) s)
       → LockChanged x (replaced (lock (G .locks) x) v) (G .locks) (setLock (G .locks) x (replaced (lock (G .locks) x) v))
       → Granted S G (Write n x v) (says granted 0 0 0 (withLocks G (G .txns) (setLock (G .locks) x (replaced (lock (G .locks) x) v))))
   -- "exchange for exclusive"
@@ -176,9 +208,23 @@ pub data Granted (S : Sizes) (G : Tables) : Call → Outcome → Type 0 where
   queryCommits :
       (n s : ℕ) → Caller S G n s → T (liveQuery (txn (G .txns) s)) → Ended S s G (ended S s G)
       → Granted S G (Commit n) (says granted 0 0 0 (ended S s G))
+  -- request E6: "Its commit puts versions under that stamp, answers it and takes no new one"
+  settledCommits :
+      (n s : ℕ) → Caller S G n s → T (liveSettled (txn (G .txns) s))
+      → SettledEnded S s (λ x. withNew (G .locks) s ((txn (G .txns) s) .start) x (versionsOf S (G .versions) x)) G (settledCommitted S s G)
+      → Granted S G (Commit n) (says granted 0 ((txn (G .txns) s) .start) 0 (settledCommitted S s G))
   updateAborts :
       (n s : ℕ) → Caller S G n s → T (liveUpdate (txn (G .txns) s)) → Aborted S s G (aborted S s G)
       → Granted S G (Abort n) (says granted 0 0 0 (aborted S s G))
+  -- request E6: "its abort trims rows as a query's end does"
+  settledAborts :
+      (n s : ℕ) → Caller S G n s → T (liveSettled (txn (G .txns) s))
+      → SettledEnded S s (λ x. versionsOf S (G .versions) x) G (settledAborted S s G)
+      → Granted S G (Abort n) (says granted 0 0 0 (settledAborted S s G))
+  -- request E6: "the stamp is answered as number"
+  updateSettles :
+      (n s : ℕ) → Caller S G n s → T (liveUpdate (txn (G .txns) s)) → Settled S s G (settled S s G)
+      → Granted S G (Settle n) (says granted 0 (clock (G .txns) + 1) 0 (settled S s G))
   -- "for a query is the same as commit"
   queryAborts :
       (n s : ℕ) → Caller S G n s → T (liveQuery (txn (G .txns) s)) → Ended S s G (ended S s G)

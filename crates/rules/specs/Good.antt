@@ -10,9 +10,9 @@ use Rattle.names.specs.declared.Sizes.{Sizes}
 use Rattle.names.specs.Sizes.{lastWord}
 use Rattle.rules.specs.Words.{row}
 use Rattle.rules.specs.Tables.{Tables, txnWords, lockWords, versionWords, versionRow}
-use Rattle.rules.specs.Tables.{lastNumber, clock, Txn, txn, noTxn, live, liveUpdate, liveQuery}
-use Rattle.rules.specs.Tables.{anUpdate, aQuery, noLock, sharedLock, exclusiveLock, Lock, lock, holds, holdsShared, holdsExclusive, exclusivesOf}
-use Rattle.rules.specs.Versions.{versionsIn, stampAt, place}
+use Rattle.rules.specs.Tables.{lastNumber, clock, Txn, txn, noTxn, live, liveUpdate, liveSettled, mayHold, byStart}
+use Rattle.rules.specs.Tables.{anUpdate, aQuery, aSettled, noLock, sharedLock, exclusiveLock, Lock, lock, holds, holdsShared, holdsExclusive, exclusivesOf}
+use Rattle.rules.specs.Versions.{versionsIn, versionsOf, stampAt, place}
 use Rattle.rules.specs.Waits.{awaits, awaitsOn, waitersOn, waitsFor, Walk}
 
 -- ---- the clauses on the row r of slot s; t and l are the words of the transactions and of the locks
@@ -22,12 +22,14 @@ pub record GoodTxn (S : Sizes) (t l : List ℕ) (s : ℕ) (r : Txn) : Type 0 whe
   -- "live numbers are .. from 1 to the last given"
   pub given : r .number ≤ lastNumber t
   -- "kinds and awaited locks are as listed"
-  pub kindListed : (r .kind ≡ anUpdate) ⊎ (r .kind ≡ aQuery)
+  pub kindListed : (r .kind ≡ anUpdate) ⊎ ((r .kind ≡ aQuery) ⊎ (r .kind ≡ aSettled))
   pub lockListed : r .awaitedLock ≤ exclusiveLock
-  -- "an update's start is 0, a query's is at most the clock, and a query awaits nothing"
+  -- "an update's start is 0, a query's is at most the clock, and a query awaits nothing"; request E6: such a row "awaits nothing; its
+  -- stamp is 1 to the clock"
   pub updateStart : T (liveUpdate r) → r .start ≡ 0
-  pub queryStart : T (liveQuery r) → r .start ≤ clock t
-  pub queryIdle : T (liveQuery r) → r .awaitedLock ≡ noLock
+  pub readerStart : T (byStart r) → r .start ≤ clock t
+  pub readerIdle : T (byStart r) → r .awaitedLock ≡ noLock
+  pub settledStart : T (liveSettled r) → 1 ≤ r .start
   -- "an awaited item is below 64, and 0 where nothing is awaited"
   pub itemKnown : r .awaitedLock ≢ noLock → r .awaitedItem < S .items
   pub itemUnused : r .awaitedLock ≡ noLock → r .awaitedItem ≡ 0
@@ -52,8 +54,9 @@ pub record GoodRanks (S : Sizes) (t l : List ℕ) : Type 0 where
 
 -- ---- the clauses on the lock h of an item
 pub record GoodLock (S : Sizes) (t : List ℕ) (h : Lock) : Type 0 where
-  -- "Lock holders are slots of live updates"
-  pub holders : (s : ℕ) → T (holds h s) → (s < S .slots) × T (liveUpdate (txn t s))
+  -- "Lock holders are slots of live updates"; request E6: "such a row holds no shared lock"
+  pub sharers : (s : ℕ) → T (holdsShared h s) → (s < S .slots) × T (liveUpdate (txn t s))
+  pub excluders : (s : ℕ) → T (holdsExclusive h s) → (s < S .slots) × T (mayHold (txn t s))
   -- "a row has shared holders or an exclusive one, never both"
   pub neverBoth : (h .shared ≡ 0) ⊎ (h .exclusive ≡ 0)
   -- "without an exclusive holder the working value is 0"
@@ -62,9 +65,9 @@ pub record GoodLock (S : Sizes) (t : List ℕ) (h : Lock) : Type 0 where
 -- ---- request E2: the clauses on what slot s, with the row r, holds exclusively
 pub record GoodQuota (S : Sizes) (l : List ℕ) (s : ℕ) (r : Txn) : Type 0 where
   -- "Good tables show at most 32 for each update"
-  pub most : T (liveUpdate r) → exclusivesOf S l s ≤ S .quota
+  pub most : T (mayHold r) → exclusivesOf S l s ≤ S .quota
   -- "and one with 32 awaits no exclusive lock"
-  pub fullIdle : T (liveUpdate r) → exclusivesOf S l s ≡ S .quota → r .awaitedLock ≢ exclusiveLock
+  pub fullIdle : T (mayHold r) → exclusivesOf S l s ≡ S .quota → r .awaitedLock ≢ exclusiveLock
 
 -- ---- the clauses on the words r of an item's version row
 pub record GoodVersions (S : Sizes) (t r : List ℕ) : Type 0 where
@@ -77,12 +80,23 @@ pub record GoodVersions (S : Sizes) (t r : List ℕ) : Type 0 where
   pub fall : (i j : ℕ) → i < j → j < length (versionsIn r) → stampAt (versionsIn r) j < stampAt (versionsIn r) i
   -- "the first is at most the clock"
   pub first : stampAt (versionsIn r) 0 ≤ clock t
-  -- "the last is at most every live query's start"
-  pub last : (s : ℕ) → s < S .slots → T (liveQuery (txn t s)) → stampAt (versionsIn r) (length (versionsIn r) - 1) ≤ (txn t s) .start
+  -- "the last is at most every live query's start"; request E6 counts those past their writing as queries here
+  pub last : (s : ℕ) → s < S .slots → T (byStart (txn t s)) → stampAt (versionsIn r) (length (versionsIn r) - 1) ≤ (txn t s) .start
   -- "A version that is not the newest is there exactly if some live query reads it."
   pub reads :
       (k : ℕ) → 0 < k
-      → (k < length (versionsIn r)) ↔ ((s : ℕ) × (s < S .slots) × T (liveQuery (txn t s)) × (place ((txn t s) .start) (versionsIn r) ≡ k))
+      → (k < length (versionsIn r)) ↔ ((s : ℕ) × (s < S .slots) × T (byStart (txn t s)) × (place ((txn t s) .start) (versionsIn r) ≡ k))
+
+-- ---- request E6: the clauses on those past their writing
+pub record GoodSettled (S : Sizes) (G : Tables) : Type 0 where
+  -- "no other such row has it": their stamps are distinct
+  pub apart :
+      (r s : ℕ) → r < S .slots → s < S .slots → r ≢ s → T (liveSettled (txn (G .txns) r)) → T (liveSettled (txn (G .txns) s))
+      → (txn (G .txns) r) .start ≢ (txn (G .txns) s) .start
+  -- "and every version of an item it holds has a lower one"
+  pub above :
+      (s x : ℕ) → s < S .slots → x < S .items → T (liveSettled (txn (G .txns) s)) → T (holdsExclusive (lock (G .locks) x) s)
+      → stampAt (versionsOf S (G .versions) x) 0 < (txn (G .txns) s) .start
 
 pub record Good (S : Sizes) (G : Tables) : Type 0 where
   -- "The sizes are exact."
@@ -105,5 +119,7 @@ pub record Good (S : Sizes) (G : Tables) : Type 0 where
   pub versionsGood : (x : ℕ) → x < S .items → GoodVersions S (G .txns) (row (versionRow S) x (G .versions))
   -- request E4
   pub ranksGood : GoodRanks S (G .txns) (G .locks)
+  -- request E6
+  pub settledGood : GoodSettled S G
   -- "No circle of waits exists."
   pub noCircle : (s : ℕ) → Walk (waitsFor (G .txns) (G .locks)) s s → ⊥

@@ -3,18 +3,19 @@
 use Prim.Native.Nat.{ℕ, suc, _+_, _≤_, _<_}
 use mathlib.Core.Path.{_≡_}
 use mathlib.Core.Logic.{_≢_, _⊎_, _↔_}
-use mathlib.Core.Bool.{false, cond}
+use mathlib.Core.Bool.{Bool, false, cond, _&&_, _||_}
 use mathlib.Core.List.{List, [], _∷_}
 use lib.ListN.{length, getD}
 use lib.Dec.{T, ltb}
 use Rattle.names.specs.declared.Sizes.{Sizes}
-use Rattle.rules.specs.Tables.{Tables, clock, Txn, txn, withRank, live, liveUpdate, liveQuery, starts, noLock, Lock, lock, holds, holdsShared, holdsExclusive}
+use Rattle.rules.specs.Words.{someBelow}
+use Rattle.rules.specs.Tables.{Tables, clock, Txn, txn, withRank, live, liveUpdate, liveSettled, byStart, starts, noLock, Lock, lock, holds, holdsShared, holdsExclusive}
 use Rattle.rules.specs.Versions.{Version, noVersion, versionsOf, stampAt, place, choice}
-use Rattle.rules.specs.Waits.{awaitsOn, waitersOn, rankFor, raised, blocks}
+use Rattle.rules.specs.Waits.{awaitsOn, waitersOn, rankFor, raised, blocks, waitsFor, Walk}
 use Rattle.rules.specs.Good.{Good}
 use Rattle.rules.specs.Locks.{Asked, toRead, toWrite, wanted}
 use Rattle.rules.specs.Answers.{Call, Read, Write, Abort, Outcome, says, granted, code, Wait, Deadlock}
-use Rattle.rules.specs.Step.{step, writesFurther, withNew, committed, ended}
+use Rattle.rules.specs.Step.{step, holdsBack, heldBack, writesFurther, withNew, committed, settledCommitted, ended, settledAborted}
 use Rattle.rules.specs.Conditions.{Caller, CallerIn, Updater, Names, Wants, NeedsLock, Circle, order, Answered}
 use Rattle.rules.specs.Changed.{AwaitedChanged, Granted}
 
@@ -43,12 +44,14 @@ RefusedUnchanged S = (c : Call) (G : Tables) → codeOf S c G ≢ granted → co
 abbrev pub coming : Sizes → Tables → ℕ → ℕ → Txn → ℕ
 coming S G s x q = cond (awaitsOn x (txn (G .txns) s)) (q .rank) (raised x (rankFor S (G .txns) (G .locks) s x) q)
 
--- ".. only a wait is noted down": "only the caller's awaited fields", and since request E4 the ranks behind it (Refused)
+-- ".. only a wait is noted down": "only the caller's awaited fields", and since request E4 the ranks behind it. Request E6: so waits an
+-- update that still writes, and the waits of those who read by a start "change no word" (Refused)
 pub record Noted (S : Sizes) (c : Call) (G : Tables) : Type 0 where
   pub slot : ℕ
   pub lockKind : ℕ
   pub item : ℕ
   pub caller : CallerIn c S G slot
+  pub update : T (liveUpdate (txn (G .txns) slot))
   pub wants : Wants c lockKind item
   pub txns :
       AwaitedChanged S slot lockKind item (rankFor S (G .txns) (G .locks) slot item) (coming S G slot item) (G .txns) ((after S c G) .txns)
@@ -56,7 +59,9 @@ pub record Noted (S : Sizes) (c : Call) (G : Tables) : Type 0 where
   pub versions : (after S c G) .versions ≡ G .versions
 
 abbrev pub WaitWords : Sizes → Type 0
-WaitWords S = (c : Call) (G : Tables) → codeOf S c G ≡ code Wait → Noted S c G
+WaitWords S =
+    (c : Call) (G : Tables) → codeOf S c G ≡ code Wait
+    → Noted S c G ⊎ (((s : ℕ) × CallerIn c S G s × T (byStart (txn (G .txns) s))) × (after S c G ≡ G))
 
 -- "What is not named is 0.": beside a refusal's code (Refused)
 abbrev pub RefusedZeros : Sizes → Type 0
@@ -145,6 +150,44 @@ RepeatedWaits S =
     → Wants c ((txn (G .txns) s) .awaitedLock) ((txn (G .txns) s) .awaitedItem)
     → (codeOf S c G ≢ code Deadlock) × (codeOf S c G ≡ code Wait → after S c G ≡ G)
 
+-- ---- request E6, "Queries and such readers now can wait": waits that "change no word"
+
+-- slot a, which reads by a start, waits for slot b: b holds it back from some item. It may ask for any item there is, and for many at once
+unfoldable pub waitsSilently : Sizes → Tables → ℕ → ℕ → Bool
+waitsSilently S G a b = byStart (txn (G .txns) a) && someBelow (S .items) (λ x. holdsBack (G .txns) (G .locks) x a b)
+
+-- slot a waits for slot b: as the tables say, or silently
+unfoldable pub waitsAtAll : Sizes → Tables → ℕ → ℕ → Bool
+waitsAtAll S G a b = waitsFor (G .txns) (G .locks) a b || waitsSilently S G a b
+
+-- a reader that is answered 1 waits so: no wait of a reader is left out here (Silent)
+abbrev pub ReaderWaits : Sizes → Type 0
+ReaderWaits S =
+    (c : Call) (G : Tables) (s : ℕ) → codeOf S c G ≡ code Wait → CallerIn c S G s → T (byStart (txn (G .txns) s))
+    → (b : ℕ) × T (waitsSilently S G s b)
+
+-- such waits lead to smaller stamps: from a reader, for which no wait is noted, to one past its writing whose stamp is at most the
+-- reader's start; and if the reader is past its writing too, to a smaller one, since "no other such row has it" (Silent)
+pub record Descends (G : Tables) (a b : ℕ) : Type 0 where
+  pub nothingNoted : (c : ℕ) → T (waitsFor (G .txns) (G .locks) a c) → ⊥
+  pub past : T (liveSettled (txn (G .txns) b))
+  pub atMost : (txn (G .txns) b) .start ≤ (txn (G .txns) a) .start
+  pub smaller : T (liveSettled (txn (G .txns) a)) → (txn (G .txns) b) .start < (txn (G .txns) a) .start
+
+abbrev pub SilentDescends : Sizes → Type 0
+SilentDescends S = (G : Tables) (a b : ℕ) → Good S G → T (waitsSilently S G a b) → Descends G a b
+
+-- "These waits never get code 2", and need not: document 01's "No circle of waits exists." holds with them too, whatever the readers
+-- ask for (Silent)
+abbrev pub NoCircleAtAll : Sizes → Type 0
+NoCircleAtAll S = (G : Tables) (s : ℕ) → Good S G → Walk (waitsAtAll S G) s s → ⊥
+
+-- so no set of transactions waits on itself: in every set with a member s, some member waits for no member (Silent)
+abbrev pub NoSetWaits : Sizes → Type 0
+NoSetWaits S =
+    (G : Tables) (among : ℕ → Bool) (s : ℕ) → Good S G → T (among s)
+    → (a : ℕ) × T (among a) × ((b : ℕ) → T (among b) → T (waitsAtAll S G a b) → ⊥)
+
 -- ==== the line of waiters
 
 -- request E4, "from 1 without gaps": the ranks of those who wait on the item x are 1, 2 and so on, to as many as they are (Ranked)
@@ -154,11 +197,11 @@ RanksExactly S =
     → ((1 ≤ r) × (r ≤ waitersOn S (G .txns) x))
     ↔ ((s : ℕ) × (s < S .slots) × T (awaitsOn x (txn (G .txns) s)) × ((txn (G .txns) s) .rank ≡ r))
 
--- "Waiters on an item now stand in the order of their first wait.": slot s, whose wait for item x is noted with the answer 1, and which
--- does not share the item, stands behind all who waited there (InOrder). That whoever waits keeps its place is line/specs/InOrder
+-- "Waiters on an item now stand in the order of their first wait.": the update in slot s, whose wait for item x is noted with the answer
+-- 1, and which does not share the item, stands behind all who waited there (InOrder). That whoever waits keeps its place is line/specs/InOrder
 abbrev pub NewcomerLast : Sizes → Type 0
 NewcomerLast S =
-    (c : Call) (G : Tables) (s k x r : ℕ) → codeOf S c G ≡ code Wait → CallerIn c S G s → Wants c k x
+    (c : Call) (G : Tables) (s k x r : ℕ) → codeOf S c G ≡ code Wait → CallerIn c S G s → T (liveUpdate (txn (G .txns) s)) → Wants c k x
     → (T (awaitsOn x (txn (G .txns) s)) → ⊥) → (T (holdsShared (lock (G .locks) x) s) → ⊥)
     → r < S .slots → r ≢ s → T (awaitsOn x (txn (G .txns) r))
     → (txn ((after S c G) .txns) r) .rank < (txn ((after S c G) .txns) s) .rank
@@ -189,10 +232,12 @@ unfoldable pub later : ℕ → List ℕ → ℕ
 later q [] = 0
 later q (s ∷ qs) = let rest = later q qs in cond (ltb q s) (suc rest) rest
 
--- "No lock, no wait.": no word changes. "It is at most 2 plus the number of live queries with a later start."
-abbrev pub QueryReads : Sizes → Type 0
-QueryReads S =
-    (G : Tables) (n s x : ℕ) → Good S G → Caller S G n s → T (liveQuery (txn (G .txns) s)) → x < S .items
+-- "No lock": no word changes. "It is at most 2 plus the number of live queries with a later start."; request E6 counts those past their
+-- writing among them. Read by a query, or by one past its writing that does not hold the item, where nobody holds it back
+abbrev pub StartReads : Sizes → Type 0
+StartReads S =
+    (G : Tables) (n s x : ℕ) → Good S G → Caller S G n s → T (byStart (txn (G .txns) s)) → x < S .items
+    → (T (holdsExclusive (lock (G .locks) x) s) → ⊥) → heldBack S (G .txns) (G .locks) x s ≡ false
     → let q = (txn (G .txns) s) .start in
     let vs = versionsOf S (G .versions) x in
     (k : ℕ) × NewestUpTo q vs k × (step S (Read n x) G ≡ says granted ((getD vs k noVersion) .value) 0 (suc k) G)
@@ -203,11 +248,11 @@ QueryReads S =
 pub record TrimmedTo (S : Sizes) (vs : List Version) (G : Tables) (x : ℕ) : Type 0 where
   pub newest : getD (versionsOf S (G .versions) x) 0 noVersion ≡ getD vs 0 noVersion
   pub read :
-      (r : ℕ) → r < S .slots → T (liveQuery (txn (G .txns) r))
+      (r : ℕ) → r < S .slots → T (byStart (txn (G .txns) r))
       → choice ((txn (G .txns) r) .start) (versionsOf S (G .versions) x) ≡ choice ((txn (G .txns) r) .start) vs
   pub noOther :
       (k : ℕ) → 0 < k → k < length (versionsOf S (G .versions) x)
-      → (r : ℕ) × (r < S .slots) × T (liveQuery (txn (G .txns) r)) × (place ((txn (G .txns) r) .start) (versionsOf S (G .versions) x) ≡ k)
+      → (r : ℕ) × (r < S .slots) × T (byStart (txn (G .txns) r)) × (place ((txn (G .txns) r) .start) (versionsOf S (G .versions) x) ≡ k)
   pub places : length (versionsOf S (G .versions) x) ≤ S .slots
 
 -- "after a query's end"
@@ -215,6 +260,13 @@ abbrev pub EndTrims : Sizes → Type 0
 EndTrims S =
     (G : Tables) (s : ℕ) → Good S G → s < S .slots → (x : ℕ) → x < S .items
     → TrimmedTo S (versionsOf S (G .versions) x) (ended S s G) x
+
+-- request E6: after the end of one past its writing, "either way"
+abbrev pub SettledTrims : Sizes → Type 0
+SettledTrims S =
+    (G : Tables) (s : ℕ) → Good S G → s < S .slots → T (liveSettled (txn (G .txns) s)) → (x : ℕ) → x < S .items
+    → TrimmedTo S (withNew (G .locks) s ((txn (G .txns) s) .start) x (versionsOf S (G .versions) x)) (settledCommitted S s G) x
+    × TrimmedTo S (versionsOf S (G .versions) x) (settledAborted S s G) x
 
 -- "After an update's commit": with the new pair in front, where it holds the item exclusively
 abbrev pub CommitTrims : Sizes → Type 0
@@ -225,7 +277,7 @@ CommitTrims S =
 -- so a query that lives through a commit chooses the very same version
 abbrev pub CommitKeeps : Sizes → Type 0
 CommitKeeps S =
-    (G : Tables) (s r : ℕ) → Good S G → s < S .slots → T (liveUpdate (txn (G .txns) s)) → r < S .slots → T (liveQuery (txn (G .txns) r))
+    (G : Tables) (s r : ℕ) → Good S G → s < S .slots → T (liveUpdate (txn (G .txns) s)) → r < S .slots → T (byStart (txn (G .txns) r))
     → (x : ℕ) → x < S .items
     → choice ((txn (G .txns) r) .start) (versionsOf S ((committed S s G) .versions) x)
     ≡ choice ((txn (G .txns) r) .start) (versionsOf S (G .versions) x)

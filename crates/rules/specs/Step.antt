@@ -1,5 +1,5 @@
--- Document 01, "The six calls". `judged` says what a call comes to, by reading alone, with the refusals in the order of "What comes
--- back"; `done` says what each deed answers and changes; `step` is the one after the other, on good tables.
+-- Document 01, "The six calls", and the seventh of request E6. `judged` says what a call comes to, by reading alone, with the refusals in
+-- the order of "What comes back"; `done` says what each deed answers and changes; `step` is the one after the other, on good tables.
 use Prim.Native.Nat.{ℕ, suc, _+_}
 use mathlib.Core.Bool.{Bool, _&&_, not, cond}
 use mathlib.Core.List.{List, _∷_}
@@ -8,19 +8,19 @@ use lib.Dec.{eqb, leb}
 use Rattle.names.specs.declared.Sizes.{Sizes}
 use Rattle.names.specs.Sizes.{firstStamp, lastWord}
 use Rattle.names.specs.Layout.{lastNumberAt, clockAt}
-use Rattle.rules.specs.Words.{withBit, withoutBit}
-use Rattle.rules.specs.Tables.{Tables, tables, lastNumber, clock, txn, setTxn, setAwaited, noTxn, newTxn, anUpdate, aQuery, noLock}
-use Rattle.rules.specs.Tables.{slotOf, freeSlot, starts, Lock, lock, setLock, holdsExclusive, exclusivesOf, release, sharedLock, exclusiveLock}
+use Rattle.rules.specs.Words.{someBelow, withBit, withoutBit}
+use Rattle.rules.specs.Tables.{Tables, tables, lastNumber, clock, txn, setTxn, setAwaited, noTxn, newTxn, anUpdate, aQuery, aSettled, noLock, liveSettled}
+use Rattle.rules.specs.Tables.{slotOf, freeSlot, starts, Lock, lock, setLock, holdsExclusive, exclusivesOf, release, unshare, sharedLock, exclusiveLock}
 use Rattle.rules.specs.Versions.{Version, versionsOf, newest, place, choice, rewritten}
 use Rattle.rules.specs.Waits.{noted, closedUp, circleAt}
 use Rattle.rules.specs.Tested.{good}
 use Rattle.rules.specs.Locks.{Asked, toRead, toWrite, wanted, Cell, OwnValue, ReplaceValue, NewestValue}
 use Rattle.rules.specs.Locks.{ExchangeLock, TakeShared, TakeExclusive, Conflict, decision}
-use Rattle.rules.specs.Answers.{Call, BeginUpdate, BeginQuery, Read, Write, Commit, Abort, Outcome, says, granted, refuses}
+use Rattle.rules.specs.Answers.{Call, BeginUpdate, BeginQuery, Read, Write, Commit, Abort, Settle, Outcome, says, granted, refuses}
 use Rattle.rules.specs.Answers.{Wait, Deadlock, UnknownTransaction, UnknownItem, QueryMayNotWrite, StillWaiting}
-use Rattle.rules.specs.Answers.{NoSlot, NumbersSpent, ClockSpent, BadTables, QuotaSpent}
+use Rattle.rules.specs.Answers.{NoSlot, NumbersSpent, ClockSpent, BadTables, QuotaSpent, PastWriting}
 use Rattle.rules.specs.Answers.{Deed, Refused, Waits, Begins, ReadsByStart, ReadsOwn, ReadsNewest, TakesShared}
-use Rattle.rules.specs.Answers.{Replaces, TakesExclusive, Commits, Ends, Aborts, asSlot, asItem, asStamp}
+use Rattle.rules.specs.Answers.{Replaces, TakesExclusive, Commits, Ends, Aborts, Settles, CommitsSettled, AbortsSettled, asSlot, asItem, asStamp}
 
 -- ==== what a call comes to
 
@@ -64,16 +64,37 @@ awaitsOther t s k x =
 unfoldable pub writesFurther : Sizes → List ℕ → ℕ → ℕ → Bool
 writesFurther S l s x = eqb (exclusivesOf S l s) (S .quota) && not (holdsExclusive (lock l x) s)
 
--- "for read and write 3, 4, 5, 6, then 2 or 1"; request E2: 11 "comes after 6 and before the conflict". A query reads by its start:
--- "No lock, no wait."
+-- ---- Read by a start: by a query, and since request E6 by one past its writing
+-- "code 1 when the item is held exclusively by another transaction past its writing whose stamp is at most their own": slot b is such
+-- another for slot s, which reads the item x
+unfoldable pub holdsBack : List ℕ → List ℕ → ℕ → ℕ → ℕ → Bool
+holdsBack t l x s b =
+    not (eqb s b) && (holdsExclusive (lock l x) b && (liveSettled (txn t b) && leb ((txn t b) .start) ((txn t s) .start)))
+
+unfoldable pub heldBack : Sizes → List ℕ → List ℕ → ℕ → ℕ → Bool
+heldBack S t l x s = someBelow (S .slots) (holdsBack t l x s)
+
+-- "From then on it reads by that stamp, sees its own working values"; a wait here changes no word
+unfoldable pub startRead : Sizes → ℕ → ℕ → Tables → Deed
+startRead S s x G =
+    cond (holdsExclusive (lock (G .locks) x) s) (ReadsOwn (asSlot s) (asItem x))
+    (cond (heldBack S (G .txns) (G .locks) x s) (Refused Wait)
+    (ReadsByStart (asSlot s) (asItem x)))
+
+-- "writes only what it already holds; any other write gets code 12": slot s, item x
+unfoldable pub writesPast : List ℕ → List ℕ → ℕ → ℕ → Bool
+writesPast t l s x = eqb ((txn t s) .kind) aSettled && not (holdsExclusive (lock l x) s)
+
+-- "for read and write 3, 4, 5, 6, then 2 or 1"; request E2: 11 "comes after 6 and before the conflict"; request E6: 12 is "tested
+-- before 11". A query reads by its start: "No lock", and since request E6 a wait only for one past its writing
 unfoldable pub readBy : Sizes → ℕ → ℕ → Tables → Deed
 readBy S n x G =
     let s = slotOf S (G .txns) n in
     cond (eqb s (S .slots)) (Refused UnknownTransaction)
     (cond (leb (S .items) x) (Refused UnknownItem)
     (cond (awaitsOther (G .txns) s sharedLock x) (Refused StillWaiting)
-    (cond (eqb ((txn (G .txns) s) .kind) aQuery) (ReadsByStart (asSlot s) (asItem x))
-    (access S toRead s x 0 G))))
+    (cond (eqb ((txn (G .txns) s) .kind) anUpdate) (access S toRead s x 0 G)
+    (startRead S s x G))))
 
 unfoldable pub writeBy : Sizes → ℕ → ℕ → ℕ → Tables → Deed
 writeBy S n x v G =
@@ -82,19 +103,21 @@ writeBy S n x v G =
     (cond (leb (S .items) x) (Refused UnknownItem)
     (cond (eqb ((txn (G .txns) s) .kind) aQuery) (Refused QueryMayNotWrite)
     (cond (awaitsOther (G .txns) s exclusiveLock x) (Refused StillWaiting)
+    (cond (writesPast (G .txns) (G .locks) s x) (Refused PastWriting)
     (cond (writesFurther S (G .locks) s x) (Refused QuotaSpent)
-    (access S toWrite s x v G)))))
+    (access S toWrite s x v G))))))
 
 -- ---- Commit and abort
--- "for commit 3, 6, 9"; "A query only ends."
+-- "for commit 3, 6, 9"; "A query only ends."; request E6: one past its writing "takes no new one" as its stamp, so never 9
 unfoldable pub commitBy : Sizes → ℕ → Tables → Deed
 commitBy S n G =
     let s = slotOf S (G .txns) n in
     cond (eqb s (S .slots)) (Refused UnknownTransaction)
     (cond (not (eqb ((txn (G .txns) s) .awaitedLock) noLock)) (Refused StillWaiting)
     (cond (eqb ((txn (G .txns) s) .kind) aQuery) (Ends (asSlot s))
+    (cond (eqb ((txn (G .txns) s) .kind) aSettled) (CommitsSettled (asSlot s))
     (cond (eqb (clock (G .txns)) lastWord) (Refused ClockSpent)
-    (Commits (asSlot s)))))
+    (Commits (asSlot s))))))
 
 -- "for abort 3"; "for a query is the same as commit"
 unfoldable pub abortBy : Sizes → ℕ → Tables → Deed
@@ -102,9 +125,22 @@ abortBy S n G =
     let s = slotOf S (G .txns) n in
     cond (eqb s (S .slots)) (Refused UnknownTransaction)
     (cond (eqb ((txn (G .txns) s) .kind) aQuery) (Ends (asSlot s))
-    (Aborts (asSlot s)))
+    (cond (eqb ((txn (G .txns) s) .kind) aSettled) (AbortsSettled (asSlot s))
+    (Aborts (asSlot s))))
 
--- ---- the six calls. "A query's start is the clock."
+-- ---- Settle (request E6)
+-- "Order: 10, 3, 5 for a query, 12 if already past its writing, 6, 9."
+unfoldable pub settleBy : Sizes → ℕ → Tables → Deed
+settleBy S n G =
+    let s = slotOf S (G .txns) n in
+    cond (eqb s (S .slots)) (Refused UnknownTransaction)
+    (cond (eqb ((txn (G .txns) s) .kind) aQuery) (Refused QueryMayNotWrite)
+    (cond (eqb ((txn (G .txns) s) .kind) aSettled) (Refused PastWriting)
+    (cond (not (eqb ((txn (G .txns) s) .awaitedLock) noLock)) (Refused StillWaiting)
+    (cond (eqb (clock (G .txns)) lastWord) (Refused ClockSpent)
+    (Settles (asSlot s))))))
+
+-- ---- the seven calls. "A query's start is the clock."
 unfoldable pub judged : Sizes → Call → Tables → Deed
 judged S BeginUpdate G = beginBy S anUpdate firstStamp G
 judged S BeginQuery G = beginBy S aQuery (clock (G .txns)) G
@@ -112,6 +148,7 @@ judged S (Read n x) G = readBy S n x G
 judged S (Write n x v) G = writeBy S n x v G
 judged S (Commit n) G = commitBy S n G
 judged S (Abort n) G = abortBy S n G
+judged S (Settle n) G = settleBy S n G
 
 -- ==== what each deed answers and changes
 
@@ -150,7 +187,7 @@ sharedToo h s = record { shared = withBit (h .shared) s; exclusive = h .exclusiv
 abbrev pub taken : Lock → ℕ → ℕ → Lock
 taken h s v = record { shared = withoutBit (h .shared) s; exclusive = suc s; working = v }
 
--- ---- Read by a query
+-- ---- Read by a query, and since request E6 by one past its writing
 -- "The value is that of the newest version whose stamp is at most its start. .. The looked count is the place of that version in its
 -- row, from 1."
 unfoldable pub queryRead : Sizes → ℕ → ℕ → Tables → Outcome
@@ -165,12 +202,21 @@ queryRead S s x G =
 unfoldable pub withNew : List ℕ → ℕ → ℕ → ℕ → List Version → List Version
 withNew l s c x vs = cond (holdsExclusive (lock l x) s) (record { stamp = c; value = (lock l x) .working } ∷ vs) vs
 
--- "An update takes clock plus 1, also when it wrote nothing." "Its locks, working values and row go."
+-- "Its locks, working values and row go.": slot s, under the stamp c, t being the transactions with the clock as it is then
+unfoldable pub committedUnder : Sizes → ℕ → ℕ → List ℕ → Tables → Tables
+committedUnder S s c u G =
+    let t = setTxn u s noTxn in
+    tables t (release S s (G .locks)) (rewritten S (starts S t) (withNew (G .locks) s c) (G .versions))
+
+-- "An update takes clock plus 1, also when it wrote nothing."
 unfoldable pub committed : Sizes → ℕ → Tables → Tables
 committed S s G =
     let c = clock (G .txns) + 1 in
-    let t = setTxn (set (G .txns) clockAt c) s noTxn in
-    tables t (release S s (G .locks)) (rewritten S (starts S t) (withNew (G .locks) s c) (G .versions))
+    committedUnder S s c (set (G .txns) clockAt c) G
+
+-- request E6: "Its commit puts versions under that stamp, answers it and takes no new one"
+unfoldable pub settledCommitted : Sizes → ℕ → Tables → Tables
+settledCommitted S s G = committedUnder S s ((txn (G .txns) s) .start) (G .txns) G
 
 -- "A query only ends."
 unfoldable pub ended : Sizes → ℕ → Tables → Tables
@@ -182,6 +228,20 @@ ended S s G =
 -- "Abort removes locks, working values and the row"; request E4: and its place in the line
 unfoldable pub aborted : Sizes → ℕ → Tables → Tables
 aborted S s G = withLocks G (setTxn (closedUp S (G .txns) s) s noTxn) (release S s (G .locks))
+
+-- request E6: "its abort trims rows as a query's end does"
+unfoldable pub settledAborted : Sizes → ℕ → Tables → Tables
+settledAborted S s G =
+    let t = setTxn (G .txns) s noTxn in
+    tables t (release S s (G .locks)) (rewritten S (starts S t) (λ x vs. vs) (G .versions))
+
+-- ---- Settle
+-- "the update takes clock plus 1 as its stamp, the clock moves there, .. and its shared locks go. Its row then has kind 2 and that
+-- stamp as start."
+unfoldable pub settled : Sizes → ℕ → Tables → Tables
+settled S s G =
+    let c = clock (G .txns) + 1 in
+    withLocks G (setTxn (set (G .txns) clockAt c) s (newTxn ((txn (G .txns) s) .number) aSettled c)) (unshare S s (G .locks))
 
 -- ---- each deed. "begin: number is the new number; update commit: number is the stamp; read: value, and looked is 1 for the newest
 -- value, 0 for the own working value, the place for a query"
@@ -200,6 +260,10 @@ done S (TakesExclusive s x v) G = says granted 0 0 0 (locked S (s .0) (x .0) (ta
 done S (Commits s) G = says granted 0 (clock (G .txns) + 1) 0 (committed S (s .0) G)
 done S (Ends s) G = says granted 0 0 0 (ended S (s .0) G)
 done S (Aborts s) G = says granted 0 0 0 (aborted S (s .0) G)
+-- "the stamp is answered as number"
+done S (Settles s) G = says granted 0 (clock (G .txns) + 1) 0 (settled S (s .0) G)
+done S (CommitsSettled s) G = says granted 0 ((txn (G .txns) (s .0)) .start) 0 (settledCommitted S (s .0) G)
+done S (AbortsSettled s) G = says granted 0 0 0 (settledAborted S (s .0) G)
 
 -- ==== a call, on good tables and on any
 unfoldable pub act : Sizes → Call → Tables → Outcome

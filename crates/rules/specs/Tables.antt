@@ -6,7 +6,7 @@ use mathlib.Core.List.{List, [], _∷_}
 use lib.ListN.{getD, set, drop, replicate}
 use lib.Dec.{eqb}
 use Rattle.names.specs.declared.Sizes.{Sizes}
-pub use Rattle.names.specs.Layout.{anUpdate, aQuery, noLock, sharedLock, exclusiveLock, lockRow}
+pub use Rattle.names.specs.Layout.{anUpdate, aQuery, aSettled, noLock, sharedLock, exclusiveLock, lockRow}
 use Rattle.names.specs.Layout.{lastNumberAt, clockAt, txnHead, txnNumberAt, txnKindAt, txnStartAt, txnLockAt, txnItemAt, txnRankAt, txnRow}
 use Rattle.names.specs.Layout.{lockSharedAt, lockExclusiveAt, lockWorkingAt, versionStampAt, versionPair}
 use Rattle.rules.specs.Words.{countBelow, firstFrom, mapRows, bit, withoutBit}
@@ -34,7 +34,8 @@ abbrev pub putFrom : List ℕ → ℕ → ℕ → List ℕ → List ℕ
 putFrom l b k [] = l
 putFrom l b k (w ∷ ws) = putFrom (set l (behind b k) w) b (suc k) ws
 
--- ---- "Transactions ..: last number given; clock (stamp of the latest update commit); then 16 rows", 32 since request E5
+-- ---- "Transactions ..: last number given; clock (stamp of the latest update commit); then 16 rows", 32 since request E5. Since request
+-- E6 the clock is the stamp that was given last, at a commit or at a settle
 abbrev pub lastNumber : List ℕ → ℕ
 lastNumber t = getD t lastNumberAt 0
 
@@ -48,7 +49,7 @@ abbrev pub txnWords : Sizes → ℕ
 txnWords S = txnAt (S .slots)
 
 -- "number (0 is free), kind (0 update, 1 query), start stamp (0 for an update), awaited lock (0 none, 1 shared, 2 exclusive),
--- awaited item (0 if none)"; request E4: "a word for its rank on the awaited item"
+-- awaited item (0 if none)"; request E4: "a word for its rank on the awaited item"; request E6: "kind 2 and that stamp as start"
 pub record Txn : Type 0 where
   pub number : ℕ
   pub kind : ℕ
@@ -116,6 +117,18 @@ liveUpdate r = live r && eqb (r .kind) anUpdate
 unfoldable pub liveQuery : Txn → Bool
 liveQuery r = live r && eqb (r .kind) aQuery
 
+-- request E6: an update past its writing. An update that still writes is `liveUpdate`
+unfoldable pub liveSettled : Txn → Bool
+liveSettled r = live r && eqb (r .kind) aSettled
+
+-- who may hold an item exclusively: an update, past its writing or not
+unfoldable pub mayHold : Txn → Bool
+mayHold r = liveUpdate r || liveSettled r
+
+-- who reads by a start: queries, and those past their writing. "Version rules and the bound on looked count such readers as queries."
+unfoldable pub byStart : Txn → Bool
+byStart r = live r && not (eqb (r .kind) anUpdate)
+
 -- the slot of the live transaction with the number n, or the number of slots where there is none
 unfoldable pub slotOf : Sizes → List ℕ → ℕ → ℕ
 slotOf S t n = firstFrom (λ s. live (txn t s) && eqb ((txn t s) .number) n) 0 (S .slots)
@@ -124,14 +137,14 @@ slotOf S t n = firstFrom (λ s. live (txn t s) && eqb ((txn t s) .number) n) 0 (
 unfoldable pub freeSlot : Sizes → List ℕ → ℕ
 freeSlot S t = firstFrom (λ s. not (live (txn t s))) 0 (S .slots)
 
--- the starts of the live queries in n slots from slot s on
+-- the starts of the readers in n slots from slot s on
 unfoldable pub startsFrom : List ℕ → ℕ → ℕ → List ℕ
 startsFrom t s zero = []
 startsFrom t s (suc n) =
     let rest = startsFrom t (suc s) n in
-    cond (liveQuery (txn t s)) ((txn t s) .start ∷ rest) rest
+    cond (byStart (txn t s)) ((txn t s) .start ∷ rest) rest
 
--- the starts of all who read by a start: the live queries
+-- the starts of all who read by one
 unfoldable pub starts : Sizes → List ℕ → List ℕ
 starts S t = startsFrom t 0 (S .slots)
 
@@ -180,6 +193,13 @@ released s h =
 
 unfoldable pub release : Sizes → ℕ → List ℕ → List ℕ
 release S s l = mapRows (S .items) lockRow (λ x r. lockWordsOf (released s (lockIn r))) 0 l
+
+-- request E6, "and its shared locks go"
+abbrev pub unshared : ℕ → Lock → Lock
+unshared s h = record { shared = withoutBit (h .shared) s; exclusive = h .exclusive; working = h .working }
+
+unfoldable pub unshare : Sizes → ℕ → List ℕ → List ℕ
+unshare S s l = mapRows (S .items) lockRow (λ x r. lockWordsOf (unshared s (lockIn r))) 0 l
 
 -- ---- "Versions ..: 64 rows ..: a count, then 16 pairs of stamp and value, newest first, unused pairs zero.", and of request E5 "so the
 -- version table has 64 rows of 65 words"

@@ -8,9 +8,9 @@ use Rattle.names.specs.declared.Sizes.{Sizes}
 use Rattle.names.specs.Sizes.{lastWord}
 use Rattle.rules.specs.Words.{implies, every, everyBelow, everyRow}
 use Rattle.rules.specs.Tables.{Tables, txnWords, lockWords, versionWords, versionRow}
-use Rattle.rules.specs.Tables.{lastNumber, clock, Txn, txn, live, liveUpdate, liveQuery, starts}
-use Rattle.rules.specs.Tables.{aQuery, noLock, sharedLock, exclusiveLock, Lock, lock, holds, holdsShared, holdsExclusive, exclusivesOf}
-use Rattle.rules.specs.Versions.{Version, versionsIn, stampAt, readBySome}
+use Rattle.rules.specs.Tables.{lastNumber, clock, Txn, txn, live, liveUpdate, liveSettled, mayHold, byStart, starts}
+use Rattle.rules.specs.Tables.{aSettled, noLock, sharedLock, exclusiveLock, Lock, lock, holds, holdsShared, holdsExclusive, exclusivesOf}
+use Rattle.rules.specs.Versions.{Version, versionsIn, versionsOf, stampAt, readBySome}
 use Rattle.rules.specs.Waits.{awaits, awaitsOn, waitersOn, noCircle}
 
 -- "The sizes are exact."
@@ -31,12 +31,14 @@ freeZero r =
 
 -- "kinds and awaited locks are as listed"
 unfoldable pub listed : Txn → Bool
-listed r = leb (r .kind) aQuery && leb (r .awaitedLock) exclusiveLock
+listed r = leb (r .kind) aSettled && leb (r .awaitedLock) exclusiveLock
 
--- "an update's start is 0, a query's is at most the clock, and a query awaits nothing"
+-- "an update's start is 0, a query's is at most the clock, and a query awaits nothing"; request E6: such a row "awaits nothing; its
+-- stamp is 1 to the clock"
 unfoldable pub startGood : ℕ → Txn → Bool
 startGood now r =
-    implies (liveUpdate r) (eqb (r .start) 0) && implies (liveQuery r) (leb (r .start) now && eqb (r .awaitedLock) noLock)
+    implies (liveUpdate r) (eqb (r .start) 0)
+    && (implies (byStart r) (leb (r .start) now && eqb (r .awaitedLock) noLock) && implies (liveSettled r) (leb 1 (r .start)))
 
 -- "an awaited item is below 64, and 0 where nothing is awaited"; request E4: the rank is "0 if it awaits nothing"
 unfoldable pub awaitedGood : Sizes → Txn → Bool
@@ -61,12 +63,12 @@ distinct S t =
     everyBelow (S .slots) (λ s. everyBelow s (λ r. implies (live (txn t s)) (not (eqb ((txn t r) .number) ((txn t s) .number)))))
 
 -- ---- one lock
--- "Lock holders are slots of live updates"
+-- "Lock holders are slots of live updates"; request E6: "such a row holds no shared lock"
 unfoldable pub holdersLive : Sizes → List ℕ → Lock → Bool
 holdersLive S t h =
     ltb (h .shared) (2 ^ S .slots)
     && (leb (h .exclusive) (S .slots)
-    && everyBelow (S .slots) (λ s. implies (holds h s) (liveUpdate (txn t s))))
+    && everyBelow (S .slots) (λ s. implies (holdsShared h s) (liveUpdate (txn t s)) && implies (holdsExclusive h s) (mayHold (txn t s))))
 
 -- "a row has shared holders or an exclusive one, never both; without an exclusive holder the working value is 0"
 unfoldable pub lockGood : Sizes → List ℕ → Lock → Bool
@@ -77,11 +79,11 @@ lockGood S t h =
 -- ---- request E2: what one slot holds exclusively, n items
 -- "at most 32 for each update"
 unfoldable pub quotaMost : Sizes → ℕ → Txn → Bool
-quotaMost S n r = implies (liveUpdate r) (leb n (S .quota))
+quotaMost S n r = implies (mayHold r) (leb n (S .quota))
 
 -- "and one with 32 awaits no exclusive lock"
 unfoldable pub fullIdle : Sizes → ℕ → Txn → Bool
-fullIdle S n r = implies (liveUpdate r && eqb n (S .quota)) (not (eqb (r .awaitedLock) exclusiveLock))
+fullIdle S n r = implies (mayHold r && eqb n (S .quota)) (not (eqb (r .awaitedLock) exclusiveLock))
 
 unfoldable pub quotaGood : Sizes → List ℕ → ℕ → Txn → Bool
 quotaGood S l s r = quotaMost S (exclusivesOf S l s) r && fullIdle S (exclusivesOf S l s) r
@@ -116,7 +118,7 @@ falls [] = true
 falls (v ∷ []) = true
 falls (v ∷ w ∷ vs) = let older = falls (w ∷ vs) in ltb (w .stamp) (v .stamp) && older
 
--- "the last is at most every live query's start"
+-- "the last is at most every live query's start", and that of those past their writing
 unfoldable pub lastOld : List ℕ → List Version → Bool
 lastOld qs vs = every (λ q. leb (stampAt vs (length vs - 1)) q) qs
 
@@ -133,6 +135,26 @@ versionsGood S now qs r =
     && (every (λ w. eqb w 0) (drop (1 + 2 * getD r 0 0) r)
     && (let vs = versionsIn r in falls vs && (leb (stampAt vs 0) now && (lastOld qs vs && allRead qs vs 0 vs)))))
 
+-- ---- request E6: those past their writing
+-- "no other such row has it": slots r and s
+unfoldable pub stampsApart : List ℕ → ℕ → ℕ → Bool
+stampsApart t r s =
+    implies (liveSettled (txn t r) && liveSettled (txn t s)) (not (eqb ((txn t r) .start) ((txn t s) .start)))
+
+-- "and every version of an item it holds has a lower one": slot s, item x. What follows of those past their writing is bound by `let`,
+-- so that it is computed only for them
+unfoldable pub stampAbove : Sizes → Tables → ℕ → ℕ → Bool
+stampAbove S G s x =
+    let above = ltb (stampAt (versionsOf S (G .versions) x) 0) ((txn (G .txns) s) .start) in
+    implies (holdsExclusive (lock (G .locks) x) s) above
+
+unfoldable pub settledGood : Sizes → Tables → Bool
+settledGood S G =
+    everyBelow (S .slots)
+    (λ s.
+    let above = everyBelow (S .items) (stampAbove S G s) in
+    everyBelow s (λ r. stampsApart (G .txns) r s) && implies (liveSettled (txn (G .txns) s)) above)
+
 -- ---- "Tables are good when all of this holds."
 unfoldable pub good : Sizes → Tables → Bool
 good S G =
@@ -144,4 +166,4 @@ good S G =
     && (everyBelow (S .slots) (λ s. quotaGood S (G .locks) s (txn (G .txns) s))
     && ((let qs = starts S (G .txns) in
     everyRow (S .items) (versionRow S) (λ x r. versionsGood S (clock (G .txns)) qs r) 0 (G .versions))
-    && (ranksGood S (G .txns) (G .locks) && noCircle S (G .txns) (G .locks))))))))
+    && (ranksGood S (G .txns) (G .locks) && (settledGood S G && noCircle S (G .txns) (G .locks)))))))))
