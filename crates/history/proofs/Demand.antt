@@ -40,7 +40,7 @@ module _ (S : Sizes) (enough : S .slots ≤ S .places) (room : 1 ≤ S .places) 
 pub demand-3 : ((cs : List Call) → Serializes base cs) × Undisturbed base
 demand-3 = demand-3-sizes base (omega arith) (omega arith)
 
--- demand 2: "a query reads the newest version committed when it began"
+-- demand 2: "a query reads the newest version committed when it began", since request E6 "the newest version stamped up to its start"
 pub demand-2-query : ReadsAsBegun base
 demand-2-query = reads-sizes base (omega arith) (omega arith)
 

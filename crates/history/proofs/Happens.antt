@@ -14,24 +14,27 @@ use Rattle.names.specs.Sizes.{firstStamp}
 use Rattle.rules.specs.Words.{some}
 use Rattle.rules.specs.Tables.{Tables, clock, txn, live, anUpdate, aQuery, fresh}
 use Rattle.rules.specs.Good.{Good}
-use Rattle.rules.specs.Answers.{Call, Commit, Outcome, granted, refuses, code, Refusal, BadTables, Deed, Wait}
-use Rattle.rules.specs.Step.{queryRead, judged, done, act, step}
+use Rattle.rules.specs.Answers.{Call, Commit, Outcome, says, granted, refuses, code, Refusal, BadTables, Deed, Wait}
+use Rattle.rules.specs.Step.{queryRead, committed, settledCommitted, judged, done, act, step}
 use Rattle.rules.proofs.Tests.{is-true, is-false, eq-make}
 use Rattle.rules.proofs.Steps.{acts}
-use Rattle.rules.proofs.EqualRows.{live-number, update-live}
+use Rattle.rules.proofs.EqualRows.{live-number, update-live, query-live, settled-live}
+use Rattle.rules.proofs.Callers.{Caller}
 use Rattle.rules.proofs.Keeps.{keeps}
 use Rattle.rules.proofs.Fresh.{fresh-good}
 use Rattle.rules.proofs.Judged.{way}
-use Rattle.rules.proofs.Ways.{refusal-code, Way, refused, waited, beganUpdate, beganQuery, readOwn, readNewest, readShared, readQuery}
-use Rattle.rules.proofs.Ways.{wroteOwn, wroteTaken, committedUpdate, committedQuery, abortedUpdate, abortedQuery}
+use Rattle.rules.proofs.Ways.{refusal-code, Way, refused, waited, keptWaiting, beganUpdate, beganQuery, readOwn, readNewest, readShared, readSettled, readByStart}
+use Rattle.rules.proofs.Ways.{wroteOwn, wroteSettled, wroteTaken, committedUpdate, committedSettled, committedQuery, abortedUpdate, abortedSettled, abortedQuery, settledUpdate}
 use Rattle.history.specs.Runs.{endOf}
-use Rattle.history.specs.Happened.{Happening, nothing, did, told, happened, begunWith, names}
+use Rattle.history.specs.Happened.{Happening, updateCommitted, nothing, did, told, happened, begunWith, names}
 use Rattle.history.specs.ByAnswers.{byAnswer}
 use Rattle.history.proofs.Turns.{Turn, Known, known-on}
-use Rattle.history.proofs.Tables.{readAt, fresh-last}
+use Rattle.history.proofs.Tables.{fresh-last}
+use Rattle.history.proofs.Leaving.{readAt}
 use Rattle.history.proofs.Seen.{seen, seen-fair}
-use Rattle.history.proofs.Moves.{refused-turn, wait-turn, begin-update-turn, begin-query-turn, own-turn, newest-turn, shared-turn, query-read-turn}
-use Rattle.history.proofs.Moves.{own-write-turn, taken-turn, commit-turn, end-turn, abort-turn}
+use Rattle.history.proofs.Moves.{refused-turn, wait-turn, begin-update-turn, begin-query-turn, own-turn, newest-turn, shared-turn, past-turn, start-read-turn}
+use Rattle.history.proofs.Moves.{own-write-turn, past-write-turn, taken-turn}
+use Rattle.history.proofs.Endings.{commit-turn, settled-commit-turn, end-turn, abort-turn, settled-abort-turn, settle-turn}
 
 told-refused : (u : Bool) (c : Call) (a : Answer) → a .code ≢ granted → told u c a ≡ nothing
 unfolding told
@@ -87,33 +90,52 @@ module _ (S : Sizes) (enough : S .slots ≤ S .places) (G : Tables) (g : Good S 
   unfolding byAnswer
   plainly c o h e t f = grants c o h e t (λ us K. f _) (told-granted _ c (o .answer) e ∙ f _)
 
+  -- a commit of an update, under the stamp k, which is not 0
+  commits-as :
+      (n s k : ℕ) (C : Caller S G n s) (G′ : Tables) → (txn (G .txns) s) .kind ≢ aQuery → k ≢ 0 → TurnTo G′ (Commit n) (updateCommitted n k)
+      → Happens S G (Commit n) (says granted 0 k 0 G′)
+  unfolding did told byAnswer names
+  commits-as n s k C G′ u d turn =
+      grants (Commit n) (says granted 0 k 0 G′) (updateCommitted n k) refl turn
+      (λ us K.
+      ap (λ (b : Bool). did b (Commit n) ((says granted 0 k 0 G′) .answer))
+      (is-true (some (eqb n) us) (subst (λ (m : ℕ). T (some (eqb m) us)) (C .name) (K .updates s (C .inside, C .alive) u))))
+      (ap (λ (b : Bool). told (not b) (Commit n) ((says granted 0 k 0 G′) .answer)) (ne-eqb k 0 d))
+
   -- ---- every way
   happens : (c : Call) (d : Deed) → Way S G c d → Happens S G c (done S d G)
   unfolding done did told byAnswer names queryRead readAt
   happens c d (refused r m) = silent c r G (m .0) (refused-turn S G g)
   happens c d (waited s k x w) = silent c Wait _ (λ z. omega arith) (wait-turn S G g s k x (w .caller .inside))
+  happens c d (keptWaiting s C q) = silent c Wait G (λ z. omega arith) (refused-turn S G g)
   happens c d (beganUpdate s free l) = plainly c _ _ refl (begin-update-turn S G g anUpdate firstStamp s free refl) (λ u. refl)
   happens c d (beganQuery s free l) = plainly c _ _ refl (begin-query-turn S G g aQuery (clock (G .txns)) s free refl refl) (λ u. refl)
-  happens c d (readOwn n s x U h) = plainly c _ _ refl (own-turn S G g n s _ x U h) (λ u. refl)
-  happens c d (readNewest n s x U h) = plainly c _ _ refl (newest-turn S G g n s _ x U h) (λ u. refl)
-  happens c d (readShared n s x U h f) = plainly c _ _ refl (shared-turn S G g n s _ x U f) (λ u. refl)
-  happens c d (readQuery n s x C q b) = plainly c _ _ refl (query-read-turn S G g n s x C q b) (λ u. refl)
-  happens c d (wroteOwn n s x v U h) = plainly c _ _ refl (own-write-turn S G g n s _ x U v h) (λ u. refl)
-  happens c d (wroteTaken n s x v U h alone q) = plainly c _ _ refl (taken-turn S G g n s _ x U v alone) (λ u. refl)
+  happens c d (readOwn n s x U h) = plainly c _ _ refl (own-turn S G g n s x (U .caller) (U .known) (U .update) h) (λ u. refl)
+  happens c d (readNewest n s x U h) = plainly c _ _ refl (newest-turn S G g n s x (U .caller) (U .known) (U .update) h) (λ u. refl)
+  happens c d (readShared n s x U h f) = plainly c _ _ refl (shared-turn S G g n s x (U .caller) (U .known) (U .update) f) (λ u. refl)
+  happens c d (readSettled n s x C p b h) = plainly c _ _ refl (past-turn S G g n s x C b p h) (λ u. refl)
+  happens c d (readByStart n s x C q b own free) = plainly c _ _ refl (start-read-turn S G g n s x C q b own free) (λ u. refl)
+  happens c d (wroteOwn n s x v U h) = plainly c _ _ refl (own-write-turn S G g n s x (U .caller) (U .known) (U .update) v h) (λ u. refl)
+  happens c d (wroteSettled n s x v C p b h) = plainly c _ _ refl (past-write-turn S G g n s x C b v p h) (λ u. refl)
+  happens c d (wroteTaken n s x v U h alone q) = plainly c _ _ refl (taken-turn S G g n s x (U .caller) (U .known) (U .update) v alone) (λ u. refl)
   happens c d (committedUpdate n s C u i l) =
-      grants c _ _ refl (commit-turn S G g enough n s C (eq-make n n refl) u)
-      (λ us K.
-      ap (λ (b : Bool). did b (Commit n) ((done S d G) .answer))
-      (is-true (some (eqb n) us) (subst (λ (m : ℕ). T (some (eqb m) us)) (C .name) (K .updates s (C .inside, u)))))
-      (ap (λ (b : Bool). told (not b) (Commit n) ((done S d G) .answer)) (ne-eqb (clock (G .txns) + 1) 0 (λ z. omega arith)))
+      commits-as n s (clock (G .txns) + 1) C (committed S s G) (λ z. let k = update-live (txn (G .txns) s) u .1 in omega arith) (λ z. omega arith)
+      (commit-turn S G g enough n s C (eq-make n n refl) u)
+  happens c d (committedSettled n s C p) =
+      commits-as n s ((txn (G .txns) s) .start) C (settledCommitted S s G) (λ z. let k = settled-live (txn (G .txns) s) p .1 in omega arith)
+      (λ z. let k = g .txnGood s (C .inside) .settledStart p in omega arith)
+      (settled-commit-turn S G g enough n s C (eq-make n n refl) p)
   happens c d (committedQuery n s C q) =
-      grants c _ _ refl (end-turn S G g enough n s C (eq-make n n refl) q)
+      grants c _ _ refl (end-turn S G g enough n s C (eq-make n n refl))
       (λ us K.
       ap (λ (b : Bool). did b (Commit n) ((done S d G) .answer))
-      (is-false (some (eqb n) us) (λ a. K .queries s (C .inside, q) (subst (λ (m : ℕ). T (some (eqb m) us)) (sym (C .name)) a))))
+      (is-false (some (eqb n) us)
+      (λ a. K .queries s ((C .inside, C .alive), query-live (txn (G .txns) s) q .1) (subst (λ (m : ℕ). T (some (eqb m) us)) (sym (C .name)) a))))
       refl
-  happens c d (abortedUpdate n s C u) = plainly c _ _ refl (abort-turn S G g enough n s C (eq-make n n refl) u) (λ u. refl)
-  happens c d (abortedQuery n s C q) = plainly c _ _ refl (end-turn S G g enough n s C (eq-make n n refl) q) (λ u. refl)
+  happens c d (abortedUpdate n s C u) = plainly c _ _ refl (abort-turn S G g enough n s C (eq-make n n refl)) (λ u. refl)
+  happens c d (abortedSettled n s C p) = plainly c _ _ refl (settled-abort-turn S G g enough n s C (eq-make n n refl)) (λ u. refl)
+  happens c d (abortedQuery n s C q) = plainly c _ _ refl (end-turn S G g enough n s C (eq-make n n refl)) (λ u. refl)
+  happens c d (settledUpdate n s C u i l) = plainly c _ _ refl (settle-turn S G g enough n s C u) (λ u. refl)
 
 -- ---- a step
 module _ (S : Sizes) (enough : S .slots ≤ S .places) where
@@ -165,7 +187,7 @@ module _ (S : Sizes) (enough : S .slots ≤ S .places) where
     unfolding some
     fresh-known =
         record {
-          updates = λ s u. absurd (nobody s (u .0) (update-live (txn ((fresh S) .txns) s) (u .1) .0));
+          updates = λ s a k. absurd (nobody s (a .0) (a .1));
           queries = λ s q a. a;
           given = λ n a. absurd a;
         }

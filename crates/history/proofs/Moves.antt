@@ -1,36 +1,36 @@
--- Each way that a call can go on good tables is a turn of what is seen of them.
+-- Each way that a call can go on good tables is a turn of what is seen of them: reads, writes, begins and whatever changes nothing. The
+-- ends, commits and settles are in Endings.
 use Prim.Native.Nat.{ℕ, suc, _+_, _≤_, _<_}
 use mathlib.Core.Path.{_≡_, refl, sym, ap, _∙_, subst}
 use mathlib.Core.Logic.{_≢_, _⊎_, inl, inr}
-use mathlib.Core.Bool.{true, false, _||_, cond}
+use mathlib.Core.Bool.{true, false, not, _||_, cond}
 use mathlib.Core.List.{List}
 use native.Mathlib.Omega.{arith}
 use lib.Dec.{T, eqb, eqb→eq, eqb·zero-suc}
-use borrow.Author.Tests.{eq-eqb}
+use borrow.Author.Tests.{eq-eqb, le-leb}
 use Rattle.names.specs.declared.Sizes.{Sizes}
 use Rattle.rules.specs.Words.{bit, withBit}
-use Rattle.rules.specs.Tables.{Tables, tables, lastNumber, clock, Txn, txn, noTxn, liveUpdate, liveQuery}
-use Rattle.rules.specs.Tables.{anUpdate, aQuery, Lock, lock, setLock, holds, holdsShared, holdsExclusive}
+use Rattle.rules.specs.Tables.{Tables, tables, lastNumber, clock, Txn, txn, live, liveUpdate, liveSettled, byStart}
+use Rattle.rules.specs.Tables.{anUpdate, aQuery, aSettled, Lock, lock, setLock, holds, holdsShared, holdsExclusive}
 use Rattle.rules.specs.Versions.{newest}
 use Rattle.rules.specs.Waits.{noted}
 use Rattle.rules.specs.Good.{Good}
 use Rattle.rules.specs.Answers.{Call}
-use Rattle.rules.specs.Step.{withTxns, begun, cleared, locked, replaced, sharedToo, taken, committed, ended, aborted}
-use Rattle.rules.proofs.Tests.{or-left, or-right, is-true, is-false, true-is, same?}
+use Rattle.rules.specs.Step.{withTxns, begun, cleared, locked, replaced, sharedToo, taken, holdsBack, heldBack}
+use Rattle.rules.proofs.Tests.{or-left, or-right, and-both, ne-make, is-true, is-false, true-is, false-is, same?}
+use Rattle.rules.proofs.Counts.{→someBelow}
 use Rattle.rules.proofs.Bits.{withBit-here}
 use Rattle.rules.proofs.Views.{lock-setLock, lock-setLock-other}
-use Rattle.rules.proofs.EqualRows.{number-live, update-live, query-live, live-query}
-use Rattle.rules.proofs.Callers.{Caller, Free, query-kind, update-kind, update-alive}
+use Rattle.rules.proofs.EqualRows.{number-live, update-live, settled-live, live-settled, reader-live, holder-live}
+use Rattle.rules.proofs.Callers.{Caller, Free}
 use Rattle.rules.proofs.Decisions.{never-both}
-use Rattle.rules.proofs.Ways.{Updater}
-use Rattle.history.specs.Happened.{got, put, Happening, updateBegan, queryBegan, accessed, updateCommitted, onlyEnded, nothing, names}
-use Rattle.history.proofs.Invariant.{Kept}
-use Rattle.history.proofs.Turns.{Same, New, byLock, byStart, Left, Turn, quiet, updateBegins, queryBegins, reads, writes, commits, ends}
+use Rattle.history.specs.Happened.{got, put, Happening, updateBegan, queryBegan, accessed, nothing}
+use Rattle.history.proofs.Invariant.{Row, Sees}
+use Rattle.history.proofs.Turns.{Same, New, byLock, byOwn, byStart as by-start, Turn, quiet, updateBegins, queryBegins, reads, writes}
 use Rattle.history.proofs.Tables.{same-row, Quiet, noted-quiet, cleared-quiet, begun-here, begun-there, begun-last, begun-clock}
-use Rattle.history.proofs.Tables.{SameHold, same-hold, shared-hold, replaced-hold, taken-hold, release-hold, readAt, reads-newest}
-use Rattle.history.proofs.Tables.{aborted-here, aborted-there, aborted-last, aborted-clock, ended-here, ended-there, ended-last, ended-clock}
-use Rattle.history.proofs.Tables.{ended-newest, ended-reads, committed-here, committed-there, committed-last, committed-clock, committed-newest, committed-reads}
-use Rattle.history.proofs.Seen.{seen, kept-by, free-dead}
+use Rattle.history.proofs.Tables.{SameHold, same-hold, shared-hold, replaced-hold, taken-hold}
+use Rattle.history.proofs.Leaving.{readAt, reads-newest}
+use Rattle.history.proofs.Seen.{seen, row-by, locks-by, sees-by}
 
 module _ (S : Sizes) (G : Tables) (g : Good S G) where
   abbrev t : List ℕ
@@ -53,39 +53,74 @@ module _ (S : Sizes) (G : Tables) (g : Good S G) where
 
   -- ---- nothing is changed
   unchanged : SameIn G
-  unchanged = record { kept = λ r. kept-by S G G r (same-row refl) (still r) (λ y b q. refl); current = λ y b. refl; last = refl; clock = refl }
+  unchanged =
+      record {
+        rows = λ r. row-by S G G r (same-row refl);
+        locks = λ r. locks-by S G G r (still r);
+        sees = λ r. sees-by S G G r (same-row refl) (λ y b i q. refl);
+        current = λ y b. refl;
+        last = refl;
+        clock = refl;
+      }
 
   pub refused-turn : {c : Call} → TurnTo G c nothing
   refused-turn = quiet unchanged
 
   -- ---- the awaited fields are not seen
-  awaited-kept :
-      (t′ : List ℕ) → Quiet t t′ → (l′ : List ℕ) (r : ℕ) → ((y : ℕ) → y < S .items → SameHold (lock l y) (lock l′ y) r)
-      → Kept (S .items) (seen S G) (seen S (tables t′ l′ v)) r
-  awaited-kept t′ q l′ r L = kept-by S G (tables t′ l′ v) r (q .rows r) L (λ y b q. refl)
+  module _ (t′ : List ℕ) (q : Quiet t t′) (l′ : List ℕ) where
+    abbrev G₁ : Tables
+    G₁ = tables t′ l′ v
 
-  awaited-same :
-      (t′ : List ℕ) → Quiet t t′ → (l′ : List ℕ) → ((r y : ℕ) → y < S .items → SameHold (lock l y) (lock l′ y) r)
-      → SameIn (tables t′ l′ v)
-  awaited-same t′ q l′ L =
-      record { kept = λ r. awaited-kept t′ q l′ r (L r); current = λ y b. refl; last = q .last; clock = q .clock-is }
+    awaited-row : (r : ℕ) → Row (seen S G) (seen S (tables t′ l′ v)) r
+    awaited-row r = row-by S G G₁ r (q .rows r)
+
+    awaited-sees : (r : ℕ) → Sees (S .items) (seen S G) (seen S (tables t′ l′ v)) r
+    awaited-sees r = sees-by S G G₁ r (q .rows r) (λ y b i h. refl)
+
+    awaited-same : ((r y : ℕ) → y < S .items → SameHold (lock l y) (lock l′ y) r) → SameIn (tables t′ l′ v)
+    awaited-same L =
+        record {
+          rows = awaited-row;
+          locks = λ r. locks-by S G G₁ r (L r);
+          sees = awaited-sees;
+          current = λ y b. refl;
+          last = q .last;
+          clock = q .clock-is;
+        }
 
   pub wait-turn : {c : Call} (s k x : ℕ) → s < S .slots → TurnTo (withTxns G (noted S t l s k x)) c nothing
   wait-turn s k x i = quiet (awaited-same (noted S t l s k x) (noted-quiet S t (g .txnsExact) s i l k x) l still)
 
-  -- ---- a query's read
-  pub query-read-turn :
-      {c : Call} (n s x : ℕ) → Caller S G n s → T (liveQuery (txn t s)) → x < S .items
-      → TurnTo G c (accessed n (got x (readAt S v ((txn t s) .start) x)))
-  query-read-turn n s x C q b = reads n s x _ (C .name) b unchanged (byStart (C .inside, q) refl)
+  -- ---- a read by a start
+  pub start-read-turn :
+      {c : Call} (n s x : ℕ) → Caller S G n s → T (byStart (txn t s)) → x < S .items → (T (holdsExclusive (lock l x) s) → ⊥)
+      → heldBack S t l x s ≡ false → TurnTo G c (accessed n (got x (readAt S v ((txn t s) .start) x)))
+  unfolding heldBack holdsBack
+  start-read-turn n s x C q b own free =
+      let z = reader-live (txn t s) q in
+      reads n s x _ (C .name) b unchanged (by-start ((C .inside, z .0), z .1) (λ r a m w. other r a m w (same? r s)) refl)
+    where
+      other :
+          (r : ℕ) → ((r < S .slots) × T (live (txn t r))) × ((txn t r) .kind ≡ aSettled) → (txn t r) .start ≤ (txn t s) .start
+          → T (holdsExclusive (lock l x) r) → (r ≡ s) ⊎ (r ≢ s) → ⊥
+      other r a m w (inl e) = own (subst (λ (j : ℕ). T (holdsExclusive (lock l x) j)) e w)
+      other r a m w (inr d) =
+          false-is free
+          (→someBelow (S .slots) (holdsBack t l x s) r (a .0 .0)
+          (and-both (not (eqb s r)) _ (ne-make s r (λ e. d (sym e)))
+          (and-both (holdsExclusive (lock l x) r) _ w
+          (and-both (liveSettled (txn t r)) _ (live-settled (txn t r) (a .0 .1) (a .1)) (true-is (le-leb ((txn t r) .start) ((txn t s) .start) m))))))
 
-  -- ---- an update's reads and writes
-  module _ (n s k x : ℕ) (U : Updater S G n s k x) where
+  -- ---- reads and writes of what is locked
+  module _ (n s x : ℕ) (C : Caller S G n s) (b : x < S .items) where
     abbrev h : Lock
     h = lock l x
 
     abbrev inside : s < S .slots
-    inside = U .caller .inside
+    inside = C .inside
+
+    abbrev alive : (s < S .slots) × T (live (txn t s))
+    alive = (C .inside, C .alive)
 
     cleared-is : Quiet t (cleared S t s)
     cleared-is = cleared-quiet S t (g .txnsExact) s inside
@@ -96,19 +131,12 @@ module _ (S : Sizes) (G : Tables) (g : Good S G) where
     abbrev Takes : ℕ → Tables → Call → Type 0
     Takes w G′ c = TurnTo G′ c (accessed n (put x w))
 
-    -- a read under a lock that is there: only the awaited fields are cleared
-    held-turn : {c : Call} (w : ℕ) → T (holds h s) → w ≡ cond (holdsExclusive h s) (h .working) (newest S v x) → Gives w (withTxns G (cleared S t s)) c
-    held-turn w a e = reads n s x w (U .caller .name) (U .known) (awaited-same (cleared S t s) cleared-is l still) (byLock (inside, U .update) a e)
+    cleared-same : SameIn (withTxns G (cleared S t s))
+    cleared-same = awaited-same (cleared S t s) cleared-is l still
 
-    pub own-turn : {c : Call} → T (holdsExclusive h s) → Gives (h .working) (withTxns G (cleared S t s)) c
-    unfolding holds
-    own-turn a = held-turn (h .working) (or-right (holdsShared h s) _ a) (rw (is-true (holdsExclusive h s) a))
-
-    pub newest-turn : {c : Call} → T (holdsShared h s) → Gives (newest S v x) (withTxns G (cleared S t s)) c
-    unfolding holds
-    newest-turn a =
-        held-turn (newest S v x) (or-left (holdsShared h s) _ a)
-        (rw (is-false (holdsExclusive h s) (λ w. never-both S G g x (U .known) s s w a)))
+    -- past its writing: its own working value
+    pub past-turn : {c : Call} → T (liveSettled (txn t s)) → T (holdsExclusive h s) → Gives (h .working) (withTxns G (cleared S t s)) c
+    past-turn u a = reads n s x (h .working) (C .name) b cleared-same (byOwn (alive, settled-live (txn t s) u .1) a refl)
 
     -- the lock of item x becomes h′
     module _ (h′ : Lock) where
@@ -116,7 +144,7 @@ module _ (S : Sizes) (G : Tables) (g : Good S G) where
       l′ = setLock l x h′
 
       here : lock l′ x ≡ h′
-      here = lock-setLock l x h′ S (g .locksExact) (U .known)
+      here = lock-setLock l x h′ S (g .locksExact) b
 
       there : (y : ℕ) → y ≢ x → lock l′ y ≡ lock l y
       there y d = lock-setLock-other l x h′ y d
@@ -130,18 +158,20 @@ module _ (S : Sizes) (G : Tables) (g : Good S G) where
 
       -- a lock taken exclusively, or held so and given another working value
       write-turn :
-          {c : Call} (w : ℕ) → h′ .exclusive ≡ suc s → h′ .working ≡ w → ((r : ℕ) → r ≢ s → SameHold h h′ r) → Takes w (locked S s x h′ G) c
+          {c : Call} (w : ℕ) → ((txn t s) .kind ≡ anUpdate) ⊎ (((txn t s) .kind ≡ aSettled) × T (holdsExclusive h s))
+          → h′ .exclusive ≡ suc s → h′ .working ≡ w → ((r : ℕ) → r ≢ s → SameHold h h′ r) → Takes w (locked S s x h′ G) c
       unfolding locked holds holdsExclusive
-      write-turn w own is others =
-          writes n s x w (U .caller .name) (U .known)
+      write-turn w may own is others =
+          writes n s x w (C .name) b
           (record {
-            update = (inside, U .update);
-            others = λ r d. awaited-kept (cleared S t s) cleared-is l′ r (relocked r (others r d));
+            alive = alive;
+            may = may;
+            rows = awaited-row (cleared S t s) cleared-is l′;
+            locks = λ r d. locks-by S G (tables (cleared S t s) l′ v) r (relocked r (others r d));
+            sees = awaited-sees (cleared S t s) cleared-is l′;
             current = λ y b. refl;
             last = cleared-is .last;
             clock = cleared-is .clock-is;
-            no-query = not-query;
-            number = cleared-is .rows s .number-is;
             held = λ y b a. mine y (same? y x) a;
             holds-it = rw here held;
             writes-it = rw here mine-here;
@@ -160,28 +190,46 @@ module _ (S : Sizes) (G : Tables) (g : Good S G) where
           mine y (inl e) a = rw (e, here) held
           mine y (inr d) a = subst (λ (o : Lock). T (holds o s)) (sym (there y d)) a
 
-          not-query : (s < S .slots) × T (liveQuery (txn (cleared S t s) s)) → ⊥
-          not-query q =
-              let a = query-kind (cleared S t s) s (q .1) in
-              let b = update-kind t s (U .update) in
-              let c = cleared-is .rows s .kind-is in
-              omega arith
-
-    pub shared-turn : {c : Call} → h .exclusive ≡ 0 → Gives (newest S v x) (locked S s x (sharedToo h s) G) c
-    unfolding locked holds holdsShared holdsExclusive
-    shared-turn none =
-        reads n s x (newest S v x) (U .caller .name) (U .known)
-        (awaited-same (cleared S t s) cleared-is (setLock l x (sharedToo h s)) (λ r. relocked (sharedToo h s) r (shared-hold h s r)))
-        (byLock (inside, U .update)
-        (rw (here (sharedToo h s)) (or-left (bit (withBit (h .shared) s) s) _ (true-is (withBit-here (h .shared) s))))
-        (rw (here (sharedToo h s), none, eqb·zero-suc s)))
-
-    pub own-write-turn : {c : Call} (w : ℕ) → T (holdsExclusive h s) → Takes w (locked S s x (replaced h w) G) c
+    own-write : {c : Call} (w : ℕ) → ((txn t s) .kind ≡ anUpdate) ⊎ (((txn t s) .kind ≡ aSettled) × T (holdsExclusive h s)) → T (holdsExclusive h s) → Takes w (locked S s x (replaced h w) G) c
     unfolding holdsExclusive
-    own-write-turn w a = write-turn (replaced h w) w (eqb→eq (h .exclusive) (suc s) a) refl (λ r d. replaced-hold h s w r a d)
+    own-write w may a = write-turn (replaced h w) w may (eqb→eq (h .exclusive) (suc s) a) refl (λ r d. replaced-hold h s w r a d)
 
-    pub taken-turn : {c : Call} (w : ℕ) → ((r : ℕ) → r ≢ s → T (holds h r) → ⊥) → Takes w (locked S s x (taken h s w) G) c
-    taken-turn w alone = write-turn (taken h s w) w refl refl (λ r d. taken-hold h s w r alone d)
+    pub past-write-turn : {c : Call} (w : ℕ) → T (liveSettled (txn t s)) → T (holdsExclusive h s) → Takes w (locked S s x (replaced h w) G) c
+    past-write-turn w u a = own-write w (inr (settled-live (txn t s) u .1, a)) a
+
+    -- an update that still writes
+    module _ (u : T (liveUpdate (txn t s))) where
+      kind : (txn t s) .kind ≡ anUpdate
+      kind = update-live (txn t s) u .1
+
+      -- a read under a lock that is there: only the awaited fields are cleared
+      held-turn : {c : Call} (w : ℕ) → T (holds h s) → w ≡ cond (holdsExclusive h s) (h .working) (newest S v x) → Gives w (withTxns G (cleared S t s)) c
+      held-turn w a e = reads n s x w (C .name) b cleared-same (byLock (alive, kind) a e)
+
+      pub own-turn : {c : Call} → T (holdsExclusive h s) → Gives (h .working) (withTxns G (cleared S t s)) c
+      unfolding holds
+      own-turn a = held-turn (h .working) (or-right (holdsShared h s) _ a) (rw (is-true (holdsExclusive h s) a))
+
+      pub newest-turn : {c : Call} → T (holdsShared h s) → Gives (newest S v x) (withTxns G (cleared S t s)) c
+      unfolding holds
+      newest-turn a =
+          held-turn (newest S v x) (or-left (holdsShared h s) _ a)
+          (rw (is-false (holdsExclusive h s) (λ w. never-both S G g x b s s w a)))
+
+      pub shared-turn : {c : Call} → h .exclusive ≡ 0 → Gives (newest S v x) (locked S s x (sharedToo h s) G) c
+      unfolding locked holds holdsShared holdsExclusive
+      shared-turn none =
+          reads n s x (newest S v x) (C .name) b
+          (awaited-same (cleared S t s) cleared-is (setLock l x (sharedToo h s)) (λ r. relocked (sharedToo h s) r (shared-hold h s r)))
+          (byLock (alive, kind)
+          (rw (here (sharedToo h s)) (or-left (bit (withBit (h .shared) s) s) _ (true-is (withBit-here (h .shared) s))))
+          (rw (here (sharedToo h s), none, eqb·zero-suc s)))
+
+      pub own-write-turn : {c : Call} (w : ℕ) → T (holdsExclusive h s) → Takes w (locked S s x (replaced h w) G) c
+      own-write-turn w a = own-write w (inl kind) a
+
+      pub taken-turn : {c : Call} (w : ℕ) → ((r : ℕ) → r ≢ s → T (holds h r) → ⊥) → Takes w (locked S s x (taken h s w) G) c
+      taken-turn w alone = write-turn (taken h s w) w (inl kind) refl refl (λ r d. taken-hold h s w r alone d)
 
   -- ---- begin
   module _ (k q s : ℕ) (free : Free S t s) where
@@ -194,13 +242,18 @@ module _ (S : Sizes) (G : Tables) (g : Good S G) where
     kind-is : (txn (B .txns) s) .kind ≡ k
     kind-is = ap (λ (o : Txn). o .kind) (begun-here S G g k q s (free .inside))
 
+    start-is : (txn (B .txns) s) .start ≡ q
+    start-is = ap (λ (o : Txn). o .start) (begun-here S G g k q s (free .inside))
+
     begun-new : New (S .items) (seen S G) (seen S B) s
     unfolding begun
     begun-new =
         record {
-          others = λ r d. kept-by S G B r (same-row (begun-there S G g k q s (free .inside) r d)) (still r) (λ x b h. refl);
+          rows = λ r d. row-by S G B r (same-row (begun-there S G g k q s (free .inside) r d));
+          locks = λ r d. locks-by S G B r (still r);
+          sees = λ r d. sees-by S G B r (same-row (begun-there S G g k q s (free .inside) r d)) (λ x b i h. refl);
           current = λ x b. refl;
-          free = λ a. free .free (query-live (txn t s) (a .1) .0);
+          free = λ a. free .free (a .1);
           number = number-is;
           last = begun-last S G g k q s (free .inside);
           clock = begun-clock S G g k q s (free .inside);
@@ -208,62 +261,16 @@ module _ (S : Sizes) (G : Tables) (g : Good S G) where
 
     -- a free slot holds nothing
     nothing-held : (x : ℕ) → x < S .items → holdsExclusive (lock l x) s ≡ false
-    unfolding holds
     nothing-held x b =
         is-false (holdsExclusive (lock l x) s)
-        (λ h. free .free (update-alive t s (g .lockGood x b .holders s (or-right (holdsShared (lock l x) s) _ h) .1)))
+        (λ h. free .free (holder-live (txn t s) (g .lockGood x b .excluders s h .1) .0))
 
     pub begin-update-turn : {c : Call} → k ≡ anUpdate → TurnTo B c (updateBegan (lastNumber t + 1))
-    begin-update-turn e =
-        updateBegins s begun-new (λ h. let a = query-kind (B .txns) s (h .1) in let c = kind-is in omega arith)
-        (unfold begun in nothing-held)
+    begin-update-turn e = updateBegins s begun-new (kind-is ∙ e) (unfold begun in nothing-held)
 
     pub begin-query-turn : {c : Call} → k ≡ aQuery → q ≡ clock t → TurnTo B c (queryBegan (lastNumber t + 1))
     unfolding begun
     begin-query-turn e f =
         queryBegins s begun-new
-        (free .inside, live-query (txn (B .txns) s) (number-live (txn (B .txns) s) (λ z. let m = number-is in omega arith)) (kind-is ∙ e))
-        (λ h. let a = update-kind (B .txns) s (h .1) in let c = kind-is in omega arith)
-        (λ x b. ap (λ (m : ℕ). readAt S v m x) (ap (λ (o : Txn). o .start) (begun-here S G g k q s (free .inside)) ∙ f) ∙ reads-newest S G g x b)
-
-  -- ---- the row of slot s goes
-  module _ (enough : S .slots ≤ S .places) (n s : ℕ) (C : Caller S G n s) where
-    abbrev i : s < S .slots
-    i = C .inside
-
-    left-by :
-        (G′ : Tables) → txn (G′ .txns) s ≡ noTxn → ((r : ℕ) → r ≢ s → Kept (S .items) (seen S G) (seen S G′) r)
-        → lastNumber (G′ .txns) ≡ lastNumber t → Left (S .items) (seen S G) (seen S G′) s
-    left-by G′ gone others last =
-        record {
-          no-update = λ u. free-dead gone (update-live (txn (G′ .txns) s) (u .1) .0);
-          no-query = λ q. free-dead gone (query-live (txn (G′ .txns) s) (q .1) .0);
-          others = others;
-          last = last;
-        }
-
-    pub abort-turn : {c : Call} → T (names n c) → T (liveUpdate (txn t s)) → TurnTo (aborted S s G) c (onlyEnded n)
-    abort-turn a u =
-        ends n s (C .name) a (inl (i, u))
-        (left-by (aborted S s G) (aborted-here S G g s i)
-        (λ r d. kept-by S G (aborted S s G) r (aborted-there S G g s i r d) (λ x b. unfold aborted in release-hold S G g s r x b d) (λ x b q. unfold aborted in refl))
-        (aborted-last S G g s i))
-        (λ x b. unfold aborted in refl) (aborted-clock S G g s i)
-
-    pub end-turn : {c : Call} → T (names n c) → T (liveQuery (txn t s)) → TurnTo (ended S s G) c (onlyEnded n)
-    end-turn a q =
-        ends n s (C .name) a (inr (i, q))
-        (left-by (ended S s G) (ended-here S enough G g s i)
-        (λ r d. kept-by S G (ended S s G) r (same-row (ended-there S enough G g s i r d)) (unfold ended in (still r))
-        (λ x b q. ended-reads S enough G g s i r (q .0) (q .1) x b))
-        (ended-last S enough G g s i))
-        (ended-newest S enough G g s i) (ended-clock S enough G g s i)
-
-    pub commit-turn : {c : Call} → T (names n c) → T (liveUpdate (txn t s)) → TurnTo (committed S s G) c (updateCommitted n (clock t + 1))
-    commit-turn a u =
-        commits n s (C .name) a (i, u)
-        (left-by (committed S s G) (committed-here S enough G g s i)
-        (λ r d. kept-by S G (committed S s G) r (same-row (committed-there S enough G g s i r d)) (λ x b. unfold committed in (release-hold S G g s r x b d))
-        (λ x b q. committed-reads S enough G g s i r (q .0) (q .1) x b))
-        (committed-last S enough G g s i))
-        (committed-newest S enough G g s i) (committed-clock S enough G g s i)
+        ((free .inside, number-live (txn (B .txns) s) (λ z. let m = number-is in omega arith)), kind-is ∙ e) (start-is ∙ f)
+        (λ x b. ap (λ (m : ℕ). readAt S v m x) (start-is ∙ f) ∙ reads-newest S G g (clock t) (omega arith) x b)

@@ -1,173 +1,237 @@
--- The undisturbed query: it reads the newest values at its begin, and what it is answered depends on its own calls and on the newest values at its begin.
-use Prim.Native.Nat.{ℕ, _≤_}
-use mathlib.Core.Path.{_≡_, refl, sym, ap, _∙_, subst, ap₂}
-use mathlib.Core.Bool.{Bool, true, false, cond}
+-- What a query reads: the newest version stamped up to its start (`reads-as-begun`), whatever others call (`undisturbed`).
+use Prim.Native.Nat.{ℕ, _≤_, _<_}
+use mathlib.Core.Path.{_≡_, refl, sym, subst}
+use mathlib.Core.Logic.{_⊎_, inl, inr}
+use mathlib.Core.Bool.{Bool, true, false, _&&_, cond}
 use mathlib.Core.List.{List, [], _∷_, _++_}
-use native.Mathlib.Omega.{arith}
-use lib.Dec.{T, leb}
 use Rattle.names.specs.declared.Sizes.{Sizes}
-use Rattle.rules.specs.Tables.{Tables, fresh}
+use Rattle.rules.specs.Words.{someBelow}
+use Rattle.rules.specs.Tables.{Tables, txn, liveSettled, lock, holdsExclusive, fresh}
 use Rattle.rules.specs.Good.{Good}
-use Rattle.rules.specs.Answers.{Call, BeginUpdate, BeginQuery, Read, Write, Commit, Abort, granted, code, UnknownTransaction, UnknownItem}
-use Rattle.rules.specs.Step.{step}
 use Rattle.rules.specs.Versions.{newest}
-use Rattle.rules.proofs.Tests.{true-is, eq-make}
+use Rattle.rules.specs.Answers.{Call, BeginQuery, Read, granted}
+use Rattle.rules.specs.Step.{step}
+use Rattle.rules.proofs.Tests.{true-is, false-is, is-false, and-left, and-right, and-both}
+use Rattle.rules.proofs.Counts.{someBelow→, →someBelow}
+use Rattle.rules.proofs.EqualRows.{settled-live, live-settled}
 use Rattle.rules.proofs.Keeps.{keeps}
-use Rattle.history.specs.Runs.{run, endOf, Event, Every}
-use Rattle.history.specs.Happened.{did, names}
-use Rattle.history.specs.Undisturbed.{callsOf, said, heard, ReadsAsBegun, Undisturbed}
-use Rattle.history.proofs.Turns.{Known}
-use Rattle.history.proofs.Seen.{seen}
-use Rattle.history.proofs.Happens.{granted-turn, run-good, run-known, step-known}
-use Rattle.history.proofs.Standing.{Held, began, Standing, reading, over, Stands}
-use Rattle.history.proofs.Replies.{reply, short, answered, unnamed}
+use Rattle.rules.proofs.Fresh.{fresh-good}
+use Rattle.history.specs.Runs.{Event, run, endOf, Every}
+use Rattle.history.specs.Happened.{Access, Happening, queryBegan, did, happened, begunWith, happeningsAfter, happenings}
+use Rattle.history.specs.Serial.{Entry, grantedTo}
+use Rattle.history.specs.Undisturbed.{commitOf, commitIn, lastPut, leftBy, PastIn, PastOn, Gives, ReadsUpTo, ReadsAsBegun, Alike, Undisturbed}
+use Rattle.history.proofs.Invariant.{Inv, settled}
+use Rattle.history.proofs.Turns.{Turn, Known}
+use Rattle.history.proofs.Preserved.{turn-step}
+use Rattle.history.proofs.Tables.{inside?}
+use Rattle.history.proofs.Seen.{seen, seen-fair}
+use Rattle.history.proofs.Happens.{step-turn, granted-turn, step-known, run-good, run-known, fresh-known}
+use Rattle.history.proofs.Theorem.{after-fresh}
+use Rattle.history.proofs.Reading.{Open}
+use Rattle.history.proofs.Follows.{commit-unknown, begin-open, begin-fixed, outside-run, fixed-run, unknown-end, outcome, outcome-on, open-run}
 
-unfoldable replies : Sizes → Standing → List Call → List (ℕ × ℕ)
-replies S a [] = []
-replies S a (c ∷ cs) = (reply S a c) .0 ∷ replies S ((reply S a c) .1) cs
+-- ---- events
+every-map : (P Q : Event → Type 0) → ((e : Event) → P e → Q e) → (es : List Event) → Every P es → Every Q es
+unfolding Every
+every-map P Q f [] h = tt
+every-map P Q f (e ∷ es) h = (f e (h .0), every-map P Q f es (h .1))
+
+every-all : (P : ℕ → Event → Type 0) (es : List Event) → ((x : ℕ) → Every (P x) es) → Every (λ e. (x : ℕ) → P x e) es
+unfolding Every
+every-all P [] h = tt
+every-all P (e ∷ es) h = (λ x. h x .0, every-all P es (λ x. h x .1))
 
 module _ (S : Sizes) (enough : S .slots ≤ S .places) where
-  abbrev consed : ℕ × ℕ → List (ℕ × ℕ) → List (ℕ × ℕ)
-  consed h k = h ∷ k
+  abbrev after : Call → Tables → Tables
+  after c G = (step S c G) .after
 
-  both : {a b : ℕ × ℕ} {k l : List (ℕ × ℕ)} → a ≡ b → k ≡ l → (a ∷ k) ≡ (b ∷ l)
-  both e q = ap₂ {A = ℕ × ℕ} {B = List (ℕ × ℕ)} {C = List (ℕ × ℕ)} consed e q
+  -- the turn of a query's begin
+  begin-turn :
+      (n : ℕ) (G : Tables) → Good S G → (us : List ℕ) → Known us (seen S G) → (step S BeginQuery G) .answer .code ≡ granted
+      → (step S BeginQuery G) .answer .number ≡ n → Turn (S .items) (seen S G) (seen S (after BeginQuery G)) BeginQuery (queryBegan n)
+  unfolding did
+  begin-turn n G g us K e m =
+      subst (λ (j : ℕ). Turn (S .items) (seen S G) (seen S (after BeginQuery G)) BeginQuery (queryBegan j)) m
+      (granted-turn S enough BeginQuery G g us K e)
 
-  -- ---- in whatever follows
-  heard-is :
-      (n : ℕ) (a : Standing) (cs : List Call) (us : List ℕ) (G : Tables) → Good S G → Known us (seen S G) → Stands (S .items) n a (seen S G)
-      → heard n (run S cs G) ≡ replies S a (callsOf n cs)
-  unfolding run callsOf heard replies
-  heard-is n a [] us G g K H = refl
-  heard-is n a (c ∷ cs) us G g K H =
-      go (names n c) refl (λ b. heard-is n b cs _ ((step S c G) .after) (keeps S enough c G g) (step-known S enough c G g us K))
-    where
-      go :
-          (z : Bool) → names n c ≡ z
-          → ((b : Standing) → Stands (S .items) n b (seen S ((step S c G) .after)) → heard n (run S cs ((step S c G) .after)) ≡ replies S b (callsOf n cs))
-          → cond z (short (step S c G) ∷ heard n (run S cs ((step S c G) .after))) (heard n (run S cs ((step S c G) .after)))
-          ≡ replies S a (cond z (c ∷ callsOf n cs) (callsOf n cs))
-      go false e on = on a (unnamed S enough n G g us K a H c (λ p. subst T e p))
-      go true e on = let r = answered S enough n G g us K a H c (true-is e) in both (r .0) (on _ (r .1))
+  past-settled : (G : Tables) (b : ℕ) → PastIn S G b → settled (seen S G) b
+  past-settled G b p = let k = settled-live (txn (G .txns) b) (p .1) in ((p .0, k .0), k .1)
 
-  -- ---- every read that is granted gives the value of f
-  module _ (n : ℕ) (f : ℕ → ℕ) where
-    abbrev Reads : Event → Type 0
-    Reads e = (x : ℕ) → e .call ≡ Read n x → e .answer .code ≡ granted → e .answer .value ≡ f x
-
-    -- it reads f, if it still reads
-    abbrev Agrees : Standing → Type 0
-    Agrees (reading h) = (x : ℕ) → h x ≡ f x
-    Agrees over = T true
-
-    still : (a : Standing) (c : Call) → Agrees a → Agrees ((reply S a c) .1)
-    unfolding reply
-    still over c h = h
-    still (reading g) (Read m x) h = h
-    still (reading g) (Write m x v) h = h
-    still (reading g) (Commit m) h = tt
-    still (reading g) (Abort m) h = tt
-    still (reading g) BeginUpdate h = tt
-    still (reading g) BeginQuery h = tt
-
-    replied-value :
-        (a : Standing) → Agrees a → (x : ℕ) (o : ℕ × ℕ) → o ≡ (reply S a (Read n x)) .0 → o .0 ≡ granted → o .1 ≡ f x
-    unfolding reply
-    replied-value over h x o e z = absurd (let c : o .0 ≡ code UnknownTransaction = ap {A = ℕ × ℕ} (λ r. r .0) e in omega arith)
-    replied-value (reading g) h x o e z = go (leb (S .items) x) e
+  -- ---- after the calls `before`, which leave one past its writing on the item x
+  module _ (cs : List Call) (n x : ℕ) (bx : x < S .items) where
+    held-run :
+        (before : List Call) (us : List ℕ) (es : List Entry) (log : ℕ → List Access) (G : Tables) → Good S G → Known us (seen S G)
+        → Inv (S .items) es log (seen S G)
+        → let H = endOf S before G in
+        let o = step S BeginQuery H in
+        o .answer .code ≡ granted → o .answer .number ≡ n
+        → (b : ℕ) → PastOn S H x b
+        → Every
+        (Gives n x
+        (outcome S enough ((txn (H .txns) b) .number) n x (newest S (H .versions) x) (log ((txn (H .txns) b) .number))
+        (happeningsAfter us (run S (before ++ (BeginQuery ∷ cs)) G))))
+        (run S cs (o .after))
+    unfolding endOf run happeningsAfter
+    held-run [] us es log G g K J e i b p =
+        subst (λ (k : ℕ). Every (Gives n x k) (run S cs (after BeginQuery G)))
+        (outcome-on S enough m n x v (log m) h hs (is-false (commitOf m h) (λ z. commit-unknown (S .items) (seen S G) (seen S G′) (seen-fair S G g) m t z .nobody (O .holder) (O .past .0) (O .name))))
+        (open-run S enough m n x v bx cs _ _ _ G′ (keeps S enough BeginQuery G g) (step-known S enough BeginQuery G g us K)
+        (turn-step (S .items) es log (seen S G) (seen S G′) (seen-fair S G g) J t) O)
       where
-        go : (b : Bool) → o ≡ cond b (code UnknownItem, 0) (granted, g x) → o .1 ≡ f x
-        go true e = absurd (let c : o .0 ≡ code UnknownItem = ap {A = ℕ × ℕ} (λ r. r .0) e in omega arith)
-        go false e = ap {A = ℕ × ℕ} (λ r. r .1) e ∙ h x
+        m : ℕ
+        m = (txn (G .txns) b) .number
 
-    all-read :
-        (a : Standing) → Agrees a → (cs : List Call) (us : List ℕ) (G : Tables) → Good S G → Known us (seen S G) → Stands (S .items) n a (seen S G)
-        → Every Reads (run S cs G)
-    unfolding run Every names
-    all-read a h [] us G g K H = tt
-    all-read a h (c ∷ cs) us G g K H = (
-      λ x e z.
-          let r = answered S enough n G g us K a H c (subst (λ (c : Call). T (names n c)) (sym e) (eq-make n n refl)) in
-          replied-value a h x (short (step S c G)) (r .0 ∙ ap {B = ℕ × ℕ} (λ (c : Call). (reply S a c) .0) e) z,
-      go (names n c) refl (λ b k. all-read b k cs _ ((step S c G) .after) (keeps S enough c G g) (step-known S enough c G g us K)),
-    )
+        v : ℕ
+        v = newest S (G .versions) x
+
+        G′ : Tables
+        G′ = (step S BeginQuery G) .after
+
+        h : Happening
+        h = happened us BeginQuery ((step S BeginQuery G) .answer)
+
+        hs : List Happening
+        hs = happeningsAfter (begunWith (happened us BeginQuery ((step S BeginQuery G) .answer)) us) (run S cs ((step S BeginQuery G) .after))
+
+        t : Turn (S .items) (seen S G) (seen S ((step S BeginQuery G) .after)) BeginQuery (happened us BeginQuery ((step S BeginQuery G) .answer))
+        t = step-turn S enough BeginQuery G g us K
+
+        O : Open n x ((txn (G .txns) b) .number) (newest S (G .versions) x) (seen S ((step S BeginQuery G) .after))
+        O =
+            begin-open (S .items) x bx (seen S G) (seen S ((step S BeginQuery G) .after)) (seen-fair S G g) (begin-turn n G g us K e i) b (past-settled G b (p .0)) (p .1)
+    held-run (c ∷ before) us es log G g K J e i b p =
+        subst (λ (k : ℕ). Every (Gives n x k) (run S cs ((step S BeginQuery H) .after)))
+        (outcome-on S enough m n x v (log m) (happened us c ((step S c G) .answer)) _
+        (is-false (commitOf m (happened us c ((step S c G) .answer)))
+        (λ z.
+        unknown-end S enough m before (after c G) (keeps S enough c G g)
+        (commit-unknown (S .items) (seen S G) (seen S (after c G)) (seen-fair S G g) m (step-turn S enough c G g us K) z)
+        .nobody b (past-settled H b (p .0) .0) refl)))
+        (held-run before _ _ _ (after c G) (keeps S enough c G g) (step-known S enough c G g us K)
+        (turn-step (S .items) es log (seen S G) (seen S (after c G)) (seen-fair S G g) J (step-turn S enough c G g us K)) e i b p)
       where
-        go :
-            (z : Bool) → names n c ≡ z
-            → ((b : Standing) → Agrees b → Stands (S .items) n b (seen S ((step S c G) .after)) → Every Reads (run S cs ((step S c G) .after)))
-            → Every Reads (run S cs ((step S c G) .after))
-        go false e on = on a h (unnamed S enough n G g us K a H c (λ p. subst T e p))
-        go true e on = on ((reply S a c) .1) (still a c h) (answered S enough n G g us K a H c (true-is e) .1)
+        H : Tables
+        H = endOf S before ((step S c G) .after)
+
+        m : ℕ
+        m = (txn ((endOf S before ((step S c G) .after)) .txns) b) .number
+
+        v : ℕ
+        v = newest S ((endOf S before ((step S c G) .after)) .versions) x
 
   module _ (room : 1 ≤ S .places) where
-    -- how a query stands that has just begun
-    begun :
-        (before : List Call) (n : ℕ)
-        → let G = endOf S before (fresh S) in
-        let o = step S BeginQuery G in
-        o .answer .code ≡ granted → o .answer .number ≡ n → Held (S .items) n (newest S (G .versions)) (seen S (o .after))
-    unfolding did
-    begun before n e m =
-        let G = endOf S before (fresh S) in
-        let g = run-good S enough room before in
-        let k = run-known S enough room before in
-        subst (λ (j : ℕ). Held (S .items) j (newest S (G .versions)) (seen S ((step S BeginQuery G) .after))) m
-        (began (S .items) (seen S G) _ (granted-turn S enough BeginQuery G g (k .0) (k .1) e))
+    -- the tables that the calls `before` leave, on which the query begins; and the tables then
+    abbrev left : List Call → Tables
+    left before = endOf S before (fresh S)
+
+    abbrev since : List Call → Tables
+    since before = (step S BeginQuery (left before)) .after
 
     pub reads-as-begun : ReadsAsBegun S
-    unfolding ReadsAsBegun
-    reads-as-begun before cs n e m =
-        let G = endOf S before (fresh S) in
-        let g = run-good S enough room before in
-        let k = run-known S enough room before in
-        all-read n (newest S (G .versions)) (reading (newest S (G .versions))) (λ x. refl) cs _ ((step S BeginQuery G) .after)
-        (keeps S enough BeginQuery G g) (step-known S enough BeginQuery G g (k .0) (k .1)) (begun before n e m)
-
-    -- in whatever follows a query's begin, its calls are answered by the newest values at its begin
-    snapshot :
-        (before cs : List Call) (n : ℕ)
-        → let G = endOf S before (fresh S) in
-        let o = step S BeginQuery G in
-        o .answer .code ≡ granted → o .answer .number ≡ n
-        → heard n (run S cs (o .after)) ≡ replies S (reading (newest S (G .versions))) (callsOf n cs)
-    snapshot before cs n e m =
-        let G = endOf S before (fresh S) in
-        let g = run-good S enough room before in
-        let k = run-known S enough room before in
-        heard-is n (reading (newest S (G .versions))) cs _ ((step S BeginQuery G) .after) (keeps S enough BeginQuery G g)
-        (step-known S enough BeginQuery G g (k .0) (k .1)) (begun before n e m)
-
-    -- a run of more calls
-    run-append : (cs ds : List Call) (G : Tables) → run S (cs ++ ds) G ≡ run S cs G ++ run S ds (endOf S cs G)
-    unfolding run endOf
-    run-append [] ds G = refl
-    run-append (c ∷ cs) ds G =
-        ap {B = List Event} (λ l. record { call = c; answer = (step S c G) .answer } ∷ l) (run-append cs ds ((step S c G) .after))
-
-    heard-append : (n : ℕ) (es ds : List Event) → heard n (es ++ ds) ≡ heard n es ++ heard n ds
-    unfolding heard
-    heard-append n [] ds = refl
-    heard-append n (e ∷ es) ds = go (names n (e .call)) (heard-append n es ds)
-      where
-        go :
-            (b : Bool) → heard n (es ++ ds) ≡ heard n es ++ heard n ds
-            → cond b (said (e .answer) ∷ heard n (es ++ ds)) (heard n (es ++ ds))
-            ≡ cond b (said (e .answer) ∷ heard n es) (heard n es) ++ heard n ds
-        go true h = both refl h
-        go false h = h
-
-    pub undisturbed : Undisturbed S
-    unfolding Undisturbed run heard names
-    undisturbed before cs ds n e m equal = whole cs ∙ ap (λ (l : List (ℕ × ℕ)). heard n (run S before (fresh S)) ++ l) middle ∙ sym (whole ds)
+    unfolding ReadsAsBegun leftBy happenings
+    reads-as-begun before cs n x e m =
+        record {
+          free = λ none. free none (inside? x (S .items));
+          held = λ b p. held b p (inside? x (S .items));
+        }
       where
         G : Tables
-        G = endOf S before (fresh S)
+        G = left before
 
-        middle : heard n (run S cs ((step S BeginQuery G) .after)) ≡ heard n (run S ds ((step S BeginQuery G) .after))
-        middle = snapshot before cs n e m ∙ ap (replies S (reading (newest S (G .versions)))) equal ∙ sym (snapshot before ds n e m)
+        g : Good S (left before)
+        g = run-good S enough room before
 
-        whole :
-            (cs : List Call)
-            → heard n (run S (before ++ (BeginQuery ∷ cs)) (fresh S))
-            ≡ heard n (run S before (fresh S)) ++ heard n (run S cs ((step S BeginQuery G) .after))
-        whole cs = ap (heard n) (run-append before (BeginQuery ∷ cs) (fresh S)) ∙ heard-append n (run S before (fresh S)) (run S (BeginQuery ∷ cs) G)
+        us : List ℕ
+        us = run-known S enough room before .0
+
+        K : Known (run-known S enough room before .0) (seen S (left before))
+        K = run-known S enough room before .1
+
+        outside : (v : ℕ) → S .items ≤ x → Every (Gives n x v) (run S cs (since before))
+        outside v o =
+            outside-run S enough n x v o cs _ (since before) (keeps S enough BeginQuery G g) (step-known S enough BeginQuery G g us K)
+
+        free :
+            ((b : ℕ) → PastOn S (left before) x b → ⊥) → (x < S .items) ⊎ (S .items ≤ x)
+            → Every (Gives n x (newest S ((left before) .versions) x)) (run S cs (since before))
+        free none (inl bx) =
+            fixed-run S enough n x (newest S (G .versions) x) bx cs _ (since before) (keeps S enough BeginQuery G g) (step-known S enough BeginQuery G g us K)
+            (begin-fixed (S .items) x bx (seen S G) (seen S (since before)) (seen-fair S G g) (begin-turn n G g us K e m)
+            (λ b p w. none b ((p .0 .0, live-settled (txn (G .txns) b) (p .0 .1) (p .1)), w)))
+        free none (inr o) = outside _ o
+
+        held :
+            (b : ℕ) → PastOn S (left before) x b → (x < S .items) ⊎ (S .items ≤ x)
+            → Every
+            (Gives n x (leftBy ((txn ((left before) .txns) b) .number) (happenings S (before ++ (BeginQuery ∷ cs))) x (newest S ((left before) .versions) x)))
+            (run S cs (since before))
+        held b p (inl bx) =
+            held-run cs n x bx before [] [] (λ j. []) (fresh S) (fresh-good S room) (fresh-known S enough room) (after-fresh S enough room) e m b p
+        held b p (inr o) = outside _ o
+
+    -- ---- whatever others call
+    -- somebody past its writing holds the item, or nobody
+    past? : (G : Tables) (x : ℕ) → ((b : ℕ) × PastOn S G x b) ⊎ ((b : ℕ) → PastOn S G x b → ⊥)
+    past? G x = go (someBelow (S .slots) on) refl
+      where
+        on : ℕ → Bool
+        on b = liveSettled (txn (G .txns) b) && holdsExclusive (lock (G .locks) x) b
+
+        go : (z : Bool) → someBelow (S .slots) (λ b. liveSettled (txn (G .txns) b) && holdsExclusive (lock (G .locks) x) b) ≡ z
+            → ((b : ℕ) × PastOn S G x b) ⊎ ((b : ℕ) → PastOn S G x b → ⊥)
+        go true e =
+            let o = someBelow→ (S .slots) on (true-is e) in
+            let b = o .0 in
+            inl (b, ((o .1, and-left (liveSettled (txn (G .txns) b)) _ (o .2)), and-right (liveSettled (txn (G .txns) b)) _ (o .2)))
+        go false e =
+            inr (λ b p. false-is e (→someBelow (S .slots) on b (p .0 .0) (and-both (liveSettled (txn (G .txns) b)) _ (p .0 .1) (p .1))))
+
+    -- what it leaves is the same in both
+    left-alike : (G : Tables) (hs ks : List Happening) → Alike S G hs ks → (b : ℕ) → PastIn S G b → (x v : ℕ)
+        → leftBy ((txn (G .txns) b) .number) hs x v ≡ leftBy ((txn (G .txns) b) .number) ks x v
+    unfolding Alike leftBy
+    left-alike G hs ks alike b p x v = go (commitIn m hs) refl (commitIn m ks) refl
+      where
+        m : ℕ
+        m = (txn (G .txns) b) .number
+
+        go :
+            (y : Bool) → commitIn ((txn (G .txns) b) .number) hs ≡ y → (z : Bool) → commitIn ((txn (G .txns) b) .number) ks ≡ z
+            → cond y (lastPut x (grantedTo ((txn (G .txns) b) .number) hs) v) v ≡ cond z (lastPut x (grantedTo ((txn (G .txns) b) .number) ks) v) v
+        go true e true f = alike b p (inl (true-is e)) .2 x v
+        go true e false f = absurd (false-is f (alike b p (inl (true-is e)) .1))
+        go false e true f = absurd (false-is e (alike b p (inr (true-is f)) .0))
+        go false e false f = refl
+
+    pub undisturbed : Undisturbed S
+    unfolding Undisturbed
+    undisturbed before cs ds n e m alike = every-all (λ x f. f .call ≡ Read n x → f .answer .code ≡ granted → Every (Gives n x (f .answer .value)) (run S ds (since before))) (run S cs (since before)) (λ x. go x (past? G x))
+      where
+        G : Tables
+        G = left before
+
+        all :
+            (cs : List Call) (x : ℕ)
+            → ReadsUpTo S (left before) (happenings S (before ++ (BeginQuery ∷ cs))) (run S cs (since before)) n x
+        all cs x = unfold ReadsAsBegun in reads-as-begun before cs n x e m
+
+        -- both give v
+        both :
+            (x v : ℕ) → Every (Gives n x v) (run S cs (since before))
+            → Every (Gives n x v) (run S ds (since before))
+            → Every
+            (λ f. f .call ≡ Read n x → f .answer .code ≡ granted → Every (Gives n x (f .answer .value)) (run S ds (since before)))
+            (run S cs (since before))
+        both x v one other =
+            every-map (Gives n x v) _ (λ f h i j. subst (λ (k : ℕ). Every (Gives n x k) (run S ds (since before))) (sym (h i j)) other) (run S cs (since before)) one
+
+        go :
+            (x : ℕ) → ((b : ℕ) × PastOn S (left before) x b) ⊎ ((b : ℕ) → PastOn S (left before) x b → ⊥)
+            → Every
+            (λ f. f .call ≡ Read n x → f .answer .code ≡ granted → Every (Gives n x (f .answer .value)) (run S ds (since before)))
+            (run S cs (since before))
+        go x (inl p) =
+            both x _ (all cs x .held (p .0) (p .1))
+            (subst (λ (k : ℕ). Every (Gives n x k) (run S ds (since before))) (sym (left-alike G _ _ alike (p .0) (p .1 .0) x (newest S (G .versions) x)))
+            (all ds x .held (p .0) (p .1)))
+        go x (inr none) = both x _ (all cs x .free none) (all ds x .free none)

@@ -1,15 +1,15 @@
 -- Running accesses on an array, one transaction after another.
 use Prim.Native.Nat.{ℕ}
 use mathlib.Core.Path.{_≡_, refl, sym, ap, _∙_, subst}
-use mathlib.Core.Logic.{_≢_, _⊎_, inl, inr}
+use mathlib.Core.Logic.{_≢_}
 use mathlib.Core.Bool.{Bool, true, false, cond}
 use mathlib.Core.List.{List, [], _∷_, _++_, append-assoc, append-nil}
 use lib.Dec.{T, eqb}
 use borrow.Author.Tests.{eq-eqb, ne-eqb}
 use Rattle.rules.proofs.Tests.{and-left, and-right, and-both}
-use Rattle.rules.proofs.Tests.{true-is, same?}
+use Rattle.rules.proofs.Tests.{true-is}
 use Rattle.history.specs.Happened.{Access, got, put}
-use Rattle.history.specs.Serial.{oneByOne, Absent, Once}
+use Rattle.history.specs.Serial.{oneByOne, Absent}
 use Rattle.history.proofs.Plain.{Array, store, agrees, final}
 
 -- ---- one list after the other
@@ -24,18 +24,6 @@ unfolding agrees final
 agrees-append [] k a h g = g
 agrees-append (got x v ∷ l) k a h g = and-both (eqb (a x) v) _ (and-left (eqb (a x) v) _ h) (agrees-append l k a (and-right (eqb (a x) v) _ h) g)
 agrees-append (put x v ∷ l) k a h g = agrees-append l k (store a x v) h g
-
-pub agrees-first : (l k : List Access) (a : Array) → T (agrees (l ++ k) a) → T (agrees l a)
-unfolding agrees
-agrees-first [] k a h = tt
-agrees-first (got x v ∷ l) k a h = and-both (eqb (a x) v) _ (and-left (eqb (a x) v) _ h) (agrees-first l k a (and-right (eqb (a x) v) _ h))
-agrees-first (put x v ∷ l) k a h = agrees-first l k (store a x v) h
-
-pub agrees-second : (l k : List Access) (a : Array) → T (agrees (l ++ k) a) → T (agrees k (final l a))
-unfolding agrees final
-agrees-second [] k a h = h
-agrees-second (got x v ∷ l) k a h = agrees-second l k a (and-right (eqb (a x) v) _ h)
-agrees-second (put x v ∷ l) k a h = agrees-second l k (store a x v) h
 
 pub agrees-got : (a : Array) (x v : ℕ) → a x ≡ v → T (agrees (got x v ∷ []) a)
 unfolding agrees
@@ -105,41 +93,10 @@ module _ (D : ℕ → Type 0) where
   untouched (put x v ∷ l) a w y n = untouched l (store a x v) (w .1) y n ∙ store-there a x v y (λ e. n (subst D (sym e) (w .0)))
 
 -- ---- the order
-pub absent-more : (n m : ℕ) (ns : List ℕ) → Absent n ns → m ≢ n → Absent n (ns ++ (m ∷ []))
-unfolding Absent
-absent-more n m [] h d = (d, tt)
-absent-more n m (k ∷ ns) h d = (h .0, absent-more n m ns (h .1) d)
-
-pub once-more : (n : ℕ) (ns : List ℕ) → Once ns → Absent n ns → Once (ns ++ (n ∷ []))
-unfolding Once Absent
-once-more n [] o h = (tt, tt)
-once-more n (k ∷ ns) o h = (absent-more k n ns (o .0) (λ e. h .0 (sym e)), once-more n ns (o .1) (h .1))
-
 pub all-more : (log : ℕ → List Access) (ns : List ℕ) (n : ℕ) → oneByOne log (ns ++ (n ∷ [])) ≡ oneByOne log ns ++ log n
 unfolding oneByOne
 all-more log [] n = append-nil (log n)
 all-more log (m ∷ ns) n = ap (λ (l : List Access). log m ++ l) (all-more log ns n) ∙ sym (append-assoc (log m) (oneByOne log ns) (log n))
-
--- wherever n stands in the order, the array right after n has the property P
-unfoldable pub Each : (Array → Type 0) → (ℕ → List Access) → ℕ → List ℕ → Array → Type 0
-Each P log n [] a = T true
-Each P log n (m ∷ ns) a = (m ≡ n → P (final (log m) a)) × Each P log n ns (final (log m) a)
-
-pub each-map : (P Q : Array → Type 0) → ((a : Array) → P a → Q a) → (log : ℕ → List Access) (n : ℕ) (ns : List ℕ) (a : Array) → Each P log n ns a → Each Q log n ns a
-unfolding Each
-each-map P Q f log n [] a h = tt
-each-map P Q f log n (m ∷ ns) a h = (λ e. f (final (log m) a) (h .0 e), each-map P Q f log n ns (final (log m) a) (h .1))
-
-pub each-absent : (P : Array → Type 0) (log : ℕ → List Access) (n : ℕ) (ns : List ℕ) (a : Array) → Absent n ns → Each P log n ns a
-unfolding Each Absent
-each-absent P log n [] a h = tt
-each-absent P log n (m ∷ ns) a h = (λ e. absurd (h .0 e), each-absent P log n ns (final (log m) a) (h .1))
-
-pub each-more : (P : Array → Type 0) (log : ℕ → List Access) (n m : ℕ) (ns : List ℕ) (a : Array) → Each P log n ns a → (m ≡ n → P (final (log m) (final (oneByOne log ns) a))) → Each P log n (ns ++ (m ∷ [])) a
-unfolding Each oneByOne final
-each-more P log n m [] a h f = (f, tt)
-each-more P log n m (k ∷ ns) a h f =
-    (h .0, each-more P log n m ns (final (log k) a) (h .1) (λ e. subst (λ (b : Array). P (final (log m) b)) (final-append (log k) (oneByOne log ns) a) (f e)))
 
 -- ---- one access more in the log of n
 unfoldable pub added : (ℕ → List Access) → ℕ → Access → ℕ → List Access
@@ -159,25 +116,15 @@ module _ (log : ℕ → List Access) (n : ℕ) (c : Access) where
   added-absent [] h = refl
   added-absent (m ∷ ns) h = rw (added-there log n c m (h .0), added-absent ns (h .1))
 
-  pub each-added-absent : (P : Array → Type 0) (q : ℕ) (ns : List ℕ) (a : Array) → Absent n ns → Each P log q ns a → Each P (added log n c) q ns a
-  unfolding Each Absent
-  each-added-absent P q [] a h e = tt
-  each-added-absent P q (m ∷ ns) a h e = (rw (added-there log n c m (h .0)) (e .0), rw (added-there log n c m (h .0)) (each-added-absent P q ns (final (log m) a) (h .1) (e .1)))
-
 -- a read more in the log of n changes no array
 module _ (log : ℕ → List Access) (n x v : ℕ) where
-  final-read : (m : ℕ) (a : Array) → final (added log n (got x v) m) a ≡ final (log m) a
+  pub final-read : (m : ℕ) (a : Array) → final (added log n (got x v) m) a ≡ final (log m) a
   unfolding added final
   final-read m a = final-append (log m) (cond (eqb n m) (got x v ∷ []) []) a ∙ go (eqb n m)
     where
       go : (b : Bool) → final (cond b (got x v ∷ []) []) (final (log m) a) ≡ final (log m) a
       go true = refl
       go false = refl
-
-  pub each-read : (P : Array → Type 0) (q : ℕ) (ns : List ℕ) (a : Array) → Each P log q ns a → Each P (added log n (got x v)) q ns a
-  unfolding Each
-  each-read P q [] a e = tt
-  each-read P q (m ∷ ns) a e = (rw (final-read m a) (e .0), rw (final-read m a) (each-read P q ns (final (log m) a) (e .1)))
 
   pub final-all-read : (ns : List ℕ) (a : Array) → final (oneByOne (added log n (got x v)) ns) a ≡ final (oneByOne log ns) a
   unfolding oneByOne final
@@ -187,21 +134,6 @@ module _ (log : ℕ → List Access) (n x v : ℕ) where
       ∙ ap (final (oneByOne (added log n (got x v)) ns)) (final-read m a)
       ∙ final-all-read ns (final (log m) a)
       ∙ sym (final-append (log m) (oneByOne log ns) a)
-
-  pub agrees-read : (ns : List ℕ) (a : Array) → Each (λ b. b x ≡ v) log n ns a → T (agrees (oneByOne log ns) a) → T (agrees (oneByOne (added log n (got x v)) ns) a)
-  unfolding oneByOne Each agrees
-  agrees-read [] a e t = tt
-  agrees-read (m ∷ ns) a e t =
-      agrees-append (added log n (got x v) m) (oneByOne (added log n (got x v)) ns) a
-      (one (same? m n))
-      (rw (final-read m a) (agrees-read ns (final (log m) a) (e .1) (agrees-second (log m) (oneByOne log ns) a t)))
-    where
-      one : (m ≡ n) ⊎ (m ≢ n) → T (agrees (added log n (got x v) m) a)
-      one (inl q) =
-          subst (λ (l : List Access). T (agrees l a)) (sym (ap (added log n (got x v)) q ∙ added-here log n (got x v)))
-          (agrees-append (log n) (got x v ∷ []) a (subst (λ (k : ℕ). T (agrees (log k) a)) q (agrees-first (log m) (oneByOne log ns) a t))
-          (agrees-got (final (log n) a) x v (ap (λ (k : ℕ). final (log k) a x) (sym q) ∙ e .0 q)))
-      one (inr d) = rw (added-there log n (got x v) m d) (agrees-first (log m) (oneByOne log ns) a t)
 
 -- ---- every log within D
 pub within-added : (D : ℕ → Type 0) (log : ℕ → List Access) (n : ℕ) (c : Access) → ((m : ℕ) → Within D (log m)) → Within D (c ∷ []) → (m : ℕ) → Within D (added log n c m)

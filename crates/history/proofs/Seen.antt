@@ -1,18 +1,18 @@
 -- What the serial proof sees of good tables (`seen`), that they are fair, and when a slot is kept.
 use Prim.Native.Nat.{ℕ, _<_}
-use mathlib.Core.Path.{_≡_, ap, _∙_, subst}
+use mathlib.Core.Path.{_≡_, ap, _∙_}
 use lib.Dec.{T}
 use Rattle.names.specs.declared.Sizes.{Sizes}
-use Rattle.rules.specs.Tables.{Tables, lastNumber, clock, Txn, txn, noTxn, live, liveUpdate, liveQuery}
+use Rattle.rules.specs.Tables.{Tables, lastNumber, clock, Txn, txn, noTxn, live, byStart}
 use Rattle.rules.specs.Tables.{lock, holds, holdsShared, holdsExclusive}
 use Rattle.rules.specs.Versions.{newest}
 use Rattle.rules.specs.Good.{Good}
 use Rattle.rules.proofs.Tests.{or-right}
-use Rattle.rules.proofs.EqualRows.{live-number, update-live, query-live}
-use Rattle.rules.proofs.Callers.{query-not-update}
+use Rattle.rules.proofs.EqualRows.{live-number, live-reader, live-settled}
 use Rattle.rules.proofs.Decisions.{holder-alone}
-use Rattle.history.proofs.Invariant.{View, Fair, Kept}
-use Rattle.history.proofs.Tables.{SameRow, SameHold, readAt}
+use Rattle.history.proofs.Invariant.{View, Fair, Row, Locks, Sees, reader}
+use Rattle.history.proofs.Tables.{SameRow, SameHold}
+use Rattle.history.proofs.Leaving.{readAt}
 
 abbrev pub seen : Sizes → Tables → View
 seen S G =
@@ -20,9 +20,10 @@ seen S G =
       current = newest S (G .versions);
       last = lastNumber (G .txns);
       clock = clock (G .txns);
+      alive = λ s. (s < S .slots) × T (live (txn (G .txns) s));
       number = λ s. (txn (G .txns) s) .number;
-      update = λ s. (s < S .slots) × T (liveUpdate (txn (G .txns) s));
-      query = λ s. (s < S .slots) × T (liveQuery (txn (G .txns) s));
+      kind = λ s. (txn (G .txns) s) .kind;
+      start = λ s. (txn (G .txns) s) .start;
       writes = λ s x. holdsExclusive (lock (G .locks) x) s;
       holds = λ s x. holds (lock (G .locks) x) s;
       working = λ x. (lock (G .locks) x) .working;
@@ -33,38 +34,48 @@ pub seen-fair : (S : Sizes) (G : Tables) → Good S G → Fair (S .items) (seen 
 unfolding holds
 seen-fair S G g =
     record {
-      known-update = λ s u. g .txnGood s (u .0) .given;
-      known-query = λ s q. g .txnGood s (q .0) .given;
-      apart = λ s r u w d. g .distinct s r (u .0) (w .0) d (update-live (txn (G .txns) r) (w .1) .0);
-      apart-queries = λ s r u w d. g .distinct s r (u .0) (w .0) d (query-live (txn (G .txns) r) (w .1) .0);
-      unlike = λ s r u q.
-          g .distinct s r (u .0) (q .0)
-          (λ e. query-not-update (G .txns) r (q .1) (subst (λ (m : ℕ). T (liveUpdate (txn (G .txns) m))) e (u .1)))
-          (query-live (txn (G .txns) r) (q .1) .0);
+      known = λ s a. g .txnGood s (a .0) .given;
+      apart = λ s r a b d. g .distinct s r (a .0) (b .0) d (b .1);
+      listed = λ s a. g .txnGood s (a .0) .kindListed;
+      low = λ s a. g .txnGood s (a .0 .0) .readerStart (live-reader (txn (G .txns) s) (a .0 .1) (a .1));
+      stamps-apart = λ s r a b d.
+          g .settledGood .apart s r (a .0 .0) (b .0 .0) d (live-settled (txn (G .txns) s) (a .0 .1) (a .1)) (live-settled (txn (G .txns) r) (b .0 .1) (b .1));
       alone = λ s r x i d w h. d (holder-alone S G g x i s r w h);
       written-held = λ s x w. or-right (holdsShared (lock (G .locks) x) s) _ w;
     }
 
--- a slot whose row, locks and reads stay
-pub kept-by :
-    (S : Sizes) (G G′ : Tables) (r : ℕ) → SameRow (G .txns) (G′ .txns) r
-    → ((x : ℕ) → x < S .items → SameHold (lock (G .locks) x) (lock (G′ .locks) x) r)
-    → ((x : ℕ) → x < S .items → (seen S G′) .query r
-    → readAt S (G′ .versions) ((txn (G .txns) r) .start) x ≡ readAt S (G .versions) ((txn (G .txns) r) .start) x)
-    → Kept (S .items) (seen S G) (seen S G′) r
-unfolding liveUpdate liveQuery live
-kept-by S G G′ r R L v =
-    record {
-      was-update = λ u. (u .0, rw (R .number-is, R .kind-is) at (u .1));
-      was-query = λ q. (q .0, rw (R .number-is, R .kind-is) at (q .1));
-      lives-on = λ q. (q .0, rw (R .number-is, R .kind-is) (q .1));
-      same-number = λ u. R .number-is;
-      same-name = λ q. R .number-is;
-      still-holds = λ x i u h. L x i .holds-on h;
-      same-writes = λ x i u. L x i .writes-on;
-      same-working = λ x i u w. L x i .working-on w;
-      same-snapshot = λ x i q. ap (λ (m : ℕ). readAt S (G′ .versions) m x) (R .start-is) ∙ v x i q;
-    }
+-- ---- a slot whose row, locks and reads stay
+module _ (S : Sizes) (G G′ : Tables) (r : ℕ) where
+  pub row-by : SameRow (G .txns) (G′ .txns) r → Row (seen S G) (seen S G′) r
+  unfolding live
+  row-by R =
+      record {
+        was = λ a. (a .0, rw (R .number-is) at (a .1));
+        lives-on = λ a. (a .0, rw (R .number-is) (a .1));
+        number-is = R .number-is;
+        kind-is = R .kind-is;
+        start-is = R .start-is;
+      }
+
+  pub locks-by : ((x : ℕ) → x < S .items → SameHold (lock (G .locks) x) (lock (G′ .locks) x) r) → Locks (S .items) (seen S G) (seen S G′) r
+  locks-by L =
+      record {
+        still-holds = λ x i h. L x i .holds-on h;
+        same-writes = λ x i. L x i .writes-on;
+        same-working = λ x i w. L x i .working-on w;
+      }
+
+  -- who reads by a start
+  pub by-start : reader (seen S G′) r → (r < S .slots) × T (byStart (txn (G′ .txns) r))
+  by-start a = (a .0 .0, live-reader (txn (G′ .txns) r) (a .0 .1) (a .1))
+
+  pub sees-by :
+      SameRow (G .txns) (G′ .txns) r
+      → ((x : ℕ) → x < S .items → r < S .slots → T (byStart (txn (G′ .txns) r))
+      → readAt S (G′ .versions) ((txn (G .txns) r) .start) x ≡ readAt S (G .versions) ((txn (G .txns) r) .start) x)
+      → Sees (S .items) (seen S G) (seen S G′) r
+  sees-by R v x i a =
+      ap (λ (m : ℕ). readAt S (G′ .versions) m x) (R .start-is) ∙ v x i (by-start a .0) (by-start a .1)
 
 -- nobody lives in a free row
 pub free-dead : {r : Txn} → r ≡ noTxn → T (live r) → ⊥

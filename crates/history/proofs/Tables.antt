@@ -1,34 +1,28 @@
--- Laws of tables that belong to the crate `rules`: what a start reads, locks that others keep, fresh values.
+-- Laws of tables that belong to the crate `rules`: rows and locks that others keep, and fresh values.
 use Prim.Native.Nat.{ℕ, suc, _+_, _≤_, _<_}
 use mathlib.Core.Path.{_≡_, refl, sym, ap, _∙_, subst}
 use mathlib.Core.Logic.{_≢_, _⊎_, inl, inr}
 use mathlib.Core.Bool.{Bool, true, false, _||_, cond}
-use mathlib.Core.List.{List, [], _∷_, List·Memᴰ}
+use mathlib.Core.List.{List}
 use native.Mathlib.Omega.{arith}
 use lib.ListN.{length, getD, set, length-set}
 use lib.Seq.{getD-set-same, getD-set-other}
 use lib.Dec.{T, eqb, ltb, eqb→eq, eqb·zero-suc}
-use borrow.Author.Tests.{ne-eqb, lt-leb, eqb-true, ltb-true, ltb-false}
+use borrow.Author.Tests.{ne-eqb, eqb-true, ltb-true, ltb-false}
 use Rattle.names.specs.declared.Sizes.{Sizes}
-use Rattle.rules.specs.Words.{row, bit, withBit, withoutBit}
-use Rattle.rules.specs.Tables.{Tables, txnWords, versionRow, lastNumber, clock, Txn, txn, setTxn, noTxn, newTxn, withRank, liveQuery, starts}
-use Rattle.rules.specs.Tables.{Lock, lock, holds, holdsShared, holdsExclusive, released, release, fresh}
-use Rattle.rules.specs.Versions.{Version, noVersion, pairs, versionsIn, versionsOf, newest, choice, kept, keptFrom, rewritten}
+use Rattle.rules.specs.Words.{bit, withBit, withoutBit}
+use Rattle.rules.specs.Tables.{Tables, txnWords, lastNumber, clock, Txn, txn, newTxn, withRank}
+use Rattle.rules.specs.Tables.{Lock, lock, holds, holdsShared, holdsExclusive, released, release, unshared, fresh}
+use Rattle.rules.specs.Versions.{noVersion, pairs, versionsIn, versionsOf, newest}
 use Rattle.rules.specs.Waits.{awaitsOn, rankFor, raised, noted, closedUp}
 use Rattle.rules.specs.Good.{Good}
 use Rattle.rules.specs.Changed.{leaving}
-use Rattle.rules.specs.Step.{sharedToo, replaced, taken, begun, cleared, withNew, committed, ended, aborted}
+use Rattle.rules.specs.Step.{sharedToo, replaced, taken, begun, cleared}
 use Rattle.rules.proofs.Tests.{or-cases, or-left, or-right, is-false, true-is, false-is, same?}
 use Rattle.rules.proofs.Bits.{withBit-here, withBit-there, withoutBit-there}
 use Rattle.rules.proofs.Views.{awaiting, lastNumber-setTxn, clock-setTxn, txn-setTxn, txn-setTxn-other, txn-top, lock-release}
-use Rattle.rules.proofs.Choice.{choice-miss}
-use Rattle.rules.proofs.Trim.{kept-choice}
-use Rattle.rules.proofs.Starts.{start-in}
-use Rattle.rules.proofs.Rewrites.{versions-rewritten}
-use Rattle.rules.proofs.Carried.{reads-first}
-use Rattle.rules.proofs.Noting.{noted-known, noted-last, noted-clock, noted-there, noted-out, noted-here, closed-length, closed-last, closed-clock, closed-row, closed-out}
+use Rattle.rules.proofs.Noting.{noted-known, noted-last, noted-clock, noted-there, noted-out, noted-here, closed-row, closed-out}
 use Rattle.rules.proofs.Waited.{cleared-last, cleared-clock, cleared-here, cleared-as-closed}
-use Rattle.rules.proofs.Ends.{gone-here, gone-there, gone-lives, gone-room}
 use Rattle.rules.proofs.Decisions.{exclusive-one}
 use Rattle.rules.proofs.Fresh.{zeros, fresh-row, fresh-row-zero}
 
@@ -53,7 +47,7 @@ pub record Quiet (t t′ : List ℕ) : Type 0 where
   pub last : lastNumber t′ ≡ lastNumber t
   pub clock-is : clock t′ ≡ clock t
 
-inside? : (r n : ℕ) → (r < n) ⊎ (n ≤ r)
+pub inside? : (r n : ℕ) → (r < n) ⊎ (n ≤ r)
 inside? r n = go (ltb r n) refl
   where
     go : (b : Bool) → ltb r n ≡ b → (r < n) ⊎ (n ≤ r)
@@ -207,170 +201,15 @@ pub release-hold : (S : Sizes) (G : Tables) → Good S G → (s r x : ℕ) → x
 release-hold S G g s r x i d =
     subst (λ (o : Lock). SameHold (lock (G .locks) x) o r) (sym (lock-release S s (G .locks) (g .locksExact) x i)) (released-hold s (lock (G .locks) x) r d)
 
--- ---- versions: the value that a query of start q reads of item x
-unfoldable pub readAt : Sizes → List ℕ → ℕ → ℕ → ℕ
-readAt S v q x = (choice q (versionsOf S v x)) .value
-
--- a query that begins now reads the newest value
-pub reads-newest : (S : Sizes) (G : Tables) → Good S G → (x : ℕ) → x < S .items → readAt S (G .versions) (clock (G .txns)) x ≡ newest S (G .versions) x
-unfolding readAt newest choice versionsOf
-reads-newest S G g x i =
-    ap (λ (k : ℕ). (getD (versionsOf S (G .versions) x) k noVersion) .value)
-    (reads-first (clock (G .txns)) (versionsIn (row (versionRow S) x (G .versions))) (g .versionsGood x i .first))
-
--- trimming keeps the newest version
-kept-newest : (qs : List ℕ) (vs : List Version) → getD (kept qs vs) 0 noVersion ≡ getD vs 0 noVersion
-unfolding kept keptFrom
-kept-newest qs [] = refl
-kept-newest qs (v ∷ vs) = refl
-
--- ---- the row of slot s goes, and the versions are rewritten for the queries that are left. u has the rows of before
-module _
-    (S : Sizes) (enough : S .slots ≤ S .places) (G : Tables) (g : Good S G) (s : ℕ) (inside : s < S .slots)
-    (u : List ℕ) (size : length u ≡ txnWords S) (same : (r : ℕ) → r ≢ s → txn u r ≡ txn (G .txns) r) (f : ℕ → List Version → List Version)
+-- a lock without the share of slot s (request E6: "and its shared locks go"): the others' stay, and what s holds exclusively
+pub unshared-hold : (s : ℕ) (h : Lock) (r : ℕ) → r ≢ s → SameHold h (unshared s h) r
+unfolding holds holdsShared holdsExclusive
+unshared-hold s h r d =
+    record { holds-on = λ a. keep (or-cases (bit (h .shared) r) _ a); writes-on = refl; working-on = λ a. refl }
   where
-    abbrev t′ : List ℕ
-    t′ = setTxn u s noTxn
-
-    abbrev v′ : List ℕ
-    v′ = rewritten S (starts S t′) f (G .versions)
-
-    room : length (starts S t′) < S .places
-    room = let a = gone-room S (G .txns) u s inside size same in omega arith
-
-    pub left-newest : (x : ℕ) → x < S .items → newest S v′ x ≡ (getD (f x (versionsOf S (G .versions) x)) 0 noVersion) .value
-    unfolding newest
-    left-newest x i =
-        ap (λ (vs : List Version). (getD vs 0 noVersion) .value) (versions-rewritten S (starts S t′) f (G .versions) room (g .versionsExact) x i)
-        ∙ ap (λ (w : Version). w .value) (kept-newest (starts S t′) (f x (versionsOf S (G .versions) x)))
-
-    -- every query that is left reads as before, if f adds nothing that it would choose
-    pub left-reads :
-        ((q x : ℕ) → q ≤ clock (G .txns) → choice q (f x (versionsOf S (G .versions) x)) ≡ choice q (versionsOf S (G .versions) x))
-        → (r : ℕ) → r < S .slots → T (liveQuery (txn t′ r)) → (x : ℕ) → x < S .items
-        → readAt S v′ ((txn (G .txns) r) .start) x ≡ readAt S (G .versions) ((txn (G .txns) r) .start) x
-    unfolding readAt
-    left-reads hidden r j h x i =
-        let e = gone-lives S (G .txns) u s inside size same r h in
-        let q = (txn (G .txns) r) .start in
-        let m : List·Memᴰ q (starts S t′) = subst (λ (o : Txn). List·Memᴰ (o .start) (starts S t′)) e (start-in S t′ r j h) in
-        let le : q ≤ clock (G .txns) = g .txnGood r j .queryStart (subst (λ (o : Txn). T (liveQuery o)) e h) in
-        ap (λ (vs : List Version). (choice q vs) .value) (versions-rewritten S (starts S t′) f (G .versions) room (g .versionsExact) x i)
-        ∙ ap (λ (w : Version). w .value) (kept-choice (starts S t′) (f x (versionsOf S (G .versions) x)) q m ∙ hidden q x le)
-
--- ---- an update's abort
-module _ (S : Sizes) (G : Tables) (g : Good S G) (s : ℕ) (inside : s < S .slots) where
-  pub aborted-here : txn ((aborted S s G) .txns) s ≡ noTxn
-  unfolding aborted
-  aborted-here = txn-setTxn (closedUp S (G .txns) s) s noTxn S (closed-length S (G .txns) s ∙ g .txnsExact) inside
-
-  pub aborted-there : (r : ℕ) → r ≢ s → SameRow (G .txns) ((aborted S s G) .txns) r
-  unfolding aborted
-  aborted-there r d =
-      let c = closed-there S (G .txns) (g .txnsExact) s inside r in
-      let e = txn-setTxn-other (closedUp S (G .txns) s) s noTxn r d in
-      record {
-        number-is = ap (λ (o : Txn). o .number) e ∙ c .number-is;
-        kind-is = ap (λ (o : Txn). o .kind) e ∙ c .kind-is;
-        start-is = ap (λ (o : Txn). o .start) e ∙ c .start-is;
-      }
-
-  pub aborted-last : lastNumber ((aborted S s G) .txns) ≡ lastNumber (G .txns)
-  unfolding aborted
-  aborted-last = lastNumber-setTxn (closedUp S (G .txns) s) s noTxn ∙ closed-last S (G .txns) s
-
-  pub aborted-clock : clock ((aborted S s G) .txns) ≡ clock (G .txns)
-  unfolding aborted
-  aborted-clock = clock-setTxn (closedUp S (G .txns) s) s noTxn ∙ closed-clock S (G .txns) s
-
--- ---- a query's end and an update's commit
-module _ (S : Sizes) (enough : S .slots ≤ S .places) (G : Tables) (g : Good S G) (s : ℕ) (inside : s < S .slots) where
-  pub ended-here : txn ((ended S s G) .txns) s ≡ noTxn
-  unfolding ended
-  ended-here = gone-here S (G .txns) (G .txns) s inside (g .txnsExact) (λ r d. refl)
-
-  pub ended-there : (r : ℕ) → r ≢ s → txn ((ended S s G) .txns) r ≡ txn (G .txns) r
-  unfolding ended
-  ended-there = gone-there S (G .txns) (G .txns) s inside (g .txnsExact) (λ r d. refl)
-
-  pub ended-last : lastNumber ((ended S s G) .txns) ≡ lastNumber (G .txns)
-  unfolding ended
-  ended-last = lastNumber-setTxn (G .txns) s noTxn
-
-  pub ended-clock : clock ((ended S s G) .txns) ≡ clock (G .txns)
-  unfolding ended
-  ended-clock = clock-setTxn (G .txns) s noTxn
-
-  pub ended-newest : (x : ℕ) → x < S .items → newest S ((ended S s G) .versions) x ≡ newest S (G .versions) x
-  unfolding ended newest
-  ended-newest x i = left-newest S enough G g s inside (G .txns) (g .txnsExact) (λ r d. refl) (λ x vs. vs) x i
-
-  pub ended-reads :
-      (r : ℕ) → r < S .slots → T (liveQuery (txn ((ended S s G) .txns) r)) → (x : ℕ) → x < S .items
-      → readAt S ((ended S s G) .versions) ((txn (G .txns) r) .start) x ≡ readAt S (G .versions) ((txn (G .txns) r) .start) x
-  unfolding ended
-  ended-reads = left-reads S enough G g s inside (G .txns) (g .txnsExact) (λ r d. refl) (λ x vs. vs) (λ q x b. refl)
-
-  abbrev c : ℕ
-  c = clock (G .txns) + 1
-
-  abbrev u : List ℕ
-  u = set (G .txns) 1 c
-
-  u-size : length u ≡ txnWords S
-  u-size = length-set (G .txns) 1 c ∙ g .txnsExact
-
-  u-rows : (r : ℕ) → r ≢ s → txn u r ≡ txn (G .txns) r
-  u-rows r d = txn-top (G .txns) 1 c r (omega arith)
-
-  pub committed-here : txn ((committed S s G) .txns) s ≡ noTxn
-  unfolding committed
-  committed-here = gone-here S (G .txns) u s inside u-size u-rows
-
-  pub committed-there : (r : ℕ) → r ≢ s → txn ((committed S s G) .txns) r ≡ txn (G .txns) r
-  unfolding committed
-  committed-there = gone-there S (G .txns) u s inside u-size u-rows
-
-  pub committed-last : lastNumber ((committed S s G) .txns) ≡ lastNumber (G .txns)
-  unfolding committed
-  committed-last = lastNumber-setTxn u s noTxn ∙ getD-set-other (G .txns) 1 0 c 0 (omega arith)
-
-  pub committed-clock : clock ((committed S s G) .txns) ≡ c
-  unfolding committed
-  committed-clock = clock-setTxn u s noTxn ∙ getD-set-same (G .txns) 1 c 0 (omega (arith, g .txnsExact))
-
-  pub committed-newest :
-      (x : ℕ) → x < S .items
-      → newest S ((committed S s G) .versions) x
-      ≡ cond (holdsExclusive (lock (G .locks) x) s) ((lock (G .locks) x) .working) (newest S (G .versions) x)
-  unfolding committed withNew newest
-  committed-newest x i =
-      left-newest S enough G g s inside u u-size u-rows (withNew (G .locks) s c) x i ∙ go (holdsExclusive (lock (G .locks) x) s)
-    where
-      vs : List Version
-      vs = versionsOf S (G .versions) x
-
-      w : Version
-      w = record { stamp = c; value = (lock (G .locks) x) .working }
-
-      go : (b : Bool) → (getD (cond b (w ∷ vs) vs) 0 noVersion) .value ≡ cond b (w .value) ((getD vs 0 noVersion) .value)
-      go true = refl
-      go false = refl
-
-  -- the new stamp is above every start
-  pub committed-reads :
-      (r : ℕ) → r < S .slots → T (liveQuery (txn ((committed S s G) .txns) r)) → (x : ℕ) → x < S .items
-      → readAt S ((committed S s G) .versions) ((txn (G .txns) r) .start) x ≡ readAt S (G .versions) ((txn (G .txns) r) .start) x
-  unfolding committed withNew
-  committed-reads = left-reads S enough G g s inside u u-size u-rows (withNew (G .locks) s c) hidden
-    where
-      go : (b : Bool) (q : ℕ) (w : Version) (vs : List Version) → q < w .stamp → choice q (cond b (w ∷ vs) vs) ≡ choice q vs
-      go true q w vs l = choice-miss q w vs (lt-leb (w .stamp) q l)
-      go false q w vs l = refl
-
-      hidden : (q x : ℕ) → q ≤ clock (G .txns) → choice q (withNew (G .locks) s c x (versionsOf S (G .versions) x)) ≡ choice q (versionsOf S (G .versions) x)
-      hidden q x le =
-          go (holdsExclusive (lock (G .locks) x) s) q (record { stamp = c; value = (lock (G .locks) x) .working }) (versionsOf S (G .versions) x) (omega arith)
+    keep : T (bit (h .shared) r) ⊎ T (eqb (h .exclusive) (suc r)) → T (bit (withoutBit (h .shared) s) r || eqb (h .exclusive) (suc r))
+    keep (inl a) = or-left (bit (withoutBit (h .shared) s) r) _ (rw (withoutBit-there (h .shared) s r d) a)
+    keep (inr a) = or-right (bit (withoutBit (h .shared) s) r) _ a
 
 -- ---- fresh tables: no number and no stamp was given, and every newest value is 0
 pub fresh-last : (S : Sizes) → lastNumber ((fresh S) .txns) ≡ 0

@@ -15,7 +15,7 @@ pub record Beside (S : Sizes) (cs : List Call) : Type 0 where
   pub stayGood : Good S (endOf S cs (fresh S))
   -- and code 10 never comes
   pub neverBad : Every (λ e. e .answer .code ≢ code BadTables) (run S cs (fresh S))
-  -- numbers and stamps are given upward, one by one
+  -- numbers and stamps are given upward, one by one, and whoever took a stamp keeps it
   pub rising : Upward S cs
   -- whoever sees only the calls and their answers can tell what happened: who committed, under which stamp, and in which order
   pub byAnswers : ToldByAnswers S cs

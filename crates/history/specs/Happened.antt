@@ -4,12 +4,12 @@
 use Prim.Native.Nat.{ℕ}
 use mathlib.Core.Bool.{Bool, false, cond}
 use mathlib.Core.List.{List, [], _∷_, _++_}
-use lib.Dec.{eqb}
+use lib.Dec.{eqb, leb}
 use Rattle.names.specs.declared.Sizes.{Sizes}
 use Rattle.names.specs.declared.Answer.{Answer}
 use Rattle.rules.specs.Words.{some}
 use Rattle.rules.specs.Tables.{fresh}
-use Rattle.rules.specs.Answers.{Call, BeginUpdate, BeginQuery, Read, Write, Commit, Abort, granted}
+use Rattle.rules.specs.Answers.{Call, BeginUpdate, BeginQuery, Read, Write, Commit, Abort, Settle, granted}
 use Rattle.history.specs.Runs.{Event, run}
 
 -- a granted read of item x, which gave the number v; a granted write of the number v to item x
@@ -22,6 +22,8 @@ pub data Happening : Type 0 where
   accessed : ℕ → Access → Happening
   -- an update committed, under this stamp
   updateCommitted : ℕ → ℕ → Happening
+  -- an update ended its writing (request E6), and took this stamp
+  settledUnder : ℕ → ℕ → Happening
   -- a query ended, or an update was aborted
   onlyEnded : ℕ → Happening
   nothing : Happening
@@ -35,6 +37,7 @@ names n (Read m x) = eqb m n
 names n (Write m x v) = eqb m n
 names n (Commit m) = eqb m n
 names n (Abort m) = eqb m n
+names n (Settle m) = eqb m n
 
 -- what a granted call did, u being whether the transaction that it names began as an update
 unfoldable pub did : Bool → Call → Answer → Happening
@@ -44,10 +47,12 @@ did u BeginQuery r = queryBegan (r .number)
 -- "read: value"
 did u (Read n x) r = accessed n (got x (r .value))
 did u (Write n x v) r = accessed n (put x v)
--- "update commit: number is the stamp"; "A query only ends."
+-- "update commit: number is the stamp"; "A query only ends."; request E6: one past its writing "answers it and takes no new one"
 did u (Commit n) r = cond u (updateCommitted n (r .number)) (onlyEnded n)
 -- "Abort removes locks, working values and the row, and for a query is the same as commit."
 did u (Abort n) r = onlyEnded n
+-- request E6: "the stamp is answered as number"
+did u (Settle n) r = settledUnder n (r .number)
 
 -- "0 granted". At a refusal, and at a wait, nothing happened
 unfoldable pub told : Bool → Call → Answer → Happening
@@ -64,6 +69,7 @@ begunWith (updateBegan n) us = n ∷ us
 begunWith (queryBegan n) us = us
 begunWith (accessed n a) us = us
 begunWith (updateCommitted n c) us = us
+begunWith (settledUnder n c) us = us
 begunWith (onlyEnded n) us = us
 begunWith nothing us = us
 
@@ -76,6 +82,17 @@ happeningsAfter us (e ∷ es) =
 -- of the calls cs from fresh tables
 unfoldable pub happenings : Sizes → List Call → List Happening
 happenings S cs = happeningsAfter [] (run S cs (fresh S))
+
+-- the greatest stamp given so far, c before this. Since request E6 a stamp is given at a settle, or at the commit of an update that did not
+-- settle: "the update takes clock plus 1 as its stamp, the clock moves there"
+unfoldable pub clockAfter : ℕ → Happening → ℕ
+clockAfter c (settledUnder n d) = d
+clockAfter c (updateCommitted n d) = cond (leb d c) c d
+clockAfter c (updateBegan n) = c
+clockAfter c (queryBegan n) = c
+clockAfter c (accessed n a) = c
+clockAfter c (onlyEnded n) = c
+clockAfter c nothing = c
 
 -- what f tells of each happening, all together
 unfoldable pub allOf : {A : Type 0} → (Happening → List A) → List Happening → List A

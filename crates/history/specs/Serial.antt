@@ -1,20 +1,20 @@
 -- "the committed updates run whole, one after another in commit order, on a plain array of 64 zeros, each query right after the
 -- last update committed before it began, give every read the number it gave in the mixed run, and the array ends as the newest
--- committed versions."
-use Prim.Native.Nat.{ℕ, _<_}
+-- committed versions." Request E6: "Demand 3 now orders updates by stamp, a query after all those with stamps up to its start."
+use Prim.Native.Nat.{ℕ, _+_, _*_, _<_}
 use mathlib.Core.Bool.{Bool, true, _&&_, cond}
 use mathlib.Core.List.{List, [], _∷_, _++_}
 use mathlib.Core.Path.{_≡_}
 use mathlib.Core.Logic.{_≢_}
-use lib.Dec.{eqb, T}
+use lib.Dec.{eqb, leb, T}
 use lib.ListN.{getD, set, replicate}
 use Rattle.names.specs.declared.Sizes.{Sizes}
 use Rattle.rules.specs.Tables.{fresh}
 use Rattle.rules.specs.Versions.{newest}
 use Rattle.rules.specs.Answers.{Call}
 use Rattle.history.specs.Runs.{endOf}
-use Rattle.history.specs.Happened.{Access, got, put, Happening, updateBegan, queryBegan, accessed, updateCommitted, onlyEnded, nothing}
-use Rattle.history.specs.Happened.{happenings, allOf}
+use Rattle.history.specs.Happened.{Access, got, put, Happening, updateBegan, queryBegan, accessed, updateCommitted, settledUnder, onlyEnded, nothing}
+use Rattle.history.specs.Happened.{clockAfter, happenings, allOf}
 
 -- ---- a plain array, a number for each item, at first all zero
 abbrev pub zeros : Sizes → List ℕ
@@ -38,24 +38,52 @@ accessOf n (accessed m a) = cond (eqb m n) (a ∷ []) []
 accessOf n (updateBegan m) = []
 accessOf n (queryBegan m) = []
 accessOf n (updateCommitted m c) = []
+accessOf n (settledUnder m c) = []
 accessOf n (onlyEnded m) = []
 accessOf n nothing = []
 
 unfoldable pub grantedTo : ℕ → List Happening → List Access
 grantedTo n hs = allOf (accessOf n) hs
 
--- ---- the serial order. A committed update stands where it committed. A query stands where it began, ended or not, so right after the
--- last update committed before it began. Nobody else stands there
-unfoldable pub placeOf : Happening → List ℕ
-placeOf (queryBegan n) = n ∷ []
-placeOf (updateCommitted n c) = n ∷ []
-placeOf (updateBegan n) = []
-placeOf (accessed n a) = []
-placeOf (onlyEnded n) = []
-placeOf nothing = []
+-- ---- the serial order: "orders updates by stamp, a query after all those with stamps up to its start". A committed update stands by its
+-- stamp, whenever it commits; a query by its start, ended or not. Nobody else stands there
+-- a transaction, and where it stands: an update at twice its stamp, a query at twice its start and one more, which is behind all updates
+-- with stamps up to its start and ahead of the next
+pub record Entry : Type 0 where
+  pub place : ℕ
+  pub number : ℕ
+
+-- who is to stand there since this happening, c being the greatest stamp given so far: "A query's start is the clock."
+unfoldable pub placeOf : ℕ → Happening → List Entry
+placeOf c (updateCommitted n d) = record { place = 2 * d; number = n } ∷ []
+placeOf c (queryBegan n) = record { place = 2 * c + 1; number = n } ∷ []
+placeOf c (settledUnder n d) = []
+placeOf c (updateBegan n) = []
+placeOf c (accessed n a) = []
+placeOf c (onlyEnded n) = []
+placeOf c nothing = []
+
+-- e comes behind all whose place is up to its own, and ahead of all others
+unfoldable pub insert : Entry → List Entry → List Entry
+insert e [] = e ∷ []
+insert e (f ∷ es) = let rest = insert e es in cond (leb (f .place) (e .place)) (f ∷ rest) (e ∷ (f ∷ es))
+
+-- each of these in turn
+unfoldable pub insertAll : List Entry → List Entry → List Entry
+insertAll [] es = es
+insertAll (e ∷ ds) es = insertAll ds (insert e es)
+
+-- es stand there so far, and c is the greatest stamp given so far
+unfoldable pub entriesFrom : ℕ → List Entry → List Happening → List Entry
+entriesFrom c es [] = es
+entriesFrom c es (h ∷ hs) = entriesFrom (clockAfter c h) (insertAll (placeOf c h) es) hs
+
+unfoldable pub numbersOf : List Entry → List ℕ
+numbersOf [] = []
+numbersOf (e ∷ es) = e .number ∷ numbersOf es
 
 unfoldable pub order : List Happening → List ℕ
-order hs = allOf placeOf hs
+order hs = numbersOf (entriesFrom 0 [] hs)
 
 -- ---- the transactions ns, one after another
 unfoldable pub oneByOne : (ℕ → List Access) → List ℕ → List Access

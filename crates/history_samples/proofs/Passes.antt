@@ -1,5 +1,6 @@
 -- Right runs pass, wrong ones do not, a query is undisturbed and an update is not: by computation, on tables that stay good and so are not
 -- tested at each call.
+use Prim.Native.Nat.{ℕ}
 use mathlib.Core.Bool.{not}
 use mathlib.Core.List.{List, [], _∷_}
 use mathlib.Core.Path.{_≡_, refl, sym, ap, subst, _∙_}
@@ -7,26 +8,25 @@ use lib.Dec.{T}
 use native.Mathlib.Omega.{arith}
 use Rattle.names.specs.Sizes.{base}
 use Rattle.rules.specs.Words.{implies, everyBelow, someBelow, countBelow, firstFrom, every, some, tabulateFrom, row, everyRow, mapRows, bit, withBit, withoutBit}
-use Rattle.rules.specs.Tables.{txn, setTxn, setAwaited, reranked, live, liveUpdate, liveQuery, slotOf, freeSlot, startsFrom, starts, lock, setLock, holdsShared, holdsExclusive, holds, exclusivesOf, released, release, fresh}
+use Rattle.rules.specs.Tables.{txn, setTxn, setAwaited, reranked, live, liveUpdate, liveQuery, liveSettled, mayHold, byStart, slotOf, freeSlot, startsFrom, starts, lock, setLock, holdsShared, holdsExclusive, holds, exclusivesOf, released, release, unshare, fresh}
 use Rattle.rules.specs.Versions.{pairs, versionsIn, versionsOf, pairWords, rowOf, stampAt, newest, place, choice, readBySome, keptFrom, kept, rewritten}
 use Rattle.rules.specs.Waits.{awaits, awaitsOn, waitersOn, exchangersOn, rankFor, raised, lowered, noted, closedUp, conflicts, ahead, blocks, blocked, waitsFor, marked, spread, rounds, reached, circleAt, noCircle}
 use Rattle.rules.specs.Locks.{heldBy, decide, anotherShares, anotherExcludes, anotherAhead, decision}
-use Rattle.rules.specs.Step.{begun, beginBy, conflicted, cleared, locked, cellDeed, access, awaitsOther, writesFurther, queryRead, readBy, writeBy, withNew, committed, ended, commitBy, aborted, abortBy, judged, done, act}
+use Rattle.rules.specs.Step.{begun, beginBy, conflicted, cleared, locked, cellDeed, access, awaitsOther, writesFurther, holdsBack, heldBack, startRead, writesPast, queryRead, readBy, writeBy, withNew, committedUnder, committed, settledCommitted, ended, commitBy, aborted, settledAborted, settled, abortBy, settleBy, judged, done, act}
 use Rattle.rules.specs.Answers.{Call, BeginQuery}
 use Rattle.rules.specs.Tables.{Tables}
 use Rattle.rules.proofs.Fresh.{fresh-good}
 use Rattle.history.specs.Runs.{Event, run, endOf}
-use Rattle.history.specs.Happened.{got, put, Happening, did, told, happened, begunWith, happeningsAfter, happenings, allOf, names}
-use Rattle.history.specs.Serial.{zeros, agrees, final, accessOf, grantedTo, placeOf, order, oneByOne, serial}
-use Rattle.history.specs.Undisturbed.{callsOf, heard}
+use Rattle.history.specs.Happened.{got, put, Happening, did, told, happened, begunWith, happeningsAfter, happenings, clockAfter, allOf, names}
+use Rattle.history.specs.Serial.{zeros, agrees, final, accessOf, grantedTo, placeOf, insert, insertAll, entriesFrom, numbersOf, order, oneByOne, serial}
 use Rattle.history.proofs.Played.{played, playedEnd, run-played, end-played}
-use Rattle.history_samples.specs.Samples.{serializes, runPasses, mixed, stored, lateSnapshot, timelySnapshot, lostUpdate, keptUpdate, dirtyRead}
-use Rattle.history_samples.specs.Samples.{quietly, among, undisturbed, updateAlone, updateAfter, heardAlone, heardAfter}
+use Rattle.history_samples.specs.Samples.{serializes, runPasses, mixed, pastWriting, stored, lateSnapshot, timelySnapshot, lostUpdate, keptUpdate, dirtyRead, hasty, patient}
+use Rattle.history_samples.specs.Samples.{quietly, among, undisturbed, settledBefore, thenCommits, thenAborts, thenRewrites, updateAlone, updateAfter, readsAlone, readsAfter}
 
 -- what happens in a run from fresh tables, as it is computed: whoever unfolds this computes with all the rules and with the definitions of
 -- demand 3
 unfoldable computed : List Call → List Event
-unfolding played playedEnd names did told happened begunWith happeningsAfter allOf agrees final accessOf grantedTo placeOf order oneByOne serial callsOf heard serializes implies everyBelow someBelow countBelow firstFrom every some tabulateFrom row everyRow mapRows bit withBit withoutBit txn setTxn setAwaited reranked live liveUpdate liveQuery slotOf freeSlot startsFrom starts lock setLock holdsShared holdsExclusive holds exclusivesOf released release fresh pairs versionsIn versionsOf pairWords rowOf stampAt newest place choice readBySome keptFrom kept rewritten awaits awaitsOn waitersOn exchangersOn rankFor raised lowered noted closedUp conflicts ahead blocks blocked waitsFor marked spread rounds reached circleAt noCircle heldBy decide anotherShares anotherExcludes anotherAhead decision begun beginBy conflicted cleared locked cellDeed access awaitsOther writesFurther queryRead readBy writeBy withNew committed ended commitBy aborted abortBy judged done act
+unfolding played playedEnd names did told happened begunWith happeningsAfter allOf agrees final accessOf grantedTo clockAfter placeOf insert insertAll entriesFrom numbersOf order oneByOne serial serializes implies everyBelow someBelow countBelow firstFrom every some tabulateFrom row everyRow mapRows bit withBit withoutBit txn setTxn setAwaited reranked live liveUpdate liveQuery liveSettled mayHold byStart slotOf freeSlot startsFrom starts lock setLock holdsShared holdsExclusive holds exclusivesOf released release unshare fresh pairs versionsIn versionsOf pairWords rowOf stampAt newest place choice readBySome keptFrom kept rewritten awaits awaitsOn waitersOn exchangersOn rankFor raised lowered noted closedUp conflicts ahead blocks blocked waitsFor marked spread rounds reached circleAt noCircle heldBy decide anotherShares anotherExcludes anotherAhead decision begun beginBy conflicted cleared locked cellDeed access awaitsOther writesFurther holdsBack heldBack startRead writesPast queryRead readBy writeBy withNew committedUnder committed settledCommitted ended commitBy aborted settledAborted settled abortBy settleBy judged done act
 computed cs = played base cs (fresh base)
 
 abbrev playedHappenings : List Call → List Happening
@@ -68,6 +68,19 @@ mixed-passes : T (runPasses mixed)
 unfolding computed mixed
 mixed-passes = passes-so mixed tt
 
+-- by stamp, though 2 commits first
+past-order : order (happenings base pastWriting) ≡ 1 ∷ 3 ∷ 2 ∷ []
+unfolding computed pastWriting
+past-order = ap order (happenings-so pastWriting) ∙ refl
+
+past-serial : serial (happenings base pastWriting) ≡ put 5 77 ∷ got 6 0 ∷ got 6 0 ∷ got 5 77 ∷ put 6 88 ∷ []
+unfolding computed pastWriting
+past-serial = ap serial (happenings-so pastWriting) ∙ refl
+
+past-passes : T (runPasses pastWriting)
+unfolding computed pastWriting
+past-passes = passes-so pastWriting tt
+
 stored-passes : T (runPasses stored)
 unfolding computed stored
 stored-passes = passes-so stored tt
@@ -93,33 +106,49 @@ dirty-refused : T (not (agrees (serial (happeningsAfter [] dirtyRead)) (zeros ba
 unfolding computed dirtyRead
 dirty-refused = tt
 
+hasty-refused : T (not (agrees (serial (happeningsAfter [] hasty)) (zeros base)))
+unfolding computed hasty
+hasty-refused = tt
+
+patient-accepted : T (agrees (serial (happeningsAfter [] patient)) (zeros base))
+unfolding computed patient
+patient-accepted = tt
+
 -- a right run whose writes were stored nowhere: the reads agree, the end does not
 unstored-refused : T (not (serializes (happenings base stored) (fresh base)))
 unfolding computed stored
 unstored-refused = subst (λ (hs : List Happening). T (not (serializes hs (fresh base)))) (sym (happenings-so stored)) tt
 
--- ---- the undisturbed query: the same calls, the same answers
-query-calls : callsOf 1 quietly ≡ callsOf 1 among
-unfolding computed quietly among
-query-calls = refl
+-- ---- the undisturbed query: the same reads, the same numbers
+reads-so : (n : ℕ) (cs : List Call) → grantedTo n (happenings base cs) ≡ grantedTo n (playedHappenings cs)
+reads-so n cs = ap (grantedTo n) (happenings-so cs)
 
-query-alone : heard 1 (run base (BeginQuery ∷ quietly) (fresh base)) ≡ undisturbed
+query-alone : grantedTo 1 (happenings base (BeginQuery ∷ quietly)) ≡ undisturbed
 unfolding computed quietly undisturbed
-query-alone = ap (heard 1) (run-so (BeginQuery ∷ quietly)) ∙ refl
+query-alone = reads-so 1 (BeginQuery ∷ quietly) ∙ refl
 
-query-among : heard 1 (run base (BeginQuery ∷ among) (fresh base)) ≡ undisturbed
+query-among : grantedTo 1 (happenings base (BeginQuery ∷ among)) ≡ undisturbed
 unfolding computed among undisturbed
-query-among = ap (heard 1) (run-so (BeginQuery ∷ among)) ∙ refl
+query-among = reads-so 1 (BeginQuery ∷ among) ∙ refl
+
+-- ---- request E6: where one past its writing ends otherwise, so does the query's read
+reads-commit : grantedTo 2 (happenings base thenCommits) ≡ got 5 77 ∷ []
+unfolding computed thenCommits settledBefore
+reads-commit = reads-so 2 thenCommits ∙ refl
+
+reads-abort : grantedTo 2 (happenings base thenAborts) ≡ got 5 0 ∷ []
+unfolding computed thenAborts settledBefore
+reads-abort = reads-so 2 thenAborts ∙ refl
+
+reads-rewrite : grantedTo 2 (happenings base thenRewrites) ≡ got 5 78 ∷ []
+unfolding computed thenRewrites settledBefore
+reads-rewrite = reads-so 2 thenRewrites ∙ refl
 
 -- ---- an update is disturbed, so that the statement is not empty: the same call, another number
-update-calls : callsOf 1 updateAlone ≡ callsOf 1 updateAfter
-unfolding computed updateAlone updateAfter
-update-calls = refl
+update-alone : grantedTo 1 (happenings base updateAlone) ≡ readsAlone
+unfolding computed updateAlone readsAlone
+update-alone = reads-so 1 updateAlone ∙ refl
 
-update-alone : heard 1 (run base updateAlone (fresh base)) ≡ heardAlone
-unfolding computed updateAlone heardAlone
-update-alone = ap (heard 1) (run-so updateAlone) ∙ refl
-
-update-after : heard 1 (run base updateAfter (fresh base)) ≡ heardAfter
-unfolding computed updateAfter heardAfter
-update-after = ap (heard 1) (run-so updateAfter) ∙ refl
+update-after : grantedTo 1 (happenings base updateAfter) ≡ readsAfter
+unfolding computed updateAfter readsAfter
+update-after = reads-so 1 updateAfter ∙ refl

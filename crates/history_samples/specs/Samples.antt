@@ -8,9 +8,9 @@ use Rattle.names.specs.Sizes.{base}
 use Rattle.rules.specs.Words.{everyBelow}
 use Rattle.rules.specs.Tables.{Tables, fresh}
 use Rattle.rules.specs.Versions.{newest}
-use Rattle.rules.specs.Answers.{Call, BeginUpdate, BeginQuery, Read, Write, Commit, Abort}
+use Rattle.rules.specs.Answers.{Call, BeginUpdate, BeginQuery, Read, Write, Commit, Abort, Settle}
 use Rattle.history.specs.Runs.{Event, endOf}
-use Rattle.history.specs.Happened.{Happening, happenings}
+use Rattle.history.specs.Happened.{Access, got, Happening, happenings}
 use Rattle.history.specs.Serial.{zeros, agrees, final, serial}
 
 -- what Serializes asks of reads and of the end, as a test: of the happenings hs, after which the tables are G
@@ -30,6 +30,13 @@ mixed =
     BeginUpdate ∷ BeginUpdate ∷ BeginQuery ∷ Read 1 5 ∷ Write 1 6 77 ∷ Read 2 5 ∷ Read 2 6 ∷ Commit 1 ∷ BeginQuery
     ∷ Read 2 6 ∷ Write 2 5 88 ∷ Read 2 5 ∷ BeginUpdate ∷ Write 5 7 99 ∷ Abort 5 ∷ Read 3 6 ∷ Read 4 6 ∷ Commit 2 ∷ Read 4 5
     ∷ Read 3 5 ∷ Read 4 7 ∷ Commit 3 ∷ Read 4 6 ∷ []
+
+-- ---- request E6. Update 1 settles under stamp 1; query 3 begins; update 2 commits under stamp 2; then 1 reads what 2 wrote as it was before,
+-- and commits under its stamp. 3 waits for it, and reads what 1 wrote and not what 2 wrote
+unfoldable pub pastWriting : List Call
+pastWriting =
+    BeginUpdate ∷ BeginUpdate ∷ Write 1 5 77 ∷ Write 2 6 88 ∷ Settle 1 ∷ BeginQuery ∷ Commit 2 ∷ Read 3 6 ∷ Read 3 5 ∷ Read 1 6
+    ∷ Commit 1 ∷ Read 3 5 ∷ []
 
 -- an update writes and commits
 unfoldable pub stored : List Call
@@ -69,18 +76,44 @@ dirtyRead =
     event BeginUpdate 0 0 1 ∷ event BeginUpdate 0 0 2 ∷ event (Write 1 5 9) 0 0 0 ∷ event (Read 2 5) 0 9 0 ∷ event (Abort 1) 0 0 0
     ∷ event (Commit 2) 0 0 1 ∷ []
 
+-- a reader that was not held back: the query began after the settle, and reads what was before it
+unfoldable pub hasty : List Event
+hasty =
+    event BeginUpdate 0 0 1 ∷ event (Write 1 5 77) 0 0 0 ∷ event (Settle 1) 0 0 1 ∷ event BeginQuery 0 0 2 ∷ event (Read 2 5) 0 0 0
+    ∷ event (Commit 1) 0 0 1 ∷ []
+
+-- it is held back, and reads after the commit
+unfoldable pub patient : List Event
+patient =
+    event BeginUpdate 0 0 1 ∷ event (Write 1 5 77) 0 0 0 ∷ event (Settle 1) 0 0 1 ∷ event BeginQuery 0 0 2 ∷ event (Read 2 5) 1 0 0
+    ∷ event (Commit 1) 0 0 1 ∷ event (Read 2 5) 0 77 0 ∷ []
+
 -- ---- query 1 alone, and the same among others that write, commit, abort and end another query; its own end is in both
 unfoldable pub quietly : List Call
 quietly = Read 1 5 ∷ Write 1 5 3 ∷ Read 1 64 ∷ Read 1 5 ∷ Commit 1 ∷ Read 1 5 ∷ []
 
--- what it hears in both: codes and values
-unfoldable pub undisturbed : List (ℕ × ℕ)
-undisturbed = (0, 0) ∷ (5, 0) ∷ (4, 0) ∷ (0, 0) ∷ (0, 0) ∷ (3, 0) ∷ []
+-- the reads that are granted to it in both
+unfoldable pub undisturbed : List Access
+undisturbed = got 5 0 ∷ got 5 0 ∷ []
 
 unfoldable pub among : List Call
 among =
     BeginUpdate ∷ Write 2 5 77 ∷ Read 1 5 ∷ Commit 2 ∷ BeginQuery ∷ Write 1 5 3 ∷ BeginUpdate ∷ Write 4 5 78 ∷ Commit 4 ∷ Read 1 64
     ∷ Commit 3 ∷ BeginUpdate ∷ Write 5 5 79 ∷ Read 1 5 ∷ Abort 5 ∷ Commit 1 ∷ BeginQuery ∷ Read 1 5 ∷ []
+
+-- ---- why it is supposed that one past its writing ends alike in both runs: update 1 settles, query 2 begins and reads what 1 holds, after
+-- 1 has committed, after it has aborted, and after it has committed another value
+unfoldable pub settledBefore : List Call → List Call
+settledBefore cs = BeginUpdate ∷ Write 1 5 77 ∷ Settle 1 ∷ BeginQuery ∷ cs
+
+unfoldable pub thenCommits : List Call
+thenCommits = settledBefore (Read 2 5 ∷ Commit 1 ∷ Read 2 5 ∷ [])
+
+unfoldable pub thenAborts : List Call
+thenAborts = settledBefore (Read 2 5 ∷ Abort 1 ∷ Read 2 5 ∷ [])
+
+unfoldable pub thenRewrites : List Call
+thenRewrites = settledBefore (Read 2 5 ∷ Write 1 5 78 ∷ Commit 1 ∷ Read 2 5 ∷ [])
 
 -- ---- an update is disturbed: update 1 alone, and after another's commit
 unfoldable pub updateAlone : List Call
@@ -89,9 +122,9 @@ updateAlone = BeginUpdate ∷ Read 1 5 ∷ []
 unfoldable pub updateAfter : List Call
 updateAfter = BeginUpdate ∷ BeginUpdate ∷ Write 2 5 77 ∷ Commit 2 ∷ Read 1 5 ∷ []
 
--- what it hears alone, and after the commit
-unfoldable pub heardAlone : List (ℕ × ℕ)
-heardAlone = (0, 0) ∷ []
+-- the reads that are granted to it alone, and after the commit
+unfoldable pub readsAlone : List Access
+readsAlone = got 5 0 ∷ []
 
-unfoldable pub heardAfter : List (ℕ × ℕ)
-heardAfter = (0, 77) ∷ []
+unfoldable pub readsAfter : List Access
+readsAfter = got 5 77 ∷ []

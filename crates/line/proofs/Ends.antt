@@ -12,9 +12,9 @@ use Rattle.rules.specs.Tables.{Tables, tables, txnWords, lastNumber, clock, Txn
 use Rattle.rules.specs.Waits.{closedUp}
 use Rattle.rules.specs.Good.{Good}
 use Rattle.rules.specs.Locks.{Asked, wanted}
-use Rattle.rules.specs.Step.{begun, committed, ended, aborted}
+use Rattle.rules.specs.Step.{begun, committedUnder, committed, settledCommitted, ended, aborted, settledAborted}
 use Rattle.rules.specs.Conditions.{Free}
-use Rattle.rules.proofs.Callers.{update-alive}
+use Rattle.rules.proofs.EqualRows.{holder, holder-live}
 use Rattle.rules.proofs.EqualRanks.{awaits→, awaitsOn→}
 use Rattle.rules.proofs.Views.{txn-setTxn, txn-setTxn-other, txn-top, lock-release}
 use Rattle.rules.proofs.Walks.{conflicts→holds}
@@ -58,7 +58,7 @@ module _
           carried S D a n s x G (begun k q r G) g′ I r begin-apart
           (rows-kept S G (begun k q r G) g x r (F .inside) (λ b d. txn-setTxn-other u r Q b d ∙ txn-top t lastNumberAt m b (omega arith)) (λ b d. same-locks (lock l x) b))
           (λ o. record {
-            free = λ c. F .free (update-alive t r (g .lockGood x known .holders r (conflicts→holds (lock l x) (wanted a) r c) .1));
+            free = λ c. F .free (holder-live (txn t r) (holder S t (lock l x) (g .lockGood x known) r (conflicts→holds (lock l x) (wanted a) r c) .1) .0);
             behind = λ v. absurd (awaits→ (txn (setTxn u r Q) r) (awaitsOn→ x (txn (setTxn u r Q) r) v .0) (ap (λ (w : Txn). w .awaitedLock) (txn-setTxn u r Q S (length-set t lastNumberAt m ∙ g .txnsExact) (F .inside))));
           })
         where
@@ -84,10 +84,19 @@ module _
     released r b = subst (NoMore b (lock l x)) (sym (lock-release S r l (g .locksExact) x known)) (released-fewer r (lock l x) b)
 
     pub commits : (r : ℕ) → r < S .slots → s ≢ r → Good S (committed S r G) → J (committed S r G)
-    unfolding committed
+    unfolding committedUnder committed
     commits r i d g′ =
         ends r i d (set t clockAt (clock t + 1)) (release S r l) _ (length-set t clockAt (clock t + 1) ∙ g .txnsExact) (λ b e. txn-top t clockAt (clock t + 1) b (omega arith))
         (λ b e. released r b) g′
+
+    -- one past its writing, either way
+    pub settled-commits : (r : ℕ) → r < S .slots → s ≢ r → Good S (settledCommitted S r G) → J (settledCommitted S r G)
+    unfolding committedUnder settledCommitted
+    settled-commits r i d g′ = ends r i d t (release S r l) _ (g .txnsExact) (λ b e. refl) (λ b e. released r b) g′
+
+    pub settled-aborts : (r : ℕ) → r < S .slots → s ≢ r → Good S (settledAborted S r G) → J (settledAborted S r G)
+    unfolding settledAborted
+    settled-aborts r i d g′ = ends r i d t (release S r l) _ (g .txnsExact) (λ b e. refl) (λ b e. released r b) g′
 
     pub query-ends : (r : ℕ) → r < S .slots → s ≢ r → Good S (ended S r G) → J (ended S r G)
     unfolding ended

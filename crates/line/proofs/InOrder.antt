@@ -14,7 +14,7 @@ use Rattle.rules.specs.Tables.{Tables, tables, txnWords, Txn, txn, setTxn, noTx
 use Rattle.rules.specs.Waits.{awaits, awaitsOn, noted, closedUp}
 use Rattle.rules.specs.Good.{Good}
 use Rattle.rules.specs.Answers.{Outcome, Call, Deed}
-use Rattle.rules.specs.Step.{act, judged, done, queryRead, begun, cleared, locked, committed, ended, aborted}
+use Rattle.rules.specs.Step.{act, judged, done, queryRead, begun, cleared, locked, committedUnder, committed, settledCommitted, ended, aborted, settledAborted, settled}
 use Rattle.rules.specs.Promises.{after}
 use Rattle.rules.proofs.Tests.{true-is, false-is}
 use Rattle.rules.proofs.EqualRanks.{awaits→, awaitsOn→}
@@ -24,8 +24,8 @@ use Rattle.rules.proofs.Waited.{only-this, cleared-there, cleared-idle}
 use Rattle.rules.proofs.Judged.{way}
 use Rattle.rules.proofs.Keeps.{keeps}
 use Rattle.rules.proofs.Steps.{acts}
-use Rattle.rules.proofs.Ways.{Way, Waiter, refused, waited, beganUpdate, beganQuery, readOwn, readNewest, readShared, readQuery}
-use Rattle.rules.proofs.Ways.{wroteOwn, wroteTaken, committedUpdate, committedQuery, abortedUpdate, abortedQuery}
+use Rattle.rules.proofs.Ways.{Way, Waiter, refused, waited, beganUpdate, beganQuery, readOwn, readNewest, readShared, readSettled, readByStart}
+use Rattle.rules.proofs.Ways.{wroteOwn, wroteSettled, wroteTaken, committedUpdate, committedSettled, committedQuery, abortedUpdate, abortedSettled, abortedQuery, settledUpdate, keptWaiting}
 use Rattle.line.specs.InOrder.{OrderKept}
 use Rattle.line.proofs.Kept.{same-locks, rows-kept, left-kept, came-kept}
 
@@ -93,7 +93,7 @@ module _
 
     -- ---- every way
     stood : (c : Call) (d : Deed) → Way S G c d → Stood ((done S d G) .after .txns)
-    unfolding done queryRead begun locked committed ended aborted
+    unfolding done queryRead begun locked committedUnder committed settledCommitted ended aborted settledAborted settled
     stood c d (refused r m) v w o = o
     stood c d (waited r q y z) v w o = comes c r q y z v w o
     stood c d (beganUpdate r F l) v w o = headed r _ lastNumberAt _ (F .inside) (omega arith) refl v w o
@@ -101,13 +101,19 @@ module _
     stood c d (readOwn n r y U e) v w o = clears r (U .caller .inside) v w o
     stood c d (readNewest n r y U e) v w o = clears r (U .caller .inside) v w o
     stood c d (readShared n r y U e f) v w o = clears r (U .caller .inside) v w o
-    stood c d (readQuery n r y C q l) v w o = o
+    stood c d (keptWaiting r C q) v w o = o
+    stood c d (readSettled n r y C p l e) v w o = clears r (C .inside) v w o
+    stood c d (readByStart n r y C q l e f) v w o = o
     stood c d (wroteOwn n r y z U e) v w o = clears r (U .caller .inside) v w o
+    stood c d (wroteSettled n r y z C p l e) v w o = clears r (C .inside) v w o
     stood c d (wroteTaken n r y z U e f m) v w o = clears r (U .caller .inside) v w o
     stood c d (committedUpdate n r C u e l) v w o = headed r noTxn clockAt _ (C .inside) (omega arith) refl v w o
+    stood c d (committedSettled n r C p) v w o = gone r (C .inside) v w o
     stood c d (committedQuery n r C q) v w o = gone r (C .inside) v w o
     stood c d (abortedUpdate n r C u) v w o = aborts r (C .inside) v w o
+    stood c d (abortedSettled n r C p) v w o = gone r (C .inside) v w o
     stood c d (abortedQuery n r C q) v w o = gone r (C .inside) v w o
+    stood c d (settledUpdate n r C u e l) v w o = headed r _ clockAt _ (C .inside) (omega arith) refl v w o
 
 -- no two have one rank, so who stood ahead stands ahead
 pub order-kept : (S : Sizes) → S .slots ≤ S .places → OrderKept S

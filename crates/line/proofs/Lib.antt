@@ -4,4 +4,5 @@ pub mod InOrder
 pub mod Outsiders
 pub mod Ends
 pub mod Turns
+pub mod Readers
 pub mod Served

@@ -9,7 +9,7 @@ use native.Mathlib.Omega.{arith}
 use lib.Dec.{T, eqb, ltb}
 use borrow.Author.Tests.{ltb-true, ltb-false, ne-eqb}
 use Rattle.names.specs.declared.Sizes.{Sizes}
-use Rattle.rules.specs.Tables.{Tables, Txn, txn, live, liveUpdate, aQuery, noLock, lock, holds, exclusivesOf, fresh}
+use Rattle.rules.specs.Tables.{Tables, Txn, txn, live, liveUpdate, anUpdate, noLock, lock, holds, exclusivesOf, fresh}
 use Rattle.rules.specs.Waits.{awaits, awaitsOn, rankFor, conflicts, ahead, noted}
 use Rattle.rules.specs.Good.{Good}
 use Rattle.rules.specs.Locks.{Asked, toRead, toWrite, wanted}
@@ -17,14 +17,15 @@ use Rattle.rules.specs.Answers.{Call, Abort, Outcome, granted, code}
 use Rattle.rules.specs.Step.{act, step, judged, awaitsOther, writesFurther, withTxns}
 use Rattle.rules.specs.Conditions.{CallerIn, Names, Wants}
 use Rattle.rules.specs.Promises.{codeOf, after, asking, Passes, SameButRank}
-use Rattle.rules.proofs.Tests.{true-is, false-is, is-true, is-false, and-right, and-both, not-use, eq-make, ne-make}
-use Rattle.rules.proofs.Callers.{is-update, is-query, update-alive}
+use Rattle.rules.proofs.Tests.{true-is, false-is, is-false, and-right, and-both, not-use, eq-make, ne-make}
+use Rattle.rules.proofs.EqualRows.{holder, holder-live, update-live, update-holds, reader-live}
+use Rattle.rules.proofs.Callers.{is-writer, is-reader}
 use Rattle.rules.proofs.EqualRanks.{awaits→, awaitsOn→}
 use Rattle.rules.proofs.Walks.{ahead→, blocks→, conflicts→holds}
 use Rattle.rules.proofs.Noting.{rank-known, noted-known, noted-here}
 use Rattle.rules.proofs.Views.{awaiting}
 use Rattle.rules.proofs.Waited.{only-this}
-use Rattle.rules.proofs.Refused.{wait-is}
+use Rattle.rules.proofs.Refused.{NotedDown, HeldSilently, wait-is}
 use Rattle.rules.proofs.Granted.{granted-exactly}
 use Rattle.rules.proofs.Calls.{update-aborts}
 use Rattle.rules.proofs.Decisions.{wanted-lock}
@@ -37,6 +38,7 @@ use Rattle.history.proofs.Happens.{good-run, run-good}
 use Rattle.line.specs.Served.{Waiting, Before, Gone, Exchange, EveryCall, Served, WaitsOn, WaitsFrom, ServedInRuns}
 use Rattle.line.proofs.Outsiders.{Outside, Inv, waits-here, same-wait}
 use Rattle.line.proofs.Turns.{turn}
+use Rattle.line.proofs.Readers.{reader-served}
 
 -- who waits for an item lives
 waiter-lives : (S : Sizes) (G : Tables) → Good S G → (b : ℕ) → b < S .slots → T (awaits (txn (G .txns) b)) → T (live (txn (G .txns) b))
@@ -81,9 +83,12 @@ module _ (S : Sizes) (D : ℕ → Type 0) (a : Asked) (n s x : ℕ) (G : Tables)
 
   update : T (liveUpdate (txn (G .txns) s))
   update =
-      is-update S G g s (w .caller .inside) (w .caller .alive)
-      (is-false (eqb (R .kind) aQuery)
-      (λ h. awaits→ R (awaitsOn→ x R stands .0) (g .txnGood s (w .caller .inside) .queryIdle (is-query (G .txns) s (w .caller .alive) (is-true _ h)))))
+      is-writer (G .txns) s (w .caller .alive)
+      (go (eqb (R .kind) anUpdate) refl)
+    where
+      go : (b : Bool) → eqb (R .kind) anUpdate ≡ b → eqb (R .kind) anUpdate ≡ true
+      go true e = e
+      go false e = absurd (awaits→ R (awaitsOn→ x R stands .0) (g .txnGood s (w .caller .inside) .readerIdle (is-reader (G .txns) s (w .caller .alive) e)))
 
   nothing-else : awaitsOther (G .txns) s (wanted a) x ≡ false
   unfolding awaitsOther
@@ -95,7 +100,7 @@ module _ (S : Sizes) (D : ℕ → Type 0) (a : Asked) (n s x : ℕ) (G : Tables)
   passes =
       record {
         asks = record { caller = w .caller; update = update; known = known; free = nothing-else };
-        room = λ e. unfold writesFurther in (rw (ne-eqb (exclusivesOf S (G .locks) s) (S .quota) (λ q. g .quotaGood s (w .caller .inside) .fullIdle update q (w .lockKind ∙ ap wanted e))));
+        room = λ e. unfold writesFurther in (rw (ne-eqb (exclusivesOf S (G .locks) s) (S .quota) (λ q. g .quotaGood s (w .caller .inside) .fullIdle (update-holds R update) q (w .lockKind ∙ ap wanted e))));
       }
 
   served : Inv S D a n s x G → ((m : ℕ) → D m → Gone S G m) → (v : ℕ) → codeOf S (asking a n x v) G ≡ granted
@@ -107,7 +112,7 @@ module _ (S : Sizes) (D : ℕ → Type 0) (a : Asked) (n s x : ℕ) (G : Tables)
 
       clear : (b : ℕ) → b < S .slots → (s ≢ b) × (T (conflicts (lock (G .locks) x) (wanted a) b) ⊎ T (ahead x (wanted a) (rankFor S (G .txns) (G .locks) s x) (txn (G .txns) b))) → ⊥
       clear b i (d, inl c) =
-          I .harmless b (outside b i d (update-alive (G .txns) b (g .lockGood x known .holders b (conflicts→holds (lock (G .locks) x) (wanted a) b c) .1))) .free c
+          I .harmless b (outside b i d (holder-live (txn (G .txns) b) (holder S (G .txns) (lock (G .locks) x) (g .lockGood x known) b (conflicts→holds (lock (G .locks) x) (wanted a) b c) .1) .0)) .free c
       clear b i (d, inr c) =
           let u = ahead→ x (wanted a) (rankFor S (G .txns) (G .locks) s x) (txn (G .txns) b) c in
           let l = u .1 in
@@ -164,7 +169,7 @@ asking-wants toRead n x v = (refl, refl)
 asking-wants toWrite n x v = (refl, refl)
 
 pub waits-from : (S : Sizes) → WaitsFrom S
-waits-from S G a n s x v g C z = subst (λ (H : Tables). Waiting S H a n s x) (sym is) (go (awaitsOn x (txn t s)) refl)
+waits-from S G a n s x v g C p z = noted-down (wait-is S (asking a n x v) G z)
   where
     t : List ℕ
     t = G .txns
@@ -172,45 +177,51 @@ waits-from S G a n s x v g C z = subst (λ (H : Tables). Waiting S H a n s x) (s
     c : Call
     c = asking a n x v
 
-    W :
-        (r : ℕ) × (k : ℕ) × (y : ℕ) × CallerIn c S G r × Wants c k y × (awaitsOther t r k y ≡ false)
-        × ((step S c G) .after ≡ withTxns G (noted S t (G .locks) r k y))
-    W = wait-is S c G z
+    caller : CallerIn (asking a n x v) S G s
+    caller = record { inside = C .inside; alive = C .alive; named = subst (Names c) (sym (C .name)) (asking-names a n x v) }
 
-    slot : W .0 ≡ s
-    slot = one-caller S G g c (W .0) s (W .3) (record { inside = C .inside; alive = C .alive; named = subst (Names c) (sym (C .name)) (asking-names a n x v) })
+    noted-down : NotedDown S c G (step S c G) ⊎ HeldSilently S c G (step S c G) → Waiting S (after S c G) a n s x
+    -- it is no reader
+    noted-down (inr h) =
+        let q = reader-live (txn t (h .0 .0)) (h .0 .2) .1 in
+        let e = one-caller S G g c (h .0 .0) s (h .0 .1) caller in
+        absurd (q (ap (λ (r : ℕ). (txn t r) .kind) e ∙ update-live (txn t s) p .1))
+    noted-down (inl W) = subst (λ (H : Tables). Waiting S H a n s x) (sym is) (go (awaitsOn x (txn t s)) refl)
+      where
+        slot : W .0 ≡ s
+        slot = one-caller S G g c (W .0) s (W .3) caller
 
-    want : (W .1 ≡ wanted a) × (W .2 ≡ x)
-    want = one-want c (W .1) (wanted a) (W .2) x (W .4) (asking-wants a n x v)
+        want : (W .1 ≡ wanted a) × (W .2 ≡ x)
+        want = one-want c (W .1) (wanted a) (W .2) x (W .4) (asking-wants a n x v)
 
-    free : awaitsOther t s (wanted a) x ≡ false
-    free =
-        subst (λ (j : ℕ). awaitsOther t j (wanted a) x ≡ false) slot
-        (subst (λ (j : ℕ). awaitsOther t (W .0) j x ≡ false) (want .0) (subst (λ (j : ℕ). awaitsOther t (W .0) (W .1) j ≡ false) (want .1) (W .5)))
+        free : awaitsOther t s (wanted a) x ≡ false
+        free =
+            subst (λ (j : ℕ). awaitsOther t j (wanted a) x ≡ false) slot
+            (subst (λ (j : ℕ). awaitsOther t (W .0) j x ≡ false) (want .0) (subst (λ (j : ℕ). awaitsOther t (W .0) (W .1) j ≡ false) (want .1) (W .5)))
 
-    is : after S c G ≡ withTxns G (noted S t (G .locks) s (wanted a) x)
-    is =
-        W .6 ∙ ap (λ (j : ℕ). withTxns G (noted S t (G .locks) j (W .1) (W .2))) slot ∙ ap (λ (j : ℕ). withTxns G (noted S t (G .locks) s j (W .2))) (want .0)
-        ∙ ap (λ (j : ℕ). withTxns G (noted S t (G .locks) s (wanted a) j)) (want .1)
+        is : after S c G ≡ withTxns G (noted S t (G .locks) s (wanted a) x)
+        is =
+            W .6 ∙ ap (λ (j : ℕ). withTxns G (noted S t (G .locks) j (W .1) (W .2))) slot ∙ ap (λ (j : ℕ). withTxns G (noted S t (G .locks) s j (W .2))) (want .0)
+            ∙ ap (λ (j : ℕ). withTxns G (noted S t (G .locks) s (wanted a) j)) (want .1)
 
-    go : (b : Bool) → awaitsOn x (txn t s) ≡ b → Waiting S (withTxns G (noted S t (G .locks) s (wanted a) x)) a n s x
-    go true e =
-        let h = true-is e in
-        subst (λ (u : List ℕ). Waiting S (withTxns G u) a n s x) (sym (noted-known S t (G .locks) s (wanted a) x h))
-        (record { caller = C; lockKind = only-this t s (wanted a) x free (awaitsOn→ x (txn t s) h .0) .0; item = awaitsOn→ x (txn t s) h .1 })
-    go false e =
-        let here : txn (noted S t (G .locks) s (wanted a) x) s ≡ awaiting (txn t s) (wanted a) x (rankFor S t (G .locks) s x) =
-        noted-here S t (G .locks) s (wanted a) x (false-is e) (g .txnsExact) (C .inside) in
-        record {
-          caller =
-              record {
-                inside = C .inside;
-                alive = subst (λ (r : Txn). T (live r)) (sym here) (unfold live in C .alive);
-                name = ap (λ (r : Txn). r .number) here ∙ C .name;
-              };
-          lockKind = ap (λ (r : Txn). r .awaitedLock) here;
-          item = ap (λ (r : Txn). r .awaitedItem) here;
-        }
+        go : (b : Bool) → awaitsOn x (txn t s) ≡ b → Waiting S (withTxns G (noted S t (G .locks) s (wanted a) x)) a n s x
+        go true e =
+            let h = true-is e in
+            subst (λ (u : List ℕ). Waiting S (withTxns G u) a n s x) (sym (noted-known S t (G .locks) s (wanted a) x h))
+            (record { caller = C; lockKind = only-this t s (wanted a) x free (awaitsOn→ x (txn t s) h .0) .0; item = awaitsOn→ x (txn t s) h .1 })
+        go false e =
+            let here : txn (noted S t (G .locks) s (wanted a) x) s ≡ awaiting (txn t s) (wanted a) x (rankFor S t (G .locks) s x) =
+            noted-here S t (G .locks) s (wanted a) x (false-is e) (g .txnsExact) (C .inside) in
+            record {
+              caller =
+                  record {
+                    inside = C .inside;
+                    alive = subst (λ (r : Txn). T (live r)) (sym here) (unfold live in C .alive);
+                    name = ap (λ (r : Txn). r .number) here ∙ C .name;
+                  };
+              lockKind = ap (λ (r : Txn). r .awaitedLock) here;
+              item = ap (λ (r : Txn). r .awaitedItem) here;
+            }
 
 -- ---- the promise
 module _ (S : Sizes) (enough : S .slots ≤ S .places) where
@@ -226,7 +237,16 @@ module _ (S : Sizes) (enough : S .slots ≤ S .places) where
   waits-on G (c ∷ cs) a n s x g w p = waits-on (after S c G) cs a n s x (keeps S enough c G g) (still-waits S c G g a n s x w (p .0)) (p .1)
 
   pub served-in-runs : 1 ≤ S .places → ServedInRuns S
-  served-in-runs room before cs a n s x u v C z p =
-      let H = endOf S before (fresh S) in
-      let g = run-good S enough room before in
-      served-in-line (after S (asking a n x u) H) cs a n s x v (keeps S enough (asking a n x u) H g) (waits-from S H a n s x u g C z) p
+  served-in-runs room before cs a n s x u v C z p = go (eqb ((txn ((endOf S before (fresh S)) .txns) s) .kind) anUpdate) refl
+    where
+      H : Tables
+      H = endOf S before (fresh S)
+
+      g : Good S (endOf S before (fresh S))
+      g = run-good S enough room before
+
+      go : (b : Bool) → eqb ((txn (H .txns) s) .kind) anUpdate ≡ b → codeOf S (asking a n x v) (endOf S cs (after S (asking a n x u) H)) ≡ granted
+      go true e =
+          served-in-line (after S (asking a n x u) H) cs a n s x v (keeps S enough (asking a n x u) H g)
+          (waits-from S H a n s x u g C (is-writer (H .txns) s (C .alive) e) z) p
+      go false e = reader-served S enough H g n s x C (is-reader (H .txns) s (C .alive) e) a u v cs z p

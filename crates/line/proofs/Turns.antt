@@ -5,23 +5,25 @@ use mathlib.Core.Logic.{_≢_, _⊎_, inl, inr, ⊎-elim}
 use mathlib.Core.Bool.{Bool, true, false, _&&_, cond}
 use mathlib.Core.List.{List}
 use native.Mathlib.Omega.{arith}
+use lib.ListN.{set, length-set}
 use lib.Dec.{T, leb, eqb→eq}
 use borrow.Author.Tests.{lt-leb, ne-eqb}
 use Rattle.names.specs.declared.Sizes.{Sizes}
-use Rattle.rules.specs.Tables.{Tables, tables, Txn, txn, live, liveUpdate, Lock, lock, setLock, holds, holdsShared, holdsExclusive}
-use Rattle.rules.specs.Tables.{noLock, sharedLock, exclusiveLock, exclusivesOf}
+use Rattle.names.specs.Layout.{clockAt}
+use Rattle.rules.specs.Tables.{Tables, tables, Txn, txn, live, Lock, lock, setLock, holds, holdsShared, holdsExclusive}
+use Rattle.rules.specs.Tables.{clock, setTxn, newTxn, aSettled, noLock, sharedLock, exclusiveLock, exclusivesOf, unshare}
 use Rattle.rules.specs.Waits.{awaits, awaitsOn, rankFor, raised, noted, conflicts}
 use Rattle.rules.specs.Good.{Good}
 use Rattle.rules.specs.Locks.{Asked, toRead, toWrite, wanted}
-use Rattle.rules.specs.Answers.{Outcome, Call, BeginUpdate, BeginQuery, Read, Write, Commit, Abort, Deed, granted, code, Wait}
-use Rattle.rules.specs.Step.{step, done, cleared, locked, replaced, sharedToo, taken, queryRead, withTxns, writesFurther}
+use Rattle.rules.specs.Answers.{Outcome, Call, BeginUpdate, BeginQuery, Read, Write, Commit, Abort, Settle, Deed, granted, code, Wait}
+use Rattle.rules.specs.Step.{step, done, cleared, locked, replaced, sharedToo, taken, queryRead, withTxns, writesFurther, settled}
 use Rattle.rules.specs.Conditions.{Caller, Updater, Names, Wants}
 use Rattle.rules.specs.Promises.{codeOf, after, Conflicting}
 use Rattle.rules.proofs.Tests.{true-is, false-is, or-left, or-right, same?}
 use Rattle.rules.proofs.Carried.{NoMore}
 use Rattle.rules.proofs.Callers.{caller-found}
-use Rattle.rules.proofs.EqualRanks.{awaitsOn→}
-use Rattle.rules.proofs.Views.{awaiting, lock-setLock}
+use Rattle.rules.proofs.EqualRanks.{awaits→, awaitsOn→}
+use Rattle.rules.proofs.Views.{awaiting, lock-setLock, lock-unshare, txn-setTxn, txn-setTxn-other, txn-top}
 use Rattle.rules.proofs.Walks.{→ahead, →blocks}
 use Rattle.rules.proofs.Decisions.{conflicts-cases}
 use Rattle.rules.proofs.Grants.{conflicts-fewer, shared-others, replaced-others, taken-others}
@@ -29,11 +31,12 @@ use Rattle.rules.proofs.Noting.{noted-known, noted-there, noted-here}
 use Rattle.rules.proofs.Waited.{only-this, cleared-here, cleared-there, cleared-idle}
 use Rattle.rules.proofs.Granted.{granted-exactly}
 use Rattle.rules.proofs.InOrder.{raised-before}
-use Rattle.rules.proofs.Ways.{Way, Waiter, refused, waited, beganUpdate, beganQuery, readOwn, readNewest, readShared, readQuery}
-use Rattle.rules.proofs.Ways.{wroteOwn, wroteTaken, committedUpdate, committedQuery, abortedUpdate, abortedQuery}
+use Rattle.rules.proofs.Settles.{unshared-fewer}
+use Rattle.rules.proofs.Ways.{Way, Waiter, refused, waited, beganUpdate, beganQuery, readOwn, readNewest, readShared, readSettled, readByStart}
+use Rattle.rules.proofs.Ways.{wroteOwn, wroteSettled, wroteTaken, committedUpdate, committedSettled, committedQuery, abortedUpdate, abortedSettled, abortedQuery, settledUpdate, keptWaiting}
 use Rattle.line.specs.Served.{Exchange}
-use Rattle.line.proofs.Kept.{Kept, same-locks, set-other, left-kept, came-kept}
-use Rattle.line.proofs.Ends.{begins, commits, query-ends, aborts}
+use Rattle.line.proofs.Kept.{Kept, same-locks, set-other, rows-kept, left-kept, came-kept}
+use Rattle.line.proofs.Ends.{begins, commits, settled-commits, query-ends, aborts, settled-aborts}
 use Rattle.line.proofs.Outsiders.{Outside, Harmless, Inv, waits-here, asks-behind, carried}
 
 -- a call for an exclusive lock is a write
@@ -44,6 +47,7 @@ writes (Read i z) m k y h w e = absurd (let q = w .0 in omega arith)
 writes (Write i z v) m k y h w e = (v, ap (λ (j : ℕ). Write j z v) h ∙ ap (λ (j : ℕ). Write m j v) (w .1))
 writes (Commit i) m k y h w e = absurd w
 writes (Abort i) m k y h w e = absurd w
+writes (Settle i) m k y h w e = absurd w
 
 -- a request is to read or to write
 kinds : (a : Asked) → (wanted a ≡ sharedLock) ⊎ (wanted a ≡ exclusiveLock)
@@ -299,17 +303,38 @@ module _
             (stopped r o toWrite (subst (λ (j : ℕ). T (holds (lock l j) r) → ⊥) (sym e) p) (inl refl))
 
     -- ---- a working value is replaced
-    replaces : (r y v : ℕ) → r < S .slots → T (liveUpdate (txn t r)) → y < S .items → s ≢ r → Good S (locked S r y (replaced (lock l y) v) G) → J (locked S r y (replaced (lock l y) v) G)
-    replaces r y v i u there d g′ = locks r i y h′ there (λ b e. no b) d g′ (λ e o. unfold locked in (as-before r i (setLock l y h′) (own e) o))
+    replaces : (r y v : ℕ) → r < S .slots → y < S .items → s ≢ r → Good S (locked S r y (replaced (lock l y) v) G) → J (locked S r y (replaced (lock l y) v) G)
+    replaces r y v i there d g′ = locks r i y h′ there (λ b e. no b) d g′ (λ e o. unfold locked in (as-before r i (setLock l y h′) (own e) o))
       where
         h′ : Lock
         h′ = replaced (lock l y) v
 
         no : (b : ℕ) → NoMore b (lock l y) h′
-        no b = replaced-others S t (lock l y) (g .lockGood y there) r i u v b
+        no b = replaced-others (lock l y) v b
 
         own : x ≡ y → NoMore r (lock l x) (lock (setLock l y h′) x)
         own e = subst (NoMore r (lock l x)) (sym (same-item r i y h′ there (λ b d. no b) e)) (subst (λ (j : ℕ). NoMore r (lock l j) h′) (sym e) (no r))
+
+    -- ---- one settles: it awaits nothing and holds no more
+    settles : (r : ℕ) → r < S .slots → s ≢ r → Good S (settled S r G) → J (settled S r G)
+    unfolding settled
+    settles r i d g′ =
+        carried S D a n s x G (settled S r G) g′ I r d
+        (rows-kept S G (settled S r G) g x r i (λ b e. txn-setTxn-other u′ r Q b e ∙ txn-top t clockAt (clock t + 1) b (omega arith)) (λ b e. fewer′ b))
+        (no-more (settled S r G) r (ap (λ (w : Txn). w .number) here′) (λ h. unfold live in (subst (λ (w : Txn). T (live w)) here′ h))
+        (λ v. awaits→ (txn (setTxn u′ r Q) r) v (ap (λ (w : Txn). w .awaitedLock) here′)) (fewer′ r))
+      where
+        u′ : List ℕ
+        u′ = set t clockAt (clock t + 1)
+
+        Q : Txn
+        Q = newTxn ((txn t r) .number) aSettled (clock t + 1)
+
+        here′ : txn (setTxn u′ r Q) r ≡ Q
+        here′ = txn-setTxn u′ r Q S (length-set t clockAt (clock t + 1) ∙ g .txnsExact) i
+
+        fewer′ : (b : ℕ) → NoMore b (lock l x) (lock (unshare S r l) x)
+        fewer′ b = subst (NoMore b (lock l x)) (sym (lock-unshare S r l (g .locksExact) x known)) (unshared-fewer r (lock l x) b)
 
     -- ---- every way
     pub turn :
@@ -327,17 +352,28 @@ module _
     turn c d (readShared m r y U h f) e quiet none g′ =
         let z = ap (λ (o : Outcome). o .answer .code) e in
         shares m r y U h f z (apart c quiet none m r refl (U .caller) z) g′
-    turn c d (readQuery m r y C q i) e quiet none g′ = I
+    turn c d (keptWaiting r C q) e quiet none g′ = I
+    turn c d (readSettled m r y C p i h) e quiet none g′ =
+        clears-only r (C .inside) (apart c quiet none m r refl C (ap (λ (o : Outcome). o .answer .code) e)) g′
+    turn c d (readByStart m r y C q i h f) e quiet none g′ = I
     turn c d (wroteOwn m r y v U h) e quiet none g′ =
-        replaces r y v (U .caller .inside) (U .update) (U .known) (apart c quiet none m r refl (U .caller) (ap (λ (o : Outcome). o .answer .code) e)) g′
+        replaces r y v (U .caller .inside) (U .known) (apart c quiet none m r refl (U .caller) (ap (λ (o : Outcome). o .answer .code) e)) g′
+    turn c d (wroteSettled m r y v C p i h) e quiet none g′ =
+        replaces r y v (C .inside) i (apart c quiet none m r refl C (ap (λ (o : Outcome). o .answer .code) e)) g′
     turn c d (wroteTaken m r y v U h alone room) e quiet none g′ =
         let z = ap (λ (o : Outcome). o .answer .code) e in
         takes m r y v U h alone room z quiet none (apart c quiet none m r refl (U .caller) z) g′
     turn c d (committedUpdate m r C u i f) e quiet none g′ =
         commits S D a n s x G g I known r (C .inside) (apart c quiet none m r refl C (ap (λ (o : Outcome). o .answer .code) e)) g′
+    turn c d (committedSettled m r C p) e quiet none g′ =
+        settled-commits S D a n s x G g I known r (C .inside) (apart c quiet none m r refl C (ap (λ (o : Outcome). o .answer .code) e)) g′
     turn c d (committedQuery m r C q) e quiet none g′ =
         query-ends S D a n s x G g I known r (C .inside) (apart c quiet none m r refl C (ap (λ (o : Outcome). o .answer .code) e)) g′
     turn c d (abortedUpdate m r C u) e quiet none g′ =
         aborts S D a n s x G g I known r (C .inside) (apart c quiet none m r refl C (ap (λ (o : Outcome). o .answer .code) e)) g′
+    turn c d (abortedSettled m r C p) e quiet none g′ =
+        settled-aborts S D a n s x G g I known r (C .inside) (apart c quiet none m r refl C (ap (λ (o : Outcome). o .answer .code) e)) g′
+    turn c d (settledUpdate m r C u i f) e quiet none g′ =
+        settles r (C .inside) (apart c quiet none m r refl C (ap (λ (o : Outcome). o .answer .code) e)) g′
     turn c d (abortedQuery m r C q) e quiet none g′ =
         query-ends S D a n s x G g I known r (C .inside) (apart c quiet none m r refl C (ap (λ (o : Outcome). o .answer .code) e)) g′

@@ -7,7 +7,7 @@ use mathlib.Core.Bool.{true}
 use mathlib.Core.List.{List, [], _∷_}
 use lib.Dec.{T}
 use Rattle.names.specs.declared.Sizes.{Sizes}
-use Rattle.rules.specs.Tables.{Tables, txn, lock, holds, holdsShared, fresh}
+use Rattle.rules.specs.Tables.{Tables, txn, liveUpdate, lock, holds, holdsShared, fresh}
 use Rattle.rules.specs.Waits.{awaitsOn}
 use Rattle.rules.specs.Good.{Good}
 use Rattle.rules.specs.Locks.{Asked, wanted}
@@ -86,14 +86,17 @@ WaitsOn S =
     (G : Tables) (cs : List Call) (a : Asked) (n s x : ℕ) → Good S G → Waiting S G a n s x
     → StillWaits S G n cs → Waiting S (endOf S cs G) a n s x
 
--- a request waits from the answer 1 on
+-- an update's request waits from the answer 1 on. Request E6: a reader that is held back "takes no rank", and its row does not say that
+-- it waits
 abbrev pub WaitsFrom : Sizes → Type 0
 WaitsFrom S =
-    (G : Tables) (a : Asked) (n s x v : ℕ) → Good S G → Caller S G n s → codeOf S (asking a n x v) G ≡ code Wait
+    (G : Tables) (a : Asked) (n s x v : ℕ) → Good S G → Caller S G n s → T (liveUpdate (txn (G .txns) s))
+    → codeOf S (asking a n x v) G ≡ code Wait
     → Waiting S (after S (asking a n x v) G) a n s x
 
 -- so, of runs from fresh tables: after the calls `before` the transaction n, in slot s, asks for the item x and is answered 1; the calls
--- cs follow; then it asks again
+-- cs follow; then it asks again. Since request E6 this is said of readers too: one is held back by an exclusive holder, so when that has
+-- ended it reads
 abbrev pub ServedInRuns : Sizes → Type 0
 ServedInRuns S =
     (before cs : List Call) (a : Asked) (n s x u v : ℕ)

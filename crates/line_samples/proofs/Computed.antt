@@ -5,22 +5,22 @@ use mathlib.Core.Path.{_≡_, refl, ap, _∙_}
 use native.Mathlib.Omega.{arith}
 use Rattle.names.specs.Sizes.{base}
 use Rattle.rules.specs.Words.{implies, everyBelow, someBelow, countBelow, firstFrom, every, some, tabulateFrom, row, everyRow, mapRows, bit, withBit, withoutBit}
-use Rattle.rules.specs.Tables.{txn, setTxn, setAwaited, reranked, live, liveUpdate, liveQuery, slotOf, freeSlot, startsFrom, starts, lock, setLock, holdsShared, holdsExclusive, holds, exclusivesOf, released, release, fresh}
+use Rattle.rules.specs.Tables.{txn, setTxn, setAwaited, reranked, live, liveUpdate, liveQuery, liveSettled, mayHold, byStart, slotOf, freeSlot, startsFrom, starts, lock, setLock, holdsShared, holdsExclusive, holds, exclusivesOf, released, release, unshare, fresh}
 use Rattle.rules.specs.Versions.{pairs, versionsIn, versionsOf, pairWords, rowOf, stampAt, newest, place, choice, readBySome, keptFrom, kept, rewritten}
 use Rattle.rules.specs.Waits.{awaits, awaitsOn, waitersOn, exchangersOn, rankFor, raised, lowered, noted, closedUp, conflicts, ahead, blocks, blocked, waitsFor, marked, spread, rounds, reached, circleAt, noCircle}
 use Rattle.rules.specs.Locks.{heldBy, decide, anotherShares, anotherExcludes, anotherAhead, decision}
-use Rattle.rules.specs.Step.{beginBy, conflicted, cellDeed, access, awaitsOther, writesFurther, readBy, writeBy, commitBy, abortBy, judged, begun, cleared, locked, queryRead, withNew, committed, ended, aborted, done, act}
+use Rattle.rules.specs.Step.{beginBy, conflicted, cellDeed, access, awaitsOther, writesFurther, holdsBack, heldBack, startRead, writesPast, readBy, writeBy, commitBy, abortBy, settleBy, judged, begun, cleared, locked, queryRead, withNew, committedUnder, committed, settledCommitted, ended, aborted, settledAborted, settled, done, act}
 use Rattle.rules.specs.Answers.{Call}
 use Rattle.rules.proofs.Fresh.{fresh-good}
 use Rattle.history.specs.Runs.{endOf}
 use Rattle.history.proofs.Happens.{run-good}
 use Rattle.history.proofs.Played.{played, playedEnd, run-played, end-played}
-use Rattle.line_samples.specs.Samples.{codesIn, codes, held, reader, readerCodes, upload, uploadCodes}
+use Rattle.line_samples.specs.Samples.{codesIn, codes, held, reader, readerCodes, upload, uploadCodes, shareGone, shareGoneCodes, settle, pastWriting, pastWritingCodes}
 use Rattle.line_samples.specs.Samples.{queued, givenUp, exchange, exchanger, exchangerCodes, refusal, refusalCodes}
 
 -- whoever unfolds this computes with all the rules
 unfoldable pub computed : List Call → List ℕ
-unfolding played playedEnd codesIn held queued exchange givenUp implies everyBelow someBelow countBelow firstFrom every some tabulateFrom row everyRow mapRows bit withBit withoutBit txn setTxn setAwaited reranked live liveUpdate liveQuery slotOf freeSlot startsFrom starts lock setLock holdsShared holdsExclusive holds exclusivesOf released release fresh pairs versionsIn versionsOf pairWords rowOf stampAt newest place choice readBySome keptFrom kept rewritten awaits awaitsOn waitersOn exchangersOn rankFor raised lowered noted closedUp conflicts ahead blocks blocked waitsFor marked spread rounds reached circleAt noCircle heldBy decide anotherShares anotherExcludes anotherAhead decision beginBy conflicted cellDeed access awaitsOther writesFurther readBy writeBy commitBy abortBy judged begun cleared locked queryRead withNew committed ended aborted done act
+unfolding played playedEnd codesIn held settle queued exchange givenUp implies everyBelow someBelow countBelow firstFrom every some tabulateFrom row everyRow mapRows bit withBit withoutBit txn setTxn setAwaited reranked live liveUpdate liveQuery liveSettled mayHold byStart slotOf freeSlot startsFrom starts lock setLock holdsShared holdsExclusive holds exclusivesOf released release unshare fresh pairs versionsIn versionsOf pairWords rowOf stampAt newest place choice readBySome keptFrom kept rewritten awaits awaitsOn waitersOn exchangersOn rankFor raised lowered noted closedUp conflicts ahead blocks blocked waitsFor marked spread rounds reached circleAt noCircle heldBy decide anotherShares anotherExcludes anotherAhead decision beginBy conflicted cellDeed access awaitsOther writesFurther holdsBack heldBack startRead writesPast readBy writeBy commitBy abortBy settleBy judged begun cleared locked queryRead withNew committedUnder committed settledCommitted ended aborted settledAborted settled done act
 computed cs = codesIn (played base cs (fresh base))
 
 -- these are the codes, and the tables at the end, of one run and of another after it
@@ -43,6 +43,14 @@ reader-codes = codes-so reader ∙ refl
 upload-codes : codes upload ≡ uploadCodes
 unfolding computed upload uploadCodes
 upload-codes = codes-so upload ∙ refl
+
+shareGone-codes : codes shareGone ≡ shareGoneCodes
+unfolding computed shareGone shareGoneCodes
+shareGone-codes = codes-so shareGone ∙ refl
+
+pastWriting-codes : codes pastWriting ≡ pastWritingCodes
+unfolding computed pastWriting pastWritingCodes
+pastWriting-codes = codes-so pastWriting ∙ refl
 
 exchanger-codes : codes exchanger ≡ exchangerCodes
 unfolding computed exchanger exchangerCodes

@@ -7,11 +7,11 @@ use mathlib.Core.Path.{_≡_, refl, sym, ap, subst, _∙_}
 use native.Mathlib.Omega.{arith}
 use lib.Dec.{T, eqb, eqb→eq}
 use Rattle.names.specs.Sizes.{base}
-use Rattle.rules.specs.Tables.{Tables, fresh, txn, live, slotOf, lock, holds, holdsExclusive, sharedLock}
+use Rattle.rules.specs.Tables.{Tables, fresh, txn, live, liveSettled, slotOf, lock, holds, holdsExclusive, sharedLock}
 use Rattle.rules.specs.Waits.{awaitsOn}
 use Rattle.rules.specs.Good.{Good}
 use Rattle.rules.specs.Locks.{toRead}
-use Rattle.rules.specs.Answers.{Call, Read, Write, Commit, Abort, Outcome, code, Wait, UnknownTransaction}
+use Rattle.rules.specs.Answers.{Call, Read, Write, Commit, Abort, Settle, Outcome, code, Wait, UnknownTransaction}
 use Rattle.rules.specs.Step.{act}
 use Rattle.rules.specs.Promises.{codeOf}
 use Rattle.rules.proofs.Tests.{and-left, and-right}
@@ -23,7 +23,7 @@ use Rattle.history.specs.Runs.{endOf}
 use Rattle.history.proofs.Happens.{run-good, good-run}
 use Rattle.history.proofs.Played.{playedEnd}
 use Rattle.line.specs.Served.{Waiting, Before, Gone, EveryCall, StillWaits, AllEnded, NoneExchanges}
-use Rattle.line_samples.specs.Samples.{held, queued, exchange, givenUp, HoldersEnded, EndsNeeded, WaitersNeeded, ExchangesNeeded, WaitNeeded}
+use Rattle.line_samples.specs.Samples.{held, settle, queued, exchange, givenUp, AllPast, HoldersEnded, EndsNeeded, PastTooLittle, WaitersNeeded, ExchangesNeeded, WaitNeeded}
 use Rattle.line_samples.proofs.Computed.{computed, end-so, ends-so}
 
 -- ---- what is computed of tables, each time as one test: that the update n, in slot s, waits to read item 5, which update 1 holds
@@ -104,12 +104,15 @@ module _ (n k : ℕ) (G : Tables) (h : T (asksAt n k G)) where
       let q = caller-found base G g b 1 (C .inside) (C .alive) (C .name ∙ e) in
       let i = C .inside in omega arith
 
--- a commit and an abort are no writes
+-- a commit, an abort and a settle are no writes
 no-write : {n m x v : ℕ} → Commit n ≡ Write m x v → ⊥
 no-write e = let z : _≡_ {A = ℕ} 0 1 = cc in omega arith
 
 not-written : {n m x v : ℕ} → Abort n ≡ Write m x v → ⊥
 not-written e = let z : _≡_ {A = ℕ} 0 1 = cc in omega arith
+
+not-settled : {n m x v : ℕ} → Settle n ≡ Write m x v → ⊥
+not-settled e = let z : _≡_ {A = ℕ} 0 1 = cc in omega arith
 
 -- ---- update 2 waits for update 1
 abbrev G : Tables
@@ -147,6 +150,45 @@ not-yet =
 pub ends-needed : EndsNeeded
 unfolding EveryCall endOf
 ends-needed P = let z = P G [] toRead 2 1 5 0 good-G two-waits (tt, tt) in let w = not-yet in omega arith
+
+-- ---- 1 is past its writing: it is found in slot 0, and 2's asking is answered 1
+unfoldable pastAt : Tables → Bool
+pastAt H = eqb (slotOf base (H .txns) 1) 0 && (liveSettled (txn (H .txns) 0) && eqb ((act base (Read 2 5) H) .answer .code) (code Wait))
+
+abbrev K : Tables
+K = endOf base settle G
+
+good-K : Good base K
+good-K = good-run base (omega arith) settle G good-G
+
+past-so : T (pastAt K)
+unfolding computed pastAt
+past-so = subst (λ (H : Tables). T (pastAt H)) (sym (ends-so held settle)) tt
+
+past-waits : codeOf base (Read 2 5) K ≡ code Wait
+unfolding pastAt
+past-waits =
+    ap (λ (o : Outcome). o .answer .code) (acts base (Read 2 5) K good-K)
+    ∙ eqb→eq _ (code Wait) (and-right (liveSettled (txn (K .txns) 0)) _ (and-right (eqb (slotOf base (K .txns) 1) 0) _ past-so))
+
+all-past : AllPast G 1 5 settle
+unfolding pastAt
+all-past m b B C =
+    let f : slotOf base (K .txns) 1 ≡ 0 = eqb→eq (slotOf base (K .txns) 1) 0 (and-left (eqb (slotOf base (K .txns) 1) 0) _ past-so) in
+    let q = caller-found base K good-K b 1 (C .inside) (C .alive) (C .name ∙ only-one m B) in
+    subst (λ (r : ℕ). T (liveSettled (txn (K .txns) r))) (sym f ∙ q)
+    (and-left (liveSettled (txn (K .txns) 0)) _ (and-right (eqb (slotOf base (K .txns) 1) 0) _ past-so))
+
+pub past-too-little : PastTooLittle
+past-too-little h =
+    let z = h G settle toRead 2 1 5 0 good-G two-waits (past-still, all-past, past-exchanges) in
+    let w = past-waits in omega arith
+  where
+    past-still : StillWaits base G 2 settle
+    past-still = unfold EveryCall settle in (λ e. absurd (omega arith), tt)
+
+    past-exchanges : NoneExchanges base G 2 1 5 settle
+    past-exchanges = unfold EveryCall settle in (λ m X. absurd (not-settled (X .asks)), tt)
 
 -- ---- 1 has ended, and 3 exchanged
 exchanged-so : T (asksAt 2 (code Wait) (endOf base exchange G))

@@ -5,11 +5,11 @@ use mathlib.Core.Logic.{_≢_}
 use mathlib.Core.List.{List, [], _∷_, _++_}
 use lib.Dec.{T}
 use Rattle.names.specs.Sizes.{base}
-use Rattle.rules.specs.Tables.{Tables, fresh, lock, holds}
-use Rattle.rules.specs.Answers.{Call, BeginUpdate, Read, Write, Commit, Abort}
+use Rattle.rules.specs.Tables.{Tables, fresh, txn, liveSettled, lock, holds}
+use Rattle.rules.specs.Answers.{Call, BeginUpdate, BeginQuery, Read, Write, Commit, Abort, Settle}
 use Rattle.rules.specs.Conditions.{Caller}
 use Rattle.history.specs.Runs.{Event, run, endOf}
-use Rattle.line.specs.Served.{Gone, StillWaits, AllEnded, NoneExchanges, ServedWhere}
+use Rattle.line.specs.Served.{Before, Gone, StillWaits, AllEnded, NoneExchanges, ServedWhere}
 
 -- the codes that the calls cs from fresh tables are answered
 unfoldable pub codesIn : List Event → List ℕ
@@ -38,6 +38,23 @@ upload =
 
 unfoldable pub uploadCodes : List ℕ
 uploadCodes = 0 ∷ 0 ∷ 0 ∷ 1 ∷ 0 ∷ 1 ∷ 0 ∷ 0 ∷ 1 ∷ 0 ∷ []
+
+-- request E6: 1 shares the item and settles; "its shared locks go", and 2, which waits to write, is granted it
+unfoldable pub shareGone : List Call
+shareGone = BeginUpdate ∷ BeginUpdate ∷ Read 1 5 ∷ Write 2 5 7 ∷ Settle 1 ∷ Write 2 5 7 ∷ []
+
+unfoldable pub shareGoneCodes : List ℕ
+shareGoneCodes = 0 ∷ 0 ∷ 0 ∷ 1 ∷ 0 ∷ 0 ∷ []
+
+-- 1, which wrote the item, settles and keeps it: 2 waits on, and so does query 3, which begins then. Both read when 1 has ended
+unfoldable pub settle : List Call
+settle = Settle 1 ∷ []
+
+unfoldable pub pastWriting : List Call
+pastWriting = held ++ (settle ++ (Read 2 5 ∷ BeginQuery ∷ Read 3 5 ∷ Commit 1 ∷ Read 2 5 ∷ Read 3 5 ∷ []))
+
+unfoldable pub pastWritingCodes : List ℕ
+pastWritingCodes = 0 ∷ 0 ∷ 0 ∷ 1 ∷ 0 ∷ 1 ∷ 0 ∷ 1 ∷ 0 ∷ 0 ∷ 0 ∷ []
 
 -- ---- not served
 -- "every waiter ahead .. has ended" is needed: 2 waits to write what 1 wrote, and 3 waits behind it to read; when 1 has ended, 2 does not
@@ -72,6 +89,14 @@ refusalCodes = 0 ∷ 0 ∷ 0 ∷ 0 ∷ 1 ∷ 2 ∷ 0 ∷ 0 ∷ 0 ∷ 1 ∷ []
 -- that all have ended
 abbrev pub EndsNeeded : Type 0
 EndsNeeded = ServedWhere base (λ G n s x cs. StillWaits base G n cs × NoneExchanges base G n s x cs) → ⊥
+
+-- that they have, and are not only past their writing (request E6)
+abbrev pub AllPast : Tables → ℕ → ℕ → List Call → Type 0
+AllPast G s x cs =
+    (m b : ℕ) → Before base G s x m → Caller base (endOf base cs G) m b → T (liveSettled (txn ((endOf base cs G) .txns) b))
+
+abbrev pub PastTooLittle : Type 0
+PastTooLittle = ServedWhere base (λ G n s x cs. StillWaits base G n cs × AllPast G s x cs × NoneExchanges base G n s x cs) → ⊥
 
 -- that the waiters ahead have, beside the holders
 abbrev pub HoldersEnded : Tables → ℕ → ℕ → List Call → Type 0
