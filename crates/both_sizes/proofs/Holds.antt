@@ -2,14 +2,13 @@
 use native.Mathlib.Omega.{arith}
 use Rattle.names.specs.declared.Sizes.{Sizes}
 use Rattle.names.specs.Sizes.{base, sixteen, Both}
-use Rattle.rules.specs.Tables.{lock, holds, holdsShared}
-use Rattle.rules.proofs.Tests.{or-left}
+use Rattle.rules.specs.Tables.{lock, holdsShared}
 use Rattle.rules.proofs.Bits.{below-bits}
 use Rattle.rules.proofs.Fresh.{fresh-good}
 use Rattle.rules.proofs.Keeps.{keeps}
 use Rattle.rules.proofs.Answered.{code-exactly}
 use Rattle.rules.proofs.Outcomes.{granted-changes}
-use Rattle.rules.proofs.Queries.{query-read, ended-trims, committed-trims}
+use Rattle.rules.proofs.Queries.{start-read, ended-trims, committed-trims, settled-trims}
 use Rattle.history.proofs.Demand.{demand-3-sizes, reads-sizes, beside-sizes}
 use Rattle.line.proofs.Served.{served-in-runs}
 use Rattle.plays.specs.Plays.{AllPass}
@@ -18,8 +17,8 @@ use Rattle.starred.proofs.Pass.{all-trials}
 use Rattle.both_sizes.specs.Facts.{Enough, HoldersFit, Facts}
 
 holders-fit : (S : Sizes) → HoldersFit S
-unfolding holds holdsShared
-holders-fit S G x g i = below-bits (S .slots) ((lock (G .locks) x) .shared) (λ b u. g .lockGood x i .holders b (or-left (holdsShared (lock (G .locks) x) b) _ u) .0)
+unfolding holdsShared
+holders-fit S G x g i = below-bits (S .slots) ((lock (G .locks) x) .shared) (λ b u. g .lockGood x i .sharers b u .0)
 
 pub facts : (S : Sizes) → Enough S → Facts S
 facts S e =
@@ -29,9 +28,10 @@ facts S e =
       codes = code-exactly S;
       changes = granted-changes S (e .places);
       holders = holders-fit S;
-      looked = query-read S;
+      looked = start-read S;
       endTrims = ended-trims S (e .places);
       commitTrims = committed-trims S (e .places);
+      settledTrims = settled-trims S (e .places);
       serial = demand-3-sizes S (e .places) (e .room) .0;
       undisturbed = demand-3-sizes S (e .places) (e .room) .1;
       asBegun = reads-sizes S (e .places) (e .room);

@@ -7,7 +7,7 @@ use Rattle.names.specs.declared.Sizes.{Sizes}
 use Rattle.rules.specs.Tables.{Tables, lock, fresh}
 use Rattle.rules.specs.Answers.{Call}
 use Rattle.rules.specs.Good.{Good}
-use Rattle.rules.specs.Promises.{CodeExactly, StaysGood, GrantedChanges, QueryReads, EndTrims, CommitTrims}
+use Rattle.rules.specs.Promises.{CodeExactly, StaysGood, GrantedChanges, StartReads, EndTrims, CommitTrims, SettledTrims}
 use Rattle.history.specs.Serial.{Serializes}
 use Rattle.history.specs.Undisturbed.{ReadsAsBegun, Undisturbed}
 use Rattle.history.specs.Ended.{EndedForEver}
@@ -30,11 +30,12 @@ pub record Facts (S : Sizes) : Type 0 where
   pub changes : GrantedChanges S
   -- a word of shared holders has a bit for each slot and none above: for up to 64 slots it is one word of 64 bits
   pub holders : HoldersFit S
-  -- looked is at most 2 plus the number of live queries with a later start
-  pub looked : QueryReads S
+  -- looked is at most 2 plus the number of live queries with a later start, those past their writing among them (request E6)
+  pub looked : StartReads S
   -- as many places as slots are always enough
   pub endTrims : EndTrims S
   pub commitTrims : CommitTrims S
+  pub settledTrims : SettledTrims S
   -- demand 3, and what stands beside it
   pub serial : (cs : List Call) → Serializes S cs
   pub undisturbed : Undisturbed S

@@ -2,7 +2,7 @@
 use Prim.Native.Nat.{ℕ}
 use mathlib.Core.Bool.{Bool, true, false, _&&_}
 use lib.Dec.{leb}
-use Rattle.rules.specs.Answers.{Call, BeginUpdate, BeginQuery, Read, Write, Commit, Abort}
+use Rattle.rules.specs.Answers.{Call, BeginUpdate, BeginQuery, Read, Write, Commit, Abort, Settle}
 
 -- "Values are any 64-bit number."
 abbrev pub greatestWord : ℕ
@@ -18,6 +18,7 @@ callOfWords (Read n x) = isWord n && isWord x
 callOfWords (Write n x v) = isWord n && isWord x && isWord v
 callOfWords (Commit n) = isWord n
 callOfWords (Abort n) = isWord n
+callOfWords (Settle n) = isWord n
 
 -- the calls that read
 unfoldable pub isRead : Call → Bool
@@ -27,6 +28,7 @@ isRead (Read n x) = true
 isRead (Write n x v) = false
 isRead (Commit n) = false
 isRead (Abort n) = false
+isRead (Settle n) = false
 
 -- the two begins
 unfoldable pub isBegin : Call → Bool
@@ -36,3 +38,4 @@ isBegin (Read n x) = false
 isBegin (Write n x v) = false
 isBegin (Commit n) = false
 isBegin (Abort n) = false
+isBegin (Settle n) = false

@@ -10,6 +10,7 @@ use Rattle.plays.specs.Plays.{Line, _⇒_, Trial, anyEnd}
 use Rattle.starred_row.specs.FullRow.{trialI, fullRow}
 use Rattle.starred_quotas.specs.Quotas.{trialQ, trialR}
 use Rattle.starred_waiters.specs.Waiters.{nobodyStands, secondStands, trialS, trialT, exchangerAhead, trialU, closedUpLine, trialV}
+use Rattle.starred_settled.specs.Settled.{clockAndRow, trialX, trialY}
 
 -- "A. The run above."
 unfoldable pub trialA : List Line
@@ -114,7 +115,7 @@ trialL = (BeginUpdate ⇒ (10, 0, 0, 0)) ∷ []
 unfoldable pub uncounted : Sizes → Tables
 uncounted S = tables ((fresh S) .txns) ((fresh S) .locks) (set ((fresh S) .versions) (versionRow S) 0)
 
--- ---- the list of them, and of those of requests E2 and E4; the ends of C, E and F are those of E4. A keeper of the sizes S
+-- ---- the list of them, and of those of requests E2, E4 and E6; the ends of C, E and F are those of E4. A keeper of the sizes S
 unfoldable pub trials : Sizes → List Trial
 trials S =
     (record { from = fresh S; script = trialA; end = anyEnd })
@@ -135,4 +136,6 @@ trials S =
     ∷ (record { from = fresh S; script = trialT; end = exchangerAhead })
     ∷ (record { from = fresh S; script = trialU; end = closedUpLine })
     ∷ (record { from = fresh S; script = trialV; end = secondStands })
+    ∷ (record { from = fresh S; script = trialX; end = clockAndRow 2 6 1 S })
+    ∷ (record { from = fresh S; script = trialY; end = clockAndRow 2 6 1 S })
     ∷ []

@@ -1,0 +1,2 @@
+-- The trials of request E6.
+pub mod Settled
