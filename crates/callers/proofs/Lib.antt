@@ -1,2 +1,3 @@
 -- What a search found.
 pub mod Founds
+pub mod Backs

@@ -4,7 +4,7 @@ use mathlib.Core.Path.{_≡_}
 use mathlib.Core.List.{List}
 use lib.ListN.{length}
 use Rattle.names.specs.Sizes.{base, lastWord}
-use Rattle.rules.specs.Tables.{txnWords, lastNumber, clock, txn}
+use Rattle.rules.specs.Tables.{txnWords, lastNumber, clock, txn, anUpdate}
 
 -- rows that can be searched: their number, and what the numbers are at most
 pub record Searchable (t : List ℕ) : Type 0 where
@@ -12,3 +12,7 @@ pub record Searchable (t : List ℕ) : Type 0 where
   pub last : lastNumber t ≤ lastWord
   pub now : clock t ≤ lastWord
   pub given : (s : ℕ) → s < base .slots → (txn t s) .number ≤ lastWord
+
+-- a free row has no kind of its own
+pub record FreeRows (t : List ℕ) : Type 0 where
+  pub unkind : (b : ℕ) → b < base .slots → (txn t b) .number ≡ 0 → (txn t b) .kind ≡ anUpdate

@@ -1,10 +1,13 @@
 // Who calls, and what stands in its way: the slot of a number, whether it awaits something else,
-// whether its quota is spent. Proved against `slotOf`, `awaitsOther` and `writesFurther` of the rules.
+// whether its quota is spent, whether it is past its writing, whether another one that is holds it back.
+// Proved against `slotOf`, `awaitsOther`, `writesFurther`, `writesPast` and `heldBack` of the rules.
 use names::Item;
 use names::NO_LOCK;
 use names::Number;
 use names::NumberOf;
 use names::QUOTA;
+use names::SETTLED_KIND;
+use names::SLOTS;
 use names::Slot;
 use rows::Found;
 ghost use mathlib.Core.Path.{_≡_};
@@ -12,9 +15,9 @@ ghost use lib.ListN.{length};
 ghost use Prim.Native.Nat.{_<_};
 ghost use Rattle.names.specs.Sizes.{base};
 ghost use Rattle.rules.specs.Tables.{lockWords, slotOf};
-ghost use Rattle.rules.specs.Step.{awaitsOther, writesFurther};
+ghost use Rattle.rules.specs.Step.{awaitsOther, writesFurther, writesPast, heldBack};
 ghost use Rattle.rows.specs.Founds.{foundAt};
-ghost use Rattle.callers.specs.Searchable.{Searchable};
+ghost use Rattle.callers.specs.Searchable.{Searchable, FreeRows};
 
 // The slot of the live transaction that a word names.
 pub fn find(txns: &[u64], number: u64) -> Found
@@ -49,4 +52,38 @@ pub fn writes_further(locks: &[u64], slot: Slot, item: Item) -> bool
         return false;
     }
     rows::exclusives_of(locks, slot) == QUOTA
+}
+
+// Whether the slot is past its writing and does not hold this item exclusively.
+pub fn writes_past(txns: &[u64], locks: &[u64], slot: Slot, item: Item) -> bool
+    requires { ⌜ Searchable (now txns) × (length (now locks) ≡ lockWords base) × (slot .0 < base .slots) × (item .0 < base .items) ⌝ }
+    ensures { λ r. ⌜ r ≡ writesPast (now (txns .entry)) (now (locks .entry)) (slot .0) (item .0) ⌝ }
+{
+    let kind = rows::kind(txns, slot);
+    let row = rows::lock_at(locks, item);
+    (kind == SETTLED_KIND) & !(row.exclusive == slot.0 + 1)
+}
+
+// Whether another past its writing, whose stamp is at most the slot's start, holds this item exclusively.
+// The lock names its one holder.
+pub fn held_back(txns: &[u64], locks: &[u64], item: Item, slot: Slot) -> bool
+    requires { ⌜ Searchable (now txns) × FreeRows (now txns) × (length (now locks) ≡ lockWords base) × (slot .0 < base .slots) × (item .0 < base .items) ⌝ }
+    ensures { λ r. ⌜ r ≡ heldBack base (now (txns .entry)) (now (locks .entry)) (item .0) (slot .0) ⌝ }
+{
+    let row = rows::lock_at(locks, item);
+    let holder = row.exclusive;
+    if holder == 0 {
+        return false;
+    }
+    if holder > SLOTS {
+        return false;
+    }
+    if holder == slot.0 + 1 {
+        return false;
+    }
+    let other = Slot(holder - 1);
+    if rows::kind(txns, other) != SETTLED_KIND {
+        return false;
+    }
+    rows::start(txns, other).0 <= rows::start(txns, slot).0
 }

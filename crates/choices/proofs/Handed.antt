@@ -4,7 +4,7 @@ use mathlib.Core.List.{List}
 use lib.Dec.{T}
 use Rattle.names.specs.Sizes.{base}
 use Rattle.rules.specs.Words.{row}
-use Rattle.rules.specs.Tables.{Tables, versionRow, txn, liveQuery}
+use Rattle.rules.specs.Tables.{Tables, versionRow, txn, byStart}
 use Rattle.rules.specs.Versions.{versionsOf}
 use Rattle.rules.specs.Good.{Good, GoodVersions}
 use Rattle.rules.proofs.Looked.{looked-chosen}
@@ -16,9 +16,9 @@ pub good-sound : (t r : List ℕ) → GoodVersions base t r → SoundRow r
 good-sound t r g = record { least = g .countLeast; most = g .countMost; fall = g .fall }
 
 module _ (G : Tables) (g : Good base G) where
-  -- for chosen: a live query finds a version of each item
+  -- for chosen: whoever reads by a start finds a version of each item
   pub good-found :
-      (x s : ℕ) → x < base .items → s < base .slots → T (liveQuery (txn (G .txns) s)) → Choosable (G .versions) x ((txn (G .txns) s) .start)
+      (x s : ℕ) → x < base .items → s < base .slots → T (byStart (txn (G .txns) s)) → Choosable (G .versions) x ((txn (G .txns) s) .start)
   unfolding versionsOf
   good-found x s h inside query =
       let r = row (versionRow base) x (G .versions) in

@@ -10,12 +10,12 @@ use Rattle.names.specs.declared.Answer.{Answer}
 use Rattle.names.specs.declared.Slot.{Slot}
 use Rattle.names.specs.declared.Item.{Item}
 use Rattle.names.specs.declared.Stamp.{Stamp}
-use Rattle.rules.specs.Tables.{Tables, tables, lastNumber, clock, txn, setTxn, noTxn, newTxn, starts, Lock, lock, release}
+use Rattle.rules.specs.Tables.{Tables, tables, lastNumber, clock, txn, setTxn, noTxn, newTxn, starts, aSettled, Lock, lock, release, unshare}
 use Rattle.rules.specs.Waits.{noted, closedUp}
 use Rattle.rules.specs.Versions.{versionsOf, newest, place, choice, rewritten}
 use Rattle.rules.specs.Good.{Good}
-use Rattle.rules.specs.Answers.{Outcome, outcome, Wait, Deed, Waits, Begins, ReadsByStart, ReadsOwn, ReadsNewest, TakesShared, Replaces, TakesExclusive, Commits, Ends, Aborts}
-use Rattle.rules.specs.Step.{done, begun, cleared, locked, replaced, sharedToo, taken, queryRead, withNew, committed, ended, aborted}
+use Rattle.rules.specs.Answers.{Outcome, outcome, Wait, Deed, Waits, Begins, ReadsByStart, ReadsOwn, ReadsNewest, TakesShared, Replaces, TakesExclusive, Commits, Ends, Aborts, Settles, CommitsSettled, AbortsSettled}
+use Rattle.rules.specs.Step.{done, begun, cleared, locked, replaced, sharedToo, taken, queryRead, withNew, committed, committedUnder, ended, aborted, settled, settledCommitted, settledAborted}
 use Rattle.ranks.specs.Lines.{RanksSmall}
 use Rattle.ranks.proofs.Ranks.{ranks-small}
 use Rattle.choices.proofs.Handed.{good-least}
@@ -94,7 +94,7 @@ module _ (t l v : List ℕ) where
       (s : Slot) {c : ℕ} {r : Answer} {t′ l′ v′ : List ℕ} → c ≡ clock t + 1 → t′ ≡ setTxn (set t clockAt c) (s .0) noTxn → l′ ≡ release base (s .0) l
       → v′ ≡ rewritten base (starts base (setTxn (set t clockAt c) (s .0) noTxn)) (withNew l (s .0) c) v → r ≡ numbered c
       → outcome r t′ l′ v′ ≡ done base (Commits s) (tables t l v)
-  unfolding done committed
+  unfolding done committed committedUnder
   commits-done s ec et el ev er = rw (er, et, el, ev, ec)
 
   pub aborts-done :
@@ -102,3 +102,25 @@ module _ (t l v : List ℕ) where
       → outcome r t′ l′ v ≡ done base (Aborts s) (tables t l v)
   unfolding done aborted
   aborts-done s et el er = rw (er, et, el)
+
+  pub settles-done :
+      (s : Slot) {c : ℕ} {r : Answer} {t′ l′ : List ℕ} → c ≡ clock t + 1
+      → t′ ≡ setTxn (set t clockAt c) (s .0) (newTxn ((txn t (s .0)) .number) aSettled c) → l′ ≡ unshare base (s .0) l → r ≡ numbered c
+      → outcome r t′ l′ v ≡ done base (Settles s) (tables t l v)
+  unfolding done settled
+  settles-done s ec et el er = rw (er, et, el, ec)
+
+  -- one past its writing
+  pub settled-commits-done :
+      (s : Slot) {c : ℕ} {r : Answer} {t′ l′ v′ : List ℕ} → c ≡ (txn t (s .0)) .start → t′ ≡ setTxn t (s .0) noTxn → l′ ≡ release base (s .0) l
+      → v′ ≡ rewritten base (starts base (setTxn t (s .0) noTxn)) (withNew l (s .0) c) v → r ≡ numbered c
+      → outcome r t′ l′ v′ ≡ done base (CommitsSettled s) (tables t l v)
+  unfolding done settledCommitted committedUnder
+  settled-commits-done s ec et el ev er = rw (er, et, el, ev, ec)
+
+  pub settled-aborts-done :
+      (s : Slot) {r : Answer} {t′ l′ v′ : List ℕ} → t′ ≡ setTxn t (s .0) noTxn → l′ ≡ release base (s .0) l
+      → v′ ≡ rewritten base (starts base (setTxn t (s .0) noTxn)) (λ x vs. vs) v → r ≡ plain
+      → outcome r t′ l′ v′ ≡ done base (AbortsSettled s) (tables t l v)
+  unfolding done settledAborted
+  settled-aborts-done s et el ev er = rw (er, et, el, ev)

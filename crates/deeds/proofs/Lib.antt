@@ -1,2 +1,3 @@
 -- Laws of the deeds.
 pub mod Deeds
+pub mod Settled

@@ -1,4 +1,5 @@
 // A query's end and an update's commit.
+use super::leaving::leaves;
 use names::Answer;
 use names::Slot;
 use names::Stamp;
@@ -18,10 +19,7 @@ pub fn ends(txns: &mut [u64], versions: &mut [u64], slot: Slot) -> Answer
     requires { ⌜ Trimmed (now txns) (now versions) × (slot .0 < base .slots) × T (liveQuery (txn (now txns) (slot .0))) ⌝ }
     ensures { λ r. ⌜ ((l : List ℕ) → outcome r (now (txns .exit)) l (now (versions .exit)) ≡ done base (Ends slot) (tables (now (txns .entry)) l (now (versions .entry)))) ⌝ }
 {
-    let start = rows::start(&txns[..], slot);
-    rows::leave(txns, slot);
-    let beside = starts::beside(&txns[..], start.0);
-    rewrites::forget_all(versions, start, beside);
+    let _left = leaves(txns, versions, slot);
     Answer::granted()
 }
 

@@ -5,4 +5,6 @@ pub mod aborts;
 pub mod begins;
 pub mod ends;
 pub mod grants;
+pub mod leaving;
 pub mod reads;
+pub mod settles;

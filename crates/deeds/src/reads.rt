@@ -13,7 +13,7 @@ ghost use Rattle.rules.specs.Step.{done};
 ghost use Rattle.choices.specs.Choosable.{Choosable};
 ghost use Rattle.deeds.specs.Asked.{HasNewest};
 
-// A query reads the newest version up to its start.
+// A query, or one past its writing, reads the newest version up to its start.
 pub fn by_start(txns: &[u64], versions: &[u64], slot: Slot, item: Item) -> Answer
     requires { ⌜ (length (now txns) ≡ txnWords base) × (slot .0 < base .slots) × Choosable (now versions) (item .0) ((txn (now txns) (slot .0)) .start) ⌝ }
     ensures { λ r. ⌜ ((l : List ℕ) → outcome r (now (txns .entry)) l (now (versions .entry)) ≡ done base (ReadsByStart slot item) (tables (now (txns .entry)) l (now (versions .entry)))) ⌝ }

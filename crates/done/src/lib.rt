@@ -6,6 +6,7 @@ use deeds::begins;
 use deeds::ends;
 use deeds::grants;
 use deeds::reads;
+use deeds::settles;
 use names::Answer;
 use names::Deed;
 ghost use mathlib.Core.Path.{_≡_};
@@ -37,5 +38,8 @@ pub fn done(deed: Deed, txns: &mut [u64], locks: &mut [u64], versions: &mut [u64
         Deed::Commits(slot) => ends::commits(txns, locks, versions, slot),
         Deed::Ends(slot) => ends::ends(txns, versions, slot),
         Deed::Aborts(slot) => aborts::aborts(txns, locks, slot),
+        Deed::Settles(slot) => settles::settles(txns, locks, slot),
+        Deed::CommitsSettled(slot) => settles::commits_settled(txns, locks, versions, slot),
+        Deed::AbortsSettled(slot) => settles::aborts_settled(txns, locks, versions, slot),
     }
 }

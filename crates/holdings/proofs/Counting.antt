@@ -19,16 +19,16 @@ use Rattle.holdings.specs.Holding.{lockOk, locksOk, Counted}
 use Rattle.words.proofs.ZeroWords.{no-word}
 
 -- ---- what is known once the locks of the items below i were passed
-pub record Counting (u : ℕ) (l c : List ℕ) (most : ℕ) (ok : Bool) (i : ℕ) : Type 0 where
+pub record Counting (u w : ℕ) (l c : List ℕ) (most : ℕ) (ok : Bool) (i : ℕ) : Type 0 where
   pub within : i ≤ base .items
   pub size : length c ≡ base .slots
-  pub right : ok ≡ everyBelow i (λ x. lockOk u (lock l x))
+  pub right : ok ≡ everyBelow i (λ x. lockOk u w (lock l x))
   pub at : (s : ℕ) → s < base .slots → getD c s 0 ≡ countBelow i (λ x. holdsExclusive (lock l x) s)
   pub bound : (s : ℕ) → s < base .slots → getD c s 0 ≤ most
 
-pub counting-begin : (u : ℕ) (l : List ℕ) → Counting u l (replicate (base .slots) 0) 0 true 0
+pub counting-begin : (u w : ℕ) (l : List ℕ) → Counting u w l (replicate (base .slots) 0) 0 true 0
 unfolding everyBelow countBelow
-counting-begin u l =
+counting-begin u w l =
     record {
       within = omega arith;
       size = refl;
@@ -37,9 +37,9 @@ counting-begin u l =
       bound = λ s k. (let z = no-word (base .slots) s in omega arith);
     }
 
-module _ (u : ℕ) (l c : List ℕ) (most : ℕ) (ok : Bool) (i : ℕ) (k : i < base .items) (h : Counting u l c most ok i) where
+module _ (u w : ℕ) (l c : List ℕ) (most : ℕ) (ok : Bool) (i : ℕ) (k : i < base .items) (h : Counting u w l c most ok i) where
   abbrev test : ℕ → Bool
-  test x = lockOk u (lock l x)
+  test x = lockOk u w (lock l x)
 
   -- no count is so great that one more is no word
   pub few : (s : ℕ) → s < base .slots → getD c s 0 ≤ base .items
@@ -47,8 +47,8 @@ module _ (u : ℕ) (l c : List ℕ) (most : ℕ) (ok : Bool) (i : ℕ) (k : i < 
 
   -- no slot holds lock i exclusively
   pub counting-none :
-      {b : Bool} → b ≡ lockOk u (lock l i) → ((s : ℕ) → s < base .slots → (lock l i) .exclusive ≢ suc s)
-      → {c′ : List ℕ} {most′ : ℕ} {ok′ : Bool} → c′ ≡ c → most′ ≡ most → ok′ ≡ (b && ok) → Counting u l c′ most′ ok′ (i + 1)
+      {b : Bool} → b ≡ lockOk u w (lock l i) → ((s : ℕ) → s < base .slots → (lock l i) .exclusive ≢ suc s)
+      → {c′ : List ℕ} {most′ : ℕ} {ok′ : Bool} → c′ ≡ c → most′ ≡ most → ok′ ≡ (b && ok) → Counting u w l c′ most′ ok′ (i + 1)
   unfolding holdsExclusive
   counting-none e n p q r =
       rw (p, q, r)
@@ -62,11 +62,11 @@ module _ (u : ℕ) (l c : List ℕ) (most : ℕ) (ok : Bool) (i : ℕ) (k : i < 
 
   -- one slot does
   pub counting-one :
-      {b : Bool} → b ≡ lockOk u (lock l i) → (lock l i) .exclusive ≢ 0 → (lock l i) .exclusive ≤ base .slots
+      {b : Bool} → b ≡ lockOk u w (lock l i) → (lock l i) .exclusive ≢ 0 → (lock l i) .exclusive ≤ base .slots
       → {c′ : List ℕ} {most′ : ℕ} {ok′ : Bool}
       → c′ ≡ set c ((lock l i) .exclusive - 1) (getD c ((lock l i) .exclusive - 1) 0 + 1)
       → most′ ≡ bitOr most (getD c ((lock l i) .exclusive - 1) 0 + 1)
-      → ok′ ≡ (b && ok) → Counting u l c′ most′ ok′ (i + 1)
+      → ok′ ≡ (b && ok) → Counting u w l c′ most′ ok′ (i + 1)
   unfolding holdsExclusive
   counting-one e d m p q r =
       let z = h .size in
@@ -78,13 +78,13 @@ module _ (u : ℕ) (l c : List ℕ) (most : ℕ) (ok : Bool) (i : ℕ) (k : i < 
         at = λ s j. ⊎-elim
             (λ (x : s ≡ a).
             subst (λ (s : ℕ). getD (set c a v) s 0 ≡ countBelow (i + 1) (λ x. holdsExclusive (lock l x) s)) (sym x)
-            (getD-set-same c a v 0 (omega arith) ∙ ap (λ (w : ℕ). w + 1) (h .at a (omega arith)) ∙ sym (count-yes i (λ x. holdsExclusive (lock l x) a) (eq-eqb ((lock l i) .exclusive) (suc a) (omega arith)))))
+            (getD-set-same c a v 0 (omega arith) ∙ ap (λ (m : ℕ). m + 1) (h .at a (omega arith)) ∙ sym (count-yes i (λ x. holdsExclusive (lock l x) a) (eq-eqb ((lock l i) .exclusive) (suc a) (omega arith)))))
             (λ (x : s ≢ a).
             getD-set-other c a s v 0 x ∙ h .at s j ∙ sym (count-no i (λ x. holdsExclusive (lock l x) s) (ne-eqb ((lock l i) .exclusive) (suc s) (λ y. x (omega arith)))))
             (same? s a);
         bound = λ s j. ⊎-elim
             (λ (x : s ≡ a). let y = getD-set-same c a v 0 (omega arith) in subst (λ (s : ℕ). getD (set c a v) s 0 ≤ bitOr most v) (sym x) (omega (arith, or-add-and most v, and-le-l most v)))
-            (λ (x : s ≢ a). let y = getD-set-other c a s v 0 x in let w = h .bound s j in omega (arith, or-add-and most v, and-le-r most v))
+            (λ (x : s ≢ a). let y = getD-set-other c a s v 0 x in let o = h .bound s j in omega (arith, or-add-and most v, and-le-r most v))
             (same? s a);
       })
     where
@@ -95,8 +95,8 @@ module _ (u : ℕ) (l c : List ℕ) (most : ℕ) (ok : Bool) (i : ℕ) (k : i < 
       v = getD c a 0 + 1
 
 -- ---- once all were passed
-module _ (u : ℕ) (l c : List ℕ) (most : ℕ) (ok : Bool) (h : Counting u l c most ok (base .items)) where
-  pub counting-right : ok ≡ locksOk u l
+module _ (u w : ℕ) (l c : List ℕ) (most : ℕ) (ok : Bool) (h : Counting u w l c most ok (base .items)) where
+  pub counting-right : ok ≡ locksOk u w l
   unfolding locksOk
   counting-right = h .right
 

@@ -18,15 +18,16 @@ locksGood S t l = everyBelow (S .items) (λ x. lockGood S t (lock l x))
 unfoldable pub quotasGood : Sizes → List ℕ → List ℕ → Bool
 quotasGood S t l = everyBelow (S .slots) (λ s. quotaGood S l s (txn t s))
 
--- ---- a lock as the code tests it, where the word u holds the slots of live updates; a shift is by less than 64
-unfoldable pub lockOk : ℕ → Lock → Bool
-lockOk u h =
+-- ---- a lock as the code tests it, where the word u holds the slots of live updates, who may share, and w those
+-- of all who may hold exclusively; a shift is by less than 64
+unfoldable pub lockOk : ℕ → ℕ → Lock → Bool
+lockOk u w h =
     cond (eqb (h .exclusive) 0)
     (eqb (h .working) 0 && eqb (bitAnd (h .shared) u) (h .shared))
-    (eqb (h .shared) 0 && leb (h .exclusive) (base .slots) && eqb (u * 2 / 2 ^ (h .exclusive % 64) % 2) 1)
+    (eqb (h .shared) 0 && leb (h .exclusive) (base .slots) && eqb (w * 2 / 2 ^ (h .exclusive % 64) % 2) 1)
 
-unfoldable pub locksOk : ℕ → List ℕ → Bool
-locksOk u l = everyBelow (base .items) (λ x. lockOk u (lock l x))
+unfoldable pub locksOk : ℕ → ℕ → List ℕ → Bool
+locksOk u w l = everyBelow (base .items) (λ x. lockOk u w (lock l x))
 
 -- no lock word is set
 unfoldable pub nothingHeld : List ℕ → Bool
@@ -38,8 +39,8 @@ pub record Counted (l c : List ℕ) (most : ℕ) : Type 0 where
   pub at : (s : ℕ) → s < base .slots → getD c s 0 ≡ exclusivesOf base l s
   pub bound : (s : ℕ) → s < base .slots → getD c s 0 ≤ most
 
--- one slot as the code tests it, by what it holds exclusively and the lock that it awaits. It does not ask who is a live
--- update: once the locks are good, nobody else holds any
+-- one slot as the code tests it, by what it holds exclusively and the lock that it awaits. It does not ask who may
+-- hold any: once the locks are good, nobody else does
 abbrev pub quotaOk : ℕ → ℕ → Bool
 quotaOk held wanted = leb held (base .quota) && not (eqb held (base .quota) && eqb wanted exclusiveLock)
 

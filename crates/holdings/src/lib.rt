@@ -1,4 +1,4 @@
-// The locks: who holds one is a live update, no lock is held both ways, a working value stands only
+// The locks: who shares one is a live update, who holds one exclusively may be past its writing, no lock is held both ways, a working value stands only
 // where one is held exclusively, and nobody holds more of these than the quota.
 //
 // Every function is proved equal to its definition, for tables of the exact sizes.
@@ -8,7 +8,7 @@ ghost use Prim.Native.Nat.{_<_, _^_};
 ghost use lib.ListN.{length};
 ghost use Rattle.names.specs.Sizes.{base};
 ghost use Rattle.rules.specs.Tables.{txnWords, lockWords};
-ghost use Rattle.shapes.specs.Shape.{updatesIn};
+ghost use Rattle.shapes.specs.Shape.{updatesIn, settledIn};
 ghost use Rattle.holdings.specs.Holding.{locksGood, quotasGood, lockOk, locksOk, nothingHeld, Counted, quotasOk};
 use names::EXCLUSIVE_LOCK;
 use names::LOCK_EXCLUSIVE_AT;
@@ -34,23 +34,24 @@ pub struct Holdings {
 // The bits of a word: a shift is by less.
 const WIDTH: u64 = 64;
 
-// One lock, where `updates` holds the slots of the live updates.
-fn lock_ok(shared: u64, exclusive: u64, working: u64, updates: u64) -> bool
-    requires { ⌜ updates < 2 ^ base .slots ⌝ }
-    ensures { λ r. ⌜ r ≡ lockOk updates (record { shared = shared; exclusive = exclusive; working = working }) ⌝ }
+// One lock, where `updates` holds the slots of the live updates and `holders` those of all who may hold
+// exclusively.
+fn lock_ok(shared: u64, exclusive: u64, working: u64, updates: u64, holders: u64) -> bool
+    requires { ⌜ holders < 2 ^ base .slots ⌝ }
+    ensures { λ r. ⌜ r ≡ lockOk updates holders (record { shared = shared; exclusive = exclusive; working = working }) ⌝ }
 {
     if exclusive == 0 {
         return (working == 0) & ((shared & updates) == shared);
     }
-    (shared == 0) & (exclusive <= names::SLOTS) & (((updates * 2) >> (exclusive % WIDTH)) % 2 == 1)
+    (shared == 0) & (exclusive <= names::SLOTS) & (((holders * 2) >> (exclusive % WIDTH)) % 2 == 1)
 }
 
 // One pass over the locks. A holder that is no slot fails the test of its lock and is not counted.
 // `most` is the or of all counts: none is above it, and it is below the quota, a power of two, as long
 // as they are.
-fn locks_ok(locks: &[u64], updates: u64) -> Holdings
-    requires { ⌜ (length (now locks) ≡ lockWords base) × (updates < 2 ^ base .slots) ⌝ }
-    ensures { λ r. ⌜ (r .ok ≡ locksOk updates (now (locks .entry))) × Counted (now (locks .entry)) (r .counts) (r .most) ⌝ }
+fn locks_ok(locks: &[u64], updates: u64, holders: u64) -> Holdings
+    requires { ⌜ (length (now locks) ≡ lockWords base) × (holders < 2 ^ base .slots) ⌝ }
+    ensures { λ r. ⌜ (r .ok ≡ locksOk updates holders (now (locks .entry))) × Counted (now (locks .entry)) (r .counts) (r .most) ⌝ }
 {
     let mut counts = [0u64; SLOTS];
     let mut most: u64 = 0;
@@ -59,7 +60,14 @@ fn locks_ok(locks: &[u64], updates: u64) -> Holdings
     while item < ITEMS {
         let at = LOCK_ROW * item;
         let exclusive = locks[at + LOCK_EXCLUSIVE_AT];
-        ok = lock_ok(locks[at], exclusive, locks[at + LOCK_WORKING_AT], updates) & ok;
+        ok = lock_ok(
+            locks[at],
+            exclusive,
+            locks[at + LOCK_WORKING_AT],
+            updates,
+            holders,
+        )
+            & ok;
         if exclusive != 0 {
             if exclusive <= names::SLOTS {
                 let holder = (exclusive - 1) as usize;
@@ -105,15 +113,16 @@ fn none_held(locks: &[u64]) -> bool
 }
 
 // Whether each lock is as the rules ask and what each slot holds keeps to the quota; `updates` holds the
-// live updates. With none, no lock word may be set; with every count below the quota, none is tried.
-pub fn locks_pass(txns: &[u64], locks: &[u64], updates: u64) -> bool
-    requires { ⌜ (length (now txns) ≡ txnWords base) × (length (now locks) ≡ lockWords base) × (updates < 2 ^ base .slots) ⌝ }
-    ensures { λ r. ⌜ (updates ≡ updatesIn base (now (txns .entry)) → r ≡ (locksGood base (now (txns .entry)) (now (locks .entry)) && quotasGood base (now (txns .entry)) (now (locks .entry)))) ⌝ }
+// live updates, `settled` those past their writing. With neither, no lock word may be set; with every count below the quota, none is tried.
+pub fn locks_pass(txns: &[u64], locks: &[u64], updates: u64, settled: u64) -> bool
+    requires { ⌜ (length (now txns) ≡ txnWords base) × (length (now locks) ≡ lockWords base) × (updates < 2 ^ base .slots) × (settled < 2 ^ base .slots) ⌝ }
+    ensures { λ r. ⌜ (updates ≡ updatesIn base (now (txns .entry)) → settled ≡ settledIn base (now (txns .entry)) → r ≡ (locksGood base (now (txns .entry)) (now (locks .entry)) && quotasGood base (now (txns .entry)) (now (locks .entry)))) ⌝ }
 {
-    if updates == 0 {
+    let holders = updates | settled;
+    if holders == 0 {
         return none_held(locks);
     }
-    let seen = locks_ok(locks, updates);
+    let seen = locks_ok(locks, updates, holders);
     let ok = seen.ok;
     let counts = seen.counts;
     let most = seen.most;

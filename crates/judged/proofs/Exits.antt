@@ -14,15 +14,15 @@ use Rattle.names.specs.declared.Item.{Item}
 use Rattle.names.specs.declared.Stamp.{Stamp}
 use Rattle.names.specs.declared.ItemOf.the-variants.{Known, Unknown}
 use Rattle.names.specs.declared.NextStamp.the-variants as nexts
-use Rattle.rules.specs.Tables.{Tables, lastNumber, clock, txn, slotOf, freeSlot, noLock, sharedLock, exclusiveLock, aQuery}
+use Rattle.rules.specs.Tables.{Tables, Txn, lastNumber, clock, txn, slotOf, freeSlot, noLock, sharedLock, exclusiveLock, anUpdate, aQuery, aSettled}
 use Rattle.rules.specs.Good.{Good}
 use Rattle.rules.specs.Locks.{toRead, toWrite}
-use Rattle.rules.specs.Answers.{Refused, Begins, ReadsByStart, Commits, Ends, Aborts}
-use Rattle.rules.specs.Answers.{NoSlot, NumbersSpent, UnknownTransaction, UnknownItem, QueryMayNotWrite, StillWaiting, ClockSpent, QuotaSpent}
-use Rattle.rules.specs.Step.{beginBy, readBy, writeBy, commitBy, abortBy, access, awaitsOther, writesFurther}
+use Rattle.rules.specs.Answers.{Refused, Begins, Commits, Ends, Aborts, Settles, CommitsSettled, AbortsSettled}
+use Rattle.rules.specs.Answers.{NoSlot, NumbersSpent, UnknownTransaction, UnknownItem, QueryMayNotWrite, StillWaiting, ClockSpent, QuotaSpent, PastWriting}
+use Rattle.rules.specs.Step.{beginBy, readBy, writeBy, commitBy, abortBy, settleBy, access, startRead, awaitsOther, writesFurther, writesPast}
 use Rattle.rows.specs.Founds.{foundAt}
 use Rattle.rows.specs.declared.txns.Found.the-variants.{At, Nobody}
-use Rattle.callers.specs.Searchable.{Searchable}
+use Rattle.callers.specs.Searchable.{Searchable, FreeRows}
 use Rattle.judged.specs.Searched.{ofTxns}
 use Rattle.callers.proofs.Founds.{FoundSlot, found-slot, found-nobody, slot-most, known, unknown}
 
@@ -35,6 +35,10 @@ searchable G g =
       now = g .clockMost;
       given = λ s i. let a = g .txnGood s i .given in let b = g .lastMost in omega arith;
     }
+
+-- and a free row of theirs has no kind of its own
+pub free-rows : (G : Tables) → Good base G → FreeRows (G .txns)
+free-rows G g = record { unkind = λ b i z. ap (λ (r : Txn). r .kind) (g .txnGood b i .free z) }
 
 -- ---- begin
 module _ (t : List ℕ) (k : ℕ) (q : Stamp) where
@@ -54,6 +58,24 @@ module _ (t : List ℕ) (k : ℕ) (q : Stamp) where
     unfolding beginBy
     begin-begins h = rw (f .some, ne-eqb (lastNumber t) lastWord h, ← (f .is))
 
+-- ---- whether a stamp is left
+module _ (t : List ℕ) (c : Stamp) (ec : c .0 ≡ clock t) where
+  clock-spent : Searchable t → nextStamp c ≡ nexts.Spent → clock t ≡ lastWord
+  unfolding nextStamp
+  clock-spent R h = sym ec ∙ go (ltb (c .0) lastWord) refl
+    where
+      go : (b : Bool) → ltb (c .0) lastWord ≡ b → c .0 ≡ lastWord
+      go true q = absurd (let z : _≡_ {A = ℕ} 0 1 = (let m : nexts.At (record { 0 = c .0 + 1 }) ≡ nexts.Spent = sym (rw q) ∙ h in cc) in omega arith)
+      go false q = let l = ltb-false (c .0) lastWord q in let m = R .now in omega arith
+
+  clock-left : (z : Stamp) → nextStamp c ≡ nexts.At z → clock t ≢ lastWord
+  unfolding nextStamp
+  clock-left z h e = go (ltb (c .0) lastWord) refl (ec ∙ e)
+    where
+      go : (b : Bool) → ltb (c .0) lastWord ≡ b → c .0 ≡ lastWord → ⊥
+      go true q m = let l = ltb-true (c .0) lastWord q in omega arith
+      go false q m = absurd (let z : _≡_ {A = ℕ} 0 1 = (let m : nexts.Spent ≡ nexts.At z = sym (rw q) ∙ h in cc) in omega arith)
+
 -- ---- the transaction that a call names
 module _ (t : List ℕ) (n : ℕ) where
   abbrev found : ℕ
@@ -71,11 +93,17 @@ module _ (t : List ℕ) (n : ℕ) where
     kind-is : {k : ℕ} → k ≡ (txn t (s .0)) .kind → (txn t found) .kind ≡ k
     kind-is h = ap (λ (m : ℕ). (txn t m) .kind) (sym (caller .is)) ∙ sym h
 
+    of-kind : {k : ℕ} (j : ℕ) → k ≡ (txn t (s .0)) .kind → k ≡ j → eqb ((txn t found) .kind) j ≡ true
+    of-kind j h q = eq-eqb ((txn t found) .kind) j (kind-is h ∙ q)
+
+    no-kind : {k : ℕ} (j : ℕ) → k ≡ (txn t (s .0)) .kind → k ≢ j → eqb ((txn t found) .kind) j ≡ false
+    no-kind j h q = ne-eqb ((txn t found) .kind) j (λ e. q (sym (kind-is h) ∙ e))
+
     query : {k : ℕ} → k ≡ (txn t (s .0)) .kind → k ≡ aQuery → eqb ((txn t found) .kind) aQuery ≡ true
-    query h q = eq-eqb ((txn t found) .kind) aQuery (kind-is h ∙ q)
+    query h q = of-kind aQuery h q
 
     no-query : {k : ℕ} → k ≡ (txn t (s .0)) .kind → k ≢ aQuery → eqb ((txn t found) .kind) aQuery ≡ false
-    no-query h q = ne-eqb ((txn t found) .kind) aQuery (λ e. q (sym (kind-is h) ∙ e))
+    no-query h q = no-kind aQuery h q
 
     awaited-is : {k : ℕ} → k ≡ (txn t (s .0)) .awaitedLock → (txn t found) .awaitedLock ≡ k
     awaited-is h = ap (λ (m : ℕ). (txn t m) .awaitedLock) (sym (caller .is)) ∙ sym h
@@ -101,22 +129,56 @@ module _ (t : List ℕ) (n : ℕ) where
       unfolding commitBy
       commit-ends q = rw (caller s e .some, none, query s e ek q, ← (caller s e .is))
 
-      module _ (d : k ≢ aQuery) (c : Stamp) (ec : c .0 ≡ clock t) where
-        pub commit-spent : Searchable t → nextStamp c ≡ nexts.Spent → Refused ClockSpent ≡ commitBy base n (ofTxns t)
-        unfolding commitBy nextStamp
-        commit-spent R h = rw (caller s e .some, none, no-query s e ek d, eq-eqb (clock t) lastWord (sym ec ∙ go (ltb (c .0) lastWord) refl))
-          where
-            go : (b : Bool) → ltb (c .0) lastWord ≡ b → c .0 ≡ lastWord
-            go true q = absurd (let z : _≡_ {A = ℕ} 0 1 = (let m : nexts.At (record { 0 = c .0 + 1 }) ≡ nexts.Spent = sym (rw q) ∙ h in cc) in omega arith)
-            go false q = let l = ltb-false (c .0) lastWord q in let m = R .now in omega arith
+      module _ (d : k ≢ aQuery) where
+        pub commit-settled : k ≡ aSettled → CommitsSettled s ≡ commitBy base n (ofTxns t)
+        unfolding commitBy
+        commit-settled q = rw (caller s e .some, none, no-query s e ek d, of-kind s e aSettled ek q, ← (caller s e .is))
 
-        pub commit-commits : (z : Stamp) → nextStamp c ≡ nexts.At z → Commits s ≡ commitBy base n (ofTxns t)
-        unfolding commitBy nextStamp
-        commit-commits z h = rw (caller s e .some, none, no-query s e ek d, ne-eqb (clock t) lastWord (λ q. go (ltb (c .0) lastWord) refl (ec ∙ q)), ← (caller s e .is))
-          where
-            go : (b : Bool) → ltb (c .0) lastWord ≡ b → c .0 ≡ lastWord → ⊥
-            go true q m = let l = ltb-true (c .0) lastWord q in omega arith
-            go false q m = absurd (let z : _≡_ {A = ℕ} 0 1 = (let m : nexts.Spent ≡ nexts.At z = sym (rw q) ∙ h in cc) in omega arith)
+        module _ (w′ : k ≢ aSettled) (c : Stamp) (ec : c .0 ≡ clock t) where
+          pub commit-spent : Searchable t → nextStamp c ≡ nexts.Spent → Refused ClockSpent ≡ commitBy base n (ofTxns t)
+          unfolding commitBy
+          commit-spent R h =
+              rw (caller s e .some, none, no-query s e ek d, no-kind s e aSettled ek w′, eq-eqb (clock t) lastWord (clock-spent t c ec R h))
+
+          pub commit-commits : (z : Stamp) → nextStamp c ≡ nexts.At z → Commits s ≡ commitBy base n (ofTxns t)
+          unfolding commitBy
+          commit-commits z h =
+              rw (caller s e .some, none, no-query s e ek d, no-kind s e aSettled ek w′, ne-eqb (clock t) lastWord (clock-left t c ec z h), ← (caller s e .is))
+
+  -- ---- settle
+  pub settle-unknown : foundAt (slotOf base t n) ≡ Nobody → Refused UnknownTransaction ≡ settleBy base n (ofTxns t)
+  unfolding settleBy
+  settle-unknown e = rw (found-nobody found e)
+
+  module _ (s : Slot) (e : foundAt (slotOf base t n) ≡ At s) (k : ℕ) (ek : k ≡ (txn t (s .0)) .kind) where
+    pub settle-query : k ≡ aQuery → Refused QueryMayNotWrite ≡ settleBy base n (ofTxns t)
+    unfolding settleBy
+    settle-query q = rw (caller s e .some, query s e ek q)
+
+    module _ (d : k ≢ aQuery) where
+      pub settle-past : k ≡ aSettled → Refused PastWriting ≡ settleBy base n (ofTxns t)
+      unfolding settleBy
+      settle-past q = rw (caller s e .some, no-query s e ek d, of-kind s e aSettled ek q)
+
+      module _ (w′ : k ≢ aSettled) (w : ℕ) (ew : w ≡ (txn t (s .0)) .awaitedLock) where
+        pub settle-waits : w ≢ noLock → Refused StillWaiting ≡ settleBy base n (ofTxns t)
+        unfolding settleBy
+        settle-waits f =
+            rw (caller s e .some, no-query s e ek d, no-kind s e aSettled ek w′, ne-eqb ((txn t found) .awaitedLock) noLock (λ q. f (sym (awaited-is s e ew) ∙ q)))
+
+        module _ (idle : w ≡ noLock) (c : Stamp) (ec : c .0 ≡ clock t) where
+          rests : eqb ((txn t found) .awaitedLock) noLock ≡ true
+          rests = eq-eqb ((txn t found) .awaitedLock) noLock (awaited-is s e ew ∙ idle)
+
+          pub settle-spent : Searchable t → nextStamp c ≡ nexts.Spent → Refused ClockSpent ≡ settleBy base n (ofTxns t)
+          unfolding settleBy
+          settle-spent R h =
+              rw (caller s e .some, no-query s e ek d, no-kind s e aSettled ek w′, rests, eq-eqb (clock t) lastWord (clock-spent t c ec R h))
+
+          pub settle-settles : (z : Stamp) → nextStamp c ≡ nexts.At z → Settles s ≡ settleBy base n (ofTxns t)
+          unfolding settleBy
+          settle-settles z h =
+              rw (caller s e .some, no-query s e ek d, no-kind s e aSettled ek w′, rests, ne-eqb (clock t) lastWord (clock-left t c ec z h), ← (caller s e .is))
 
   -- ---- abort
   pub abort-unknown : foundAt (slotOf base t n) ≡ Nobody → Refused UnknownTransaction ≡ abortBy base n (ofTxns t)
@@ -128,9 +190,13 @@ module _ (t : List ℕ) (n : ℕ) where
     unfolding abortBy
     abort-ends q = rw (caller s e .some, query s e ek q, ← (caller s e .is))
 
-    pub abort-aborts : k ≢ aQuery → Aborts s ≡ abortBy base n (ofTxns t)
+    pub abort-settled : k ≢ aQuery → k ≡ aSettled → AbortsSettled s ≡ abortBy base n (ofTxns t)
     unfolding abortBy
-    abort-aborts d = rw (caller s e .some, no-query s e ek d, ← (caller s e .is))
+    abort-settled d q = rw (caller s e .some, no-query s e ek d, of-kind s e aSettled ek q, ← (caller s e .is))
+
+    pub abort-aborts : k ≢ aQuery → k ≢ aSettled → Aborts s ≡ abortBy base n (ofTxns t)
+    unfolding abortBy
+    abort-aborts d w = rw (caller s e .some, no-query s e ek d, no-kind s e aSettled ek w, ← (caller s e .is))
 
 -- ---- read and write
 module _ (G : Tables) (n x : ℕ) where
@@ -167,15 +233,15 @@ module _ (G : Tables) (n x : ℕ) where
       read-waits b h q = rw (caller (G .txns) n s e .some, inside, other-is (G .txns) n s e sharedLock x h ∙ q)
 
       module _ (b : Bool) (h : b ≡ awaitsOther (G .txns) (s .0) sharedLock x) (free : b ≡ false) (k : ℕ) (ek : k ≡ (txn (G .txns) (s .0)) .kind) where
-        pub read-starts : k ≡ aQuery → ReadsByStart s y ≡ readBy base n x G
+        pub read-starts : k ≢ anUpdate → startRead base (s .0) (y .0) G ≡ readBy base n x G
         unfolding readBy
         read-starts q =
-            rw (caller (G .txns) n s e .some, inside, other-is (G .txns) n s e sharedLock x h ∙ free, query (G .txns) n s e ek q, ← (caller (G .txns) n s e .is), ← item-is)
+            rw (caller (G .txns) n s e .some, inside, other-is (G .txns) n s e sharedLock x h ∙ free, no-kind (G .txns) n s e anUpdate ek q, ← (caller (G .txns) n s e .is), ← item-is)
 
-        pub read-asks : k ≢ aQuery → access base toRead (s .0) (y .0) 0 G ≡ readBy base n x G
+        pub read-asks : k ≡ anUpdate → access base toRead (s .0) (y .0) 0 G ≡ readBy base n x G
         unfolding readBy
         read-asks d =
-            rw (caller (G .txns) n s e .some, inside, other-is (G .txns) n s e sharedLock x h ∙ free, no-query (G .txns) n s e ek d, ← (caller (G .txns) n s e .is), ← item-is)
+            rw (caller (G .txns) n s e .some, inside, other-is (G .txns) n s e sharedLock x h ∙ free, of-kind (G .txns) n s e anUpdate ek d, ← (caller (G .txns) n s e .is), ← item-is)
 
       -- ---- write
       module _ (v k : ℕ) (ek : k ≡ (txn (G .txns) (s .0)) .kind) where
@@ -188,26 +254,45 @@ module _ (G : Tables) (n x : ℕ) where
           unfolding writeBy
           write-waits q = rw (caller (G .txns) n s e .some, inside, no-query (G .txns) n s e ek d, other-is (G .txns) n s e exclusiveLock x h ∙ q)
 
-          module _ (free : b ≡ false) (r : Bool) (m : r ≡ writesFurther base (G .locks) (s .0) (y .0)) where
-            further-is : writesFurther base (G .locks) (slotOf base (G .txns) n) x ≡ r
-            further-is =
-                ap (λ (z : ℕ). writesFurther base (G .locks) z x) (sym (caller (G .txns) n s e .is))
-                ∙ ap (λ (z : ℕ). writesFurther base (G .locks) (s .0) z) (sym item-is) ∙ sym m
+          module _ (free : b ≡ false) (p : Bool) (l : p ≡ writesPast (G .txns) (G .locks) (s .0) (y .0)) where
+            past-is : writesPast (G .txns) (G .locks) (slotOf base (G .txns) n) x ≡ p
+            past-is =
+                ap (λ (z : ℕ). writesPast (G .txns) (G .locks) z x) (sym (caller (G .txns) n s e .is))
+                ∙ ap (λ (z : ℕ). writesPast (G .txns) (G .locks) (s .0) z) (sym item-is) ∙ sym l
 
-            pub write-full : r ≡ true → Refused QuotaSpent ≡ writeBy base n x v G
+            pub write-past : p ≡ true → Refused PastWriting ≡ writeBy base n x v G
             unfolding writeBy
-            write-full q =
-                rw (caller (G .txns) n s e .some, inside, no-query (G .txns) n s e ek d, other-is (G .txns) n s e exclusiveLock x h ∙ free, further-is ∙ q)
+            write-past q =
+                rw (caller (G .txns) n s e .some, inside, no-query (G .txns) n s e ek d, other-is (G .txns) n s e exclusiveLock x h ∙ free, past-is ∙ q)
 
-            pub write-asks : r ≡ false → access base toWrite (s .0) (y .0) v G ≡ writeBy base n x v G
-            unfolding writeBy
-            write-asks q =
-                rw (
-                  caller (G .txns) n s e .some,
-                  inside,
-                  no-query (G .txns) n s e ek d,
-                  other-is (G .txns) n s e exclusiveLock x h ∙ free,
-                  further-is ∙ q,
-                  ← (caller (G .txns) n s e .is),
-                  ← item-is,
-                )
+            module _ (writing : p ≡ false) (r : Bool) (m : r ≡ writesFurther base (G .locks) (s .0) (y .0)) where
+              further-is : writesFurther base (G .locks) (slotOf base (G .txns) n) x ≡ r
+              further-is =
+                  ap (λ (z : ℕ). writesFurther base (G .locks) z x) (sym (caller (G .txns) n s e .is))
+                  ∙ ap (λ (z : ℕ). writesFurther base (G .locks) (s .0) z) (sym item-is) ∙ sym m
+
+              pub write-full : r ≡ true → Refused QuotaSpent ≡ writeBy base n x v G
+              unfolding writeBy
+              write-full q =
+                  rw (
+                    caller (G .txns) n s e .some,
+                    inside,
+                    no-query (G .txns) n s e ek d,
+                    other-is (G .txns) n s e exclusiveLock x h ∙ free,
+                    past-is ∙ writing,
+                    further-is ∙ q,
+                  )
+
+              pub write-asks : r ≡ false → access base toWrite (s .0) (y .0) v G ≡ writeBy base n x v G
+              unfolding writeBy
+              write-asks q =
+                  rw (
+                    caller (G .txns) n s e .some,
+                    inside,
+                    no-query (G .txns) n s e ek d,
+                    other-is (G .txns) n s e exclusiveLock x h ∙ free,
+                    past-is ∙ writing,
+                    further-is ∙ q,
+                    ← (caller (G .txns) n s e .is),
+                    ← item-is,
+                  )

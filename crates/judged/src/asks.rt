@@ -10,19 +10,23 @@ use names::QUERY_KIND;
 use names::Refusal;
 use names::SHARED_LOCK;
 use names::Slot;
+use names::UPDATE_KIND;
 use rows::Found;
 ghost use mathlib.Core.Path.{_≡_};
 ghost use Prim.Native.Nat.{_<_};
 ghost use lib.ListN.{length};
 ghost use Rattle.names.specs.Sizes.{base};
-ghost use Rattle.rules.specs.Tables.{tables, txnWords};
+ghost use Rattle.rules.specs.Tables.{tables, txnWords, lockWords};
 ghost use Rattle.rules.specs.Good.{Good};
-ghost use Rattle.rules.specs.Step.{access, conflicted, readBy, writeBy};
+ghost use Rattle.rules.specs.Step.{access, conflicted, startRead, readBy, writeBy};
 ghost use Rattle.cells.specs.Cells.{askedOf};
+ghost use Rattle.callers.specs.Searchable.{Searchable, FreeRows};
 ghost use Rattle.judged.specs.Searched.{Asks, ofLocks};
 use callers::awaits_other;
 use callers::find;
+use callers::held_back;
 use callers::writes_further;
+use callers::writes_past;
 
 const WORDS: usize = names::TXN_WORDS;
 
@@ -86,6 +90,22 @@ fn access(
     }
 }
 
+// A read by a start: the own working value, a wait for another past its writing, or the version that
+// the start chooses. The wait is not noted.
+fn start_read(txns: &[u64], locks: &[u64], slot: Slot, item: Item) -> Deed
+    requires { ⌜ Searchable (now txns) × FreeRows (now txns) × (length (now locks) ≡ lockWords base) × (slot .0 < base .slots) × (item .0 < base .items) ⌝ }
+    ensures { λ r. ⌜ r ≡ startRead base (slot .0) (item .0) (ofLocks (now (txns .entry)) (now (locks .entry))) ⌝ }
+{
+    let row = rows::lock_at(locks, item);
+    if row.exclusive == slot.0 + 1 {
+        return Deed::ReadsOwn(slot, item);
+    }
+    if held_back(txns, locks, item, slot) {
+        return Deed::Refused(Refusal::Wait);
+    }
+    Deed::ReadsByStart(slot, item)
+}
+
 pub fn read_by(txns: &[u64], locks: &[u64], versions: &[u64], number: u64, item: u64) -> Deed
     requires { ⌜ Good base (tables (now txns) (now locks) (now versions)) ⌝ }
     ensures { λ r. ⌜ r ≡ readBy base number item (tables (now (txns .entry)) (now (locks .entry)) (now (versions .entry))) ⌝ }
@@ -101,8 +121,8 @@ pub fn read_by(txns: &[u64], locks: &[u64], versions: &[u64], number: u64, item:
     if awaits_other(txns, slot, SHARED_LOCK, item) {
         return Deed::Refused(Refusal::StillWaiting);
     }
-    if rows::kind(txns, slot) == QUERY_KIND {
-        return Deed::ReadsByStart(slot, x);
+    if rows::kind(txns, slot) != UPDATE_KIND {
+        return start_read(txns, locks, slot, x);
     }
     access(txns, locks, versions, slot, x, TO_READ, 0)
 }
@@ -131,6 +151,9 @@ pub fn write_by(
     }
     if awaits_other(txns, slot, EXCLUSIVE_LOCK, item) {
         return Deed::Refused(Refusal::StillWaiting);
+    }
+    if writes_past(txns, locks, slot, x) {
+        return Deed::Refused(Refusal::PastWriting);
     }
     if writes_further(locks, slot, x) {
         return Deed::Refused(Refusal::QuotaSpent);

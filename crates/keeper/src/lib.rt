@@ -1,6 +1,6 @@
 // The keeper: one door over three lent tables, transactions, locks and versions.
 //
-// `call` makes any call; the six routines are its names. None has a `requires`: each says, for every
+// `call` makes any call; the seven routines are its names. None has a `requires`: each says, for every
 // input whatever, its four answer numbers and every word of the three tables afterwards, by one
 // equation with the rules' `step`. All tables are tested, then the call is judged without changing a
 // word, then the deed is done.
@@ -9,7 +9,7 @@ use names::Refusal;
 ghost use mathlib.Core.Path.{_≡_};
 ghost use Rattle.names.specs.Sizes.{base};
 ghost use Rattle.rules.specs.Tables.{tables};
-ghost use Rattle.rules.specs.Answers.{outcome, BeginUpdate, BeginQuery, Read, Write, Commit, Abort};
+ghost use Rattle.rules.specs.Answers.{outcome, BeginUpdate, BeginQuery, Read, Write, Commit, Abort, Settle};
 ghost use Rattle.rules.specs.Step.{step};
 
 // Makes a call.
@@ -30,7 +30,7 @@ pub fn begin_update(txns: &mut [u64], locks: &mut [u64], versions: &mut [u64]) -
     call(names::Call::BeginUpdate, txns, locks, versions)
 }
 
-// Begins a query, which reads what is committed now.
+// Begins a query, which reads the newest versions stamped up to the clock of now.
 pub fn begin_query(txns: &mut [u64], locks: &mut [u64], versions: &mut [u64]) -> Answer
     ensures { λ r. ⌜ outcome r (now (txns .exit)) (now (locks .exit)) (now (versions .exit)) ≡ step base BeginQuery (tables (now (txns .entry)) (now (locks .entry)) (now (versions .entry))) ⌝ }
 {
@@ -73,16 +73,23 @@ pub fn write(
     )
 }
 
-// Commits an update, whose stamp is the answer's number; ends a query.
+// Commits an update, past its writing or not, whose stamp is the answer's number; ends a query.
 pub fn commit(txns: &mut [u64], locks: &mut [u64], versions: &mut [u64], number: u64) -> Answer
     ensures { λ r. ⌜ outcome r (now (txns .exit)) (now (locks .exit)) (now (versions .exit)) ≡ step base (Commit number) (tables (now (txns .entry)) (now (locks .entry)) (now (versions .entry))) ⌝ }
 {
     call(names::Call::Commit { number }, txns, locks, versions)
 }
 
-// Aborts an update; ends a query.
+// Aborts an update, past its writing or not; ends a query.
 pub fn abort(txns: &mut [u64], locks: &mut [u64], versions: &mut [u64], number: u64) -> Answer
     ensures { λ r. ⌜ outcome r (now (txns .exit)) (now (locks .exit)) (now (versions .exit)) ≡ step base (Abort number) (tables (now (txns .entry)) (now (locks .entry)) (now (versions .entry))) ⌝ }
 {
     call(names::Call::Abort { number }, txns, locks, versions)
+}
+
+// Settles an update: it is past its writing, its stamp is the answer's number, and its shared locks go.
+pub fn settle(txns: &mut [u64], locks: &mut [u64], versions: &mut [u64], number: u64) -> Answer
+    ensures { λ r. ⌜ outcome r (now (txns .exit)) (now (locks .exit)) (now (versions .exit)) ≡ step base (Settle number) (tables (now (txns .entry)) (now (locks .entry)) (now (versions .entry))) ⌝ }
+{
+    call(names::Call::Settle { number }, txns, locks, versions)
 }

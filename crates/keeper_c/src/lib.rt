@@ -1,4 +1,4 @@
-// The keeper for C and Rust: fresh tables and the six calls under plain names, in a static library.
+// The keeper for C and Rust: fresh tables and the seven calls under plain names, in a static library.
 //
 // A slice is a pointer and a length. Each call has the contract of the keeper's routine that it
 // makes: no `requires`, and one equation with the rules' `step`. include/keeper.h says for C what a
@@ -7,7 +7,7 @@ use names::Answer;
 ghost use mathlib.Core.Path.{_≡_};
 ghost use Rattle.names.specs.Sizes.{base};
 ghost use Rattle.rules.specs.Tables.{tables};
-ghost use Rattle.rules.specs.Answers.{outcome, BeginUpdate, BeginQuery, Read, Write, Commit, Abort};
+ghost use Rattle.rules.specs.Answers.{outcome, BeginUpdate, BeginQuery, Read, Write, Commit, Abort, Settle};
 ghost use Rattle.rules.specs.Step.{step};
 ghost use Rattle.rules.specs.Tested.{sizesExact};
 ghost use Rattle.fresh.specs.Made.{freshened};
@@ -74,7 +74,7 @@ pub extern "C" fn keeper_write(
     keeper::write(txns, locks, versions, number, item, value)
 }
 
-// Commits an update; ends a query.
+// Commits an update, past its writing or not; ends a query.
 #[no_mangle]
 pub extern "C" fn keeper_commit(
     txns: &mut [u64],
@@ -87,7 +87,7 @@ pub extern "C" fn keeper_commit(
     keeper::commit(txns, locks, versions, number)
 }
 
-// Aborts an update; ends a query.
+// Aborts an update, past its writing or not; ends a query.
 #[no_mangle]
 pub extern "C" fn keeper_abort(
     txns: &mut [u64],
@@ -98,4 +98,17 @@ pub extern "C" fn keeper_abort(
     ensures { λ r. ⌜ outcome r (now (txns .exit)) (now (locks .exit)) (now (versions .exit)) ≡ step base (Abort number) (tables (now (txns .entry)) (now (locks .entry)) (now (versions .entry))) ⌝ }
 {
     keeper::abort(txns, locks, versions, number)
+}
+
+// Settles an update: it is past its writing, and its stamp is the answer's number.
+#[no_mangle]
+pub extern "C" fn keeper_settle(
+    txns: &mut [u64],
+    locks: &mut [u64],
+    versions: &mut [u64],
+    number: u64,
+) -> Answer
+    ensures { λ r. ⌜ outcome r (now (txns .exit)) (now (locks .exit)) (now (versions .exit)) ≡ step base (Settle number) (tables (now (txns .entry)) (now (locks .entry)) (now (versions .entry))) ⌝ }
+{
+    keeper::settle(txns, locks, versions, number)
 }

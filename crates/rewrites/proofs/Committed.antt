@@ -1,6 +1,6 @@
 -- An update commits: the rows passed have the new versions and what the starts ask for, the others are as they were.
 use Prim.Native.Nat.{ℕ, _+_, _*_, _<_, _≤_}
-use mathlib.Core.Path.{_≡_, sym, ap, _∙_, subst}
+use mathlib.Core.Path.{_≡_, refl, sym, ap, _∙_, subst}
 use mathlib.Core.Bool.{Bool, true, false, cond}
 use mathlib.Core.List.{List, _∷_}
 use native.Mathlib.Omega.{arith}
@@ -65,22 +65,25 @@ module _
       some : 0 < length (versionsIn (row (versionRow base) i cur))
       some = let n = length-versionsIn r in let m = tidy .sound .least in omega arith
 
-      newer : stampAt (versionsIn (row (versionRow base) i cur)) 0 < stamp
+      abbrev held : Bool
+      held = eqb (getD l (lockRow * i + lockExclusiveAt) 0) (s + 1)
+
+      newer : held ≡ true → stampAt (versionsIn (row (versionRow base) i cur)) 0 < stamp
       unfolding versionsOf
-      newer = subst (λ (r : List ℕ). stampAt (versionsIn r) 0 < stamp) (sym next-row) (p .newer i inside)
+      newer e = subst (λ (r : List ℕ). stampAt (versionsIn r) 0 < stamp) (sym next-row) (p .newer i inside e)
 
       trimmed : (qs : List ℕ) → Reading v qs stamp below → T (allRead qs (versionsIn (row (versionRow base) i cur)) 0 (versionsIn (row (versionRow base) i cur)))
       unfolding versionsOf
       trimmed qs k = subst (λ (r : List ℕ). T (allRead qs (versionsIn r) 0 (versionsIn r))) (sym next-row) (k .read i inside)
 
-      pub next-frontable : Frontable (row (versionRow base) i cur) below
-      next-frontable =
+      pub next-frontable : eqb (getD l (lockRow * i + lockExclusiveAt) 0) (s + 1) ≡ true → Frontable (row (versionRow base) i cur) below
+      next-frontable e =
           record {
             tidy = tidy;
             room = λ h.
                 let n = length-versionsIn r in
                 let k = p .reading in
-                let m = front-room (p .starts) (record { stamp = stamp; value = 0 }) below (k .next) (k .beside) vs some (trimmed (p .starts) k) newer (k .few) h in
+                let m = front-room (p .starts) (record { stamp = stamp; value = 0 }) below (k .next) (k .beside) vs some (trimmed (p .starts) k) (newer e) (k .few) h in
                 omega arith;
           }
 
@@ -89,11 +92,11 @@ module _
         pair = record { stamp = stamp; value = value }
 
         -- with a new version and without
-        one : (qs : List ℕ) → Reading v qs stamp below → (b : Bool)
+        one : (qs : List ℕ) → Reading v qs stamp below → (b : Bool) → (b ≡ true → stampAt (versionsIn (row (versionRow base) i cur)) 0 < stamp)
             → cond b (withRow i (rowOf base (fronted below pair vs)) cur) cur ≡ withRow i (rowOf base (kept qs (cond b (pair ∷ vs) vs))) cur
-        one qs k true =
-            ap (λ (l : List Version). withRow i (rowOf base l) cur) (front-kept qs pair below (k .next) (k .beside) vs some (trimmed qs k) newer)
-        one qs k false =
+        one qs k true n =
+            ap (λ (l : List Version). withRow i (rowOf base l) cur) (front-kept qs pair below (k .next) (k .beside) vs some (trimmed qs k) (n refl))
+        one qs k false n =
             sym
             (ap (λ (l : List Version). withRow i (rowOf base l) cur) (kept-fixed qs vs (trimmed qs k))
             ∙ ap (λ (ws : List ℕ). withRow i ws cur) (sym (row-same r tidy))
@@ -109,5 +112,5 @@ module _
       one-committed e =
           λ qs k.
           e
-          ∙ one (getD l (lockRow * i + lockWorkingAt) 0) qs k (eqb (getD l (lockRow * i + lockExclusiveAt) 0) (s + 1))
+          ∙ one (getD l (lockRow * i + lockWorkingAt) 0) qs k (eqb (getD l (lockRow * i + lockExclusiveAt) 0) (s + 1)) newer
           ∙ one-more qs new v (k .few) (p .tidy .size) i inside cur (f qs k)

@@ -1,17 +1,19 @@
 -- What the functions ask for, good tables have.
-use Prim.Native.Nat.{ℕ, _<_}
+use Prim.Native.Nat.{ℕ, _+_, _*_, _<_}
 use mathlib.Core.Path.{_≡_, refl, sym, ap, _∙_, subst}
 use mathlib.Core.Logic.{_≢_, _⊎_, inl, inr}
 use mathlib.Core.List.{List}
 use native.Mathlib.Omega.{arith}
-use lib.ListN.{length}
+use native.Mathlib.Numerals.{add-one}
+use lib.ListN.{length, getD}
 use lib.Dec.{T, eqb}
 use Rattle.names.specs.Sizes.{base}
+use Rattle.names.specs.Layout.{lockExclusiveAt}
 use Rattle.rules.specs.Words.{row}
-use Rattle.rules.specs.Tables.{Tables, Txn, versionRow, clock, txn, setTxn, noTxn, liveQuery, starts}
-use Rattle.rules.specs.Versions.{versionsOf, place, readBySome}
+use Rattle.rules.specs.Tables.{Tables, Txn, versionRow, clock, txn, setTxn, noTxn, byStart, starts, lockRow, lockWords, lock, holdsExclusive}
+use Rattle.rules.specs.Versions.{versionsOf, stampAt, place, readBySome}
 use Rattle.rules.specs.Good.{Good, GoodVersions}
-use Rattle.rules.proofs.Tests.{same?, eq-make}
+use Rattle.rules.proofs.Tests.{same?, eq-make, true-is}
 use Rattle.rules.proofs.Counts.{some-mem}
 use Rattle.rules.proofs.Starts.{start-in}
 use Rattle.rules.proofs.Ends.{gone-there, gone-room}
@@ -37,8 +39,8 @@ module _ (G : Tables) (g : Good base G) where
             record { size = length-row x v (g .versionsExact) h; sound = good-sound t (row (versionRow base) x v) w; unused = w .unused };
       }
 
-  -- ---- for forget_all: the query in slot s ends
-  module _ (s : ℕ) (inside : s < base .slots) (query : T (liveQuery (txn (G .txns) s))) (below next : ℕ) where
+  -- ---- for forget_all: who reads by a start leaves slot s
+  module _ (s : ℕ) (inside : s < base .slots) (reader : T (byStart (txn (G .txns) s))) (below next : ℕ) where
     abbrev left : List ℕ
     left = setTxn t s noTxn
 
@@ -59,14 +61,14 @@ module _ (G : Tables) (g : Good base G) where
         }
       where
         who :
-            (x k r : ℕ) → r < base .slots → T (liveQuery (txn t r)) → place ((txn t r) .start) (versionsOf base v x) ≡ k → (r ≡ s) ⊎ (r ≢ s)
+            (x k r : ℕ) → r < base .slots → T (byStart (txn t r)) → place ((txn t r) .start) (versionsOf base v x) ≡ k → (r ≡ s) ⊎ (r ≢ s)
             → (place q (versionsOf base v x) ≡ k) ⊎ T (readBySome (starts base left) (versionsOf base v x) k)
         who x k r i a e (inl d) = inl (ap (λ (n : ℕ). place ((txn t n) .start) (versionsOf base v x)) (sym d) ∙ e)
         who x k r i a e (inr d) =
             let there : txn left r ≡ txn t r = gone-there base t t s inside (g .txnsExact) (λ r d. refl) r d in
             let same : place ((txn left r) .start) (versionsOf base v x) ≡ k = ap (λ (u : Txn). place (u .start) (versionsOf base v x)) there ∙ e in
             inr
-            (some-mem (λ q. eqb (place q (versionsOf base v x)) k) (start-in base left r i (subst (λ (u : Txn). T (liveQuery u)) (sym there) a))
+            (some-mem (λ q. eqb (place q (versionsOf base v x)) k) (start-in base left r i (subst (λ (u : Txn). T (byStart u)) (sym there) a))
             (eq-make (place ((txn left r) .start) (versionsOf base v x)) k same))
 
     pub good-leaves :
@@ -77,12 +79,12 @@ module _ (G : Tables) (g : Good base G) where
         record {
           tidy = good-tidy;
           low = λ x h. let a = g .versionsGood x h .first in let c = g .clockMost in omega arith;
-          found = λ x h. good-found G g x s h inside query .found;
+          found = λ x h. good-found G g x s h inside reader .found;
           starts = starts base left;
           staying = good-staying b;
         }
 
-  -- ---- for commit_all: the rows are trimmed for the live queries, and a stamp above the clock is newer than every version
+  -- ---- for commit_all: the rows are trimmed for those who read by a start
   module _ (qs : List ℕ) (same : qs ≡ starts base (G .txns)) (few : length qs < base .places) (c below next : ℕ) (b : Beside qs c below next) where
     pub good-reading : Reading (G .versions) qs c below
     unfolding versionsOf
@@ -94,14 +96,22 @@ module _ (G : Tables) (g : Good base G) where
           read = λ x h. rw same (Good→read base t (row (versionRow base) x v) (g .versionsGood x h));
         }
 
-    pub good-commits : (s : ℕ) → s < base .slots → clock (G .txns) < c → Committable (G .versions) (G .locks) s c below
-    unfolding versionsOf
-    good-commits s h l =
+    pub good-commits :
+        (l : List ℕ) → length l ≡ lockWords base → (s : ℕ) → s < base .slots
+        → ((x : ℕ) → x < base .items → T (holdsExclusive (lock l x) s) → stampAt (versionsOf base (G .versions) x) 0 < c)
+        → Committable (G .versions) l s c below
+    unfolding holdsExclusive lock
+    good-commits l e s h newer =
         record {
           tidy = good-tidy;
-          locks = g .locksExact;
+          locks = e;
           inside = h;
-          newer = λ x i. let a = g .versionsGood x i .first in omega arith;
+          newer = λ x i k. newer x i (subst (λ (n : ℕ). T (eqb (getD l (lockRow * x + lockExclusiveAt) 0) n)) (add-one s) (true-is k));
           starts = qs;
           reading = good-reading;
         }
+
+  -- a stamp above the clock is newer than every version
+  pub good-newer : (c x : ℕ) → clock (G .txns) < c → x < base .items → stampAt (versionsOf base (G .versions) x) 0 < c
+  unfolding versionsOf
+  good-newer c x l i = let a = g .versionsGood x i .first in omega arith

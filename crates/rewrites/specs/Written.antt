@@ -2,7 +2,7 @@
 use Prim.Native.Nat.{ℕ, _+_, _*_, _≤_, _<_}
 use mathlib.Core.Path.{_≡_}
 use mathlib.Core.Logic.{_⊎_}
-use mathlib.Core.Bool.{cond}
+use mathlib.Core.Bool.{true, cond}
 use mathlib.Core.List.{List, _∷_, _++_}
 use lib.ListN.{getD, length, take, drop}
 use lib.Dec.{T, eqb}
@@ -58,11 +58,12 @@ pub record Reading (v qs : List ℕ) (stamp below : ℕ) : Type 0 where
   pub few : length qs < base .places
   pub read : (x : ℕ) → x < base .items → T (allRead qs (versionsOf base v x) 0 (versionsOf base v x))
 
--- tables on which the update in slot s can commit at that stamp, by the words l of the locks: it is above all other stamps
+-- tables on which the update in slot s can commit at that stamp, by the words l of the locks: it is above the other stamps of the items
+-- that it holds exclusively
 pub record Committable (v l : List ℕ) (s stamp below : ℕ) : Type 0 where
   pub tidy : TidyTable v
   pub locks : length l ≡ lockWords base
   pub inside : s < base .slots
-  pub newer : (x : ℕ) → x < base .items → stampAt (versionsOf base v x) 0 < stamp
+  pub newer : (x : ℕ) → x < base .items → eqb (getD l (lockRow * x + lockExclusiveAt) 0) (s + 1) ≡ true → stampAt (versionsOf base v x) 0 < stamp
   pub starts : List ℕ
   pub reading : Reading v starts stamp below

@@ -3,7 +3,7 @@
 //
 // Proved against `rewritten` of the rules. Good tables meet each `requires`, as proofs/Handed says.
 ghost use mathlib.Core.Path.{_≡_};
-ghost use mathlib.Core.Bool.{cond};
+ghost use mathlib.Core.Bool.{true, cond};
 ghost use mathlib.Core.List.{List};
 ghost use Prim.Native.Nat.{ℕ, _<_};
 ghost use lib.ListN.{length};
@@ -59,7 +59,7 @@ pub fn forget_all(versions: &mut [u64], start: Stamp, beside: Neighbours)
 // The row of item x at a commit: lent to put_front if it gets a new version. One that gets none is
 // trimmed already, so it stays.
 fn commit_item(versions: &mut [u64], x: usize, new: bool, below: u64, stamp: u64, value: u64)
-    requires { ⌜ (length (now versions) ≡ versionWords base) × (x < base .items) × Frontable (row (versionRow base) x (now versions)) below ⌝ }
+    requires { ⌜ (length (now versions) ≡ versionWords base) × (x < base .items) × (new ≡ true → Frontable (row (versionRow base) x (now versions)) below) ⌝ }
     ensures { λ _. ⌜ now (versions .exit) ≡ cond new (withRow x (rowOf base (fronted below (record { stamp = stamp; value = value }) (versionsIn (row (versionRow base) x (now (versions .entry)))))) (now (versions .entry))) (now (versions .entry)) ⌝ }
 {
     if new {

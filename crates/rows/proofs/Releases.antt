@@ -1,4 +1,4 @@
--- Locks released item by item, from the first.
+-- Locks released, or unshared, item by item, from the first.
 use Prim.Native.Nat.{ℕ, zero, suc, _+_, _*_, _/_, _%_, _≤_, _<_}
 use mathlib.Core.Path.{_≡_, refl, sym, ap, _∙_, subst}
 use mathlib.Core.Logic.{_≢_, _⊎_, inl, inr}
@@ -11,9 +11,9 @@ use lib.Dec.{T}
 use Rattle.names.specs.Sizes.{base}
 use Rattle.names.specs.declared.Sizes.{Sizes}
 use Rattle.rules.specs.Words.{bit, withoutBit}
-use Rattle.rules.specs.Tables.{lockRow, lockWords, Lock, lock, setLock, holds, holdsShared, holdsExclusive, released, release}
+use Rattle.rules.specs.Tables.{lockRow, lockWords, Lock, lock, setLock, holds, holdsShared, holdsExclusive, released, release, unshared, unshare}
 use Rattle.rules.proofs.Tests.{same?, is-false, false-is, or-left, or-right}
-use Rattle.rules.proofs.Views.{lock-setLock, lock-setLock-other, length-setLock, lock-release, length-release}
+use Rattle.rules.proofs.Views.{lock-setLock, lock-setLock-other, length-setLock, lock-release, length-release, lock-unshare, length-unshare}
 
 -- two lock tables with the same locks are the same
 pub locks-same :
@@ -36,20 +36,20 @@ locks-same S l m e f h = ext-getD 0 l m (e ∙ sym f) (λ j b. word j (omega ari
         subst (λ (i : ℕ). getD l i 0 ≡ getD m i 0) p (unfold lock in (ap (λ (o : Lock). o .working) (at j b)))
     word j b (suc (suc (suc k))) q = absurd (omega arith)
 
--- the locks of the items below x are released, the others are as they were
-pub record Released (s : ℕ) (before after : List ℕ) (x : ℕ) : Type 0 where
+-- the locks of the items below x are as f makes them, the others are as they were
+pub record Released (f : Lock → Lock) (before after : List ℕ) (x : ℕ) : Type 0 where
   pub within : x ≤ base .items
   pub size : length after ≡ lockWords base
-  pub done : (y : ℕ) → y < x → lock after y ≡ released s (lock before y)
+  pub done : (y : ℕ) → y < x → lock after y ≡ f (lock before y)
   pub left : (y : ℕ) → x ≤ y → lock after y ≡ lock before y
 
-pub none-released : (s : ℕ) (l : List ℕ) → length l ≡ lockWords base → Released s l l 0
-none-released s l e = record { within = omega arith; size = e; done = λ y b. absurd (omega arith); left = λ y b. refl }
+pub none-released : (f : Lock → Lock) (l : List ℕ) → length l ≡ lockWords base → Released f l l 0
+none-released f l e = record { within = omega arith; size = e; done = λ y b. absurd (omega arith); left = λ y b. refl }
 
 pub one-released :
-    (s : ℕ) (before after : List ℕ) (x : ℕ) (h : Lock) → x < base .items → Released s before after x → h ≡ released s (lock after x)
-    → Released s before (setLock after x h) (x + 1)
-one-released s before after x h i r e =
+    (f : Lock → Lock) (before after : List ℕ) (x : ℕ) (h : Lock) → x < base .items → Released f before after x → h ≡ f (lock after x)
+    → Released f before (setLock after x h) (x + 1)
+one-released f before after x h i r e =
     record {
       within = omega arith;
       size = length-setLock after x h ∙ r .size;
@@ -57,10 +57,10 @@ one-released s before after x h i r e =
       left = λ y b. lock-setLock-other after x h y (λ q. omega arith) ∙ r .left y (omega arith);
     }
   where
-    go : (y : ℕ) → y < x + 1 → (y ≡ x) ⊎ (y ≢ x) → lock (setLock after x h) y ≡ released s (lock before y)
+    go : (y : ℕ) → y < x + 1 → (y ≡ x) ⊎ (y ≢ x) → lock (setLock after x h) y ≡ f (lock before y)
     go y b (inl q) =
-        subst (λ (z : ℕ). lock (setLock after x h) z ≡ released s (lock before z)) (sym q)
-        (lock-setLock after x h base (r .size) i ∙ e ∙ ap (released s) (r .left x (omega arith)))
+        subst (λ (z : ℕ). lock (setLock after x h) z ≡ f (lock before z)) (sym q)
+        (lock-setLock after x h base (r .size) i ∙ e ∙ ap f (r .left x (omega arith)))
     go y b (inr d) = lock-setLock-other after x h y d ∙ r .done y (omega arith)
 
 -- a lock that the slot does not hold is released already, and writing it back changes nothing
@@ -79,8 +79,15 @@ lock-back l x e i =
     go y (inr d) = lock-setLock-other l x (lock l x) y d
 
 pub all-released :
-    (s : ℕ) (before after : List ℕ) (x : ℕ) → length before ≡ lockWords base → base .items ≤ x → Released s before after x
+    (s : ℕ) (before after : List ℕ) (x : ℕ) → length before ≡ lockWords base → base .items ≤ x → Released (released s) before after x
     → after ≡ release base s before
 all-released s before after x e b r =
     locks-same base after (release base s before) (r .size) (length-release base s before e)
     (λ y i. r .done y (omega arith) ∙ sym (lock-release base s before e y i))
+
+pub all-unshared :
+    (s : ℕ) (before after : List ℕ) (x : ℕ) → length before ≡ lockWords base → base .items ≤ x → Released (unshared s) before after x
+    → after ≡ unshare base s before
+all-unshared s before after x e b r =
+    locks-same base after (unshare base s before) (r .size) (length-unshare base s before e)
+    (λ y i. r .done y (omega arith) ∙ sym (lock-unshare base s before e y i))

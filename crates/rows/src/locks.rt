@@ -9,7 +9,7 @@ ghost use mathlib.Core.Path.{_≡_};
 ghost use Prim.Native.Nat.{_<_};
 ghost use lib.ListN.{length};
 ghost use Rattle.names.specs.Sizes.{base};
-ghost use Rattle.rules.specs.Tables.{lockWords, lock, setLock, holds, exclusivesOf, released, release};
+ghost use Rattle.rules.specs.Tables.{lockWords, lock, setLock, holds, exclusivesOf, released, release, unshared, unshare};
 ghost use Rattle.rows.specs.Founds.{lockOf};
 
 // The words of a lock: shared holders (bit i for slot i), exclusive holder (slot plus 1, 0 for
@@ -64,25 +64,34 @@ pub fn exclusives_of(locks: &[u64], slot: Slot) -> u64
     held
 }
 
+// A lock that a slot no longer shares.
+fn unshared(row: LockRow, slot: Slot) -> LockRow
+    requires { ⌜ slot .0 < base .slots ⌝ }
+    ensures { λ r. ⌜ lockOf r ≡ unshared (slot .0) (lockOf row) ⌝ }
+{
+    let s = slot.0;
+    let shared = row.shared - (((row.shared >> s) % 2) << s);
+    LockRow {
+        shared,
+        exclusive: row.exclusive,
+        working: row.working,
+    }
+}
+
 // A lock without a slot.
 pub fn without(row: LockRow, slot: Slot) -> LockRow
     requires { ⌜ slot .0 < base .slots ⌝ }
     ensures { λ r. ⌜ lockOf r ≡ released (slot .0) (lockOf row) ⌝ }
 {
-    let s = slot.0;
-    let shared = row.shared - (((row.shared >> s) % 2) << s);
-    if row.exclusive == s + 1 {
+    let rest = unshared(row, slot);
+    if row.exclusive == slot.0 + 1 {
         LockRow {
-            shared,
+            shared: rest.shared,
             exclusive: 0,
             working: 0,
         }
     } else {
-        LockRow {
-            shared,
-            exclusive: row.exclusive,
-            working: row.working,
-        }
+        rest
     }
 }
 
@@ -114,6 +123,27 @@ pub fn release(locks: &mut [u64], slot: Slot)
     let mut x: u64 = 0;
     while x < ITEMS {
         release_item(locks, Item(x), slot);
+        x += 1;
+    }
+}
+
+// The lock of an item that a slot no longer shares.
+fn unshare_item(locks: &mut [u64], item: Item, slot: Slot)
+    requires { ⌜ (length (now locks) ≡ lockWords base) × (item .0 < base .items) × (slot .0 < base .slots) ⌝ }
+    ensures { λ _. ⌜ now (locks .exit) ≡ setLock (now (locks .entry)) (item .0) (unshared (slot .0) (lock (now (locks .entry)) (item .0))) ⌝ }
+{
+    let row = lock_at(&locks[..], item);
+    set_lock(locks, item, unshared(row, slot));
+}
+
+// All shared locks of a slot go.
+pub fn unshare(locks: &mut [u64], slot: Slot)
+    requires { ⌜ (length (now locks) ≡ lockWords base) × (slot .0 < base .slots) ⌝ }
+    ensures { λ _. ⌜ now (locks .exit) ≡ unshare base (slot .0) (now (locks .entry)) ⌝ }
+{
+    let mut x: u64 = 0;
+    while x < ITEMS {
+        unshare_item(locks, Item(x), slot);
         x += 1;
     }
 }

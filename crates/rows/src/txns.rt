@@ -3,6 +3,7 @@ use names::CLOCK_AT;
 use names::Item;
 use names::LAST_NUMBER_AT;
 use names::Number;
+use names::SETTLED_KIND;
 use names::SLOTS;
 use names::Slot;
 use names::Stamp;
@@ -18,7 +19,7 @@ ghost use Prim.Native.Nat.{_+_, _<_};
 ghost use lib.ListN.{length, getD, set};
 ghost use Rattle.names.specs.Sizes.{base};
 ghost use Rattle.names.specs.Layout.{txnRow, txnRankAt};
-ghost use Rattle.rules.specs.Tables.{txnWords, lastNumber, clock, txnAt, txn, setTxn, setAwaited, noTxn, slotOf, freeSlot, newTxn};
+ghost use Rattle.rules.specs.Tables.{txnWords, lastNumber, clock, txnAt, txn, setTxn, setAwaited, noTxn, slotOf, freeSlot, newTxn, aSettled};
 ghost use Rattle.rows.specs.Founds.{foundAt};
 
 // Where a search ended.
@@ -87,7 +88,7 @@ fn row_word(txns: &[u64], slot: Slot, k: usize) -> u64
     txns[at + k]
 }
 
-// Update or query.
+// Update, query, or update past its writing.
 pub fn kind(txns: &[u64], slot: Slot) -> u64
     requires { ⌜ (length (now txns) ≡ txnWords base) × (slot .0 < base .slots) ⌝ }
     ensures { λ r. ⌜ r ≡ (txn (now (txns .entry)) (slot .0)) .kind ⌝ }
@@ -95,7 +96,7 @@ pub fn kind(txns: &[u64], slot: Slot) -> u64
     row_word(txns, slot, TXN_KIND_AT)
 }
 
-// The start of a query.
+// The start of a query; the stamp of one past its writing.
 pub fn start(txns: &[u64], slot: Slot) -> Stamp
     requires { ⌜ (length (now txns) ≡ txnWords base) × (slot .0 < base .slots) ⌝ }
     ensures { λ r. ⌜ r .0 ≡ (txn (now (txns .entry)) (slot .0)) .start ⌝ }
@@ -161,20 +162,28 @@ pub fn leave(txns: &mut [u64], slot: Slot)
     }
 }
 
-// A new row: the number, which is now the last one given, the kind and the start; its other words
-// are 0.
-pub fn begin(txns: &mut [u64], slot: Slot, number: Number, kind: u64, start: Stamp)
+// A new row: the number, the kind and the start; its other words are 0.
+fn put_row(txns: &mut [u64], slot: Slot, number: Number, kind: u64, start: Stamp)
     requires { ⌜ (length (now txns) ≡ txnWords base) × (slot .0 < base .slots) ⌝ }
-    ensures { λ _. ⌜ now (txns .exit) ≡ setTxn (set (now (txns .entry)) 0 (number .0)) (slot .0) (newTxn (number .0) kind (start .0)) ⌝ }
+    ensures { λ _. ⌜ now (txns .exit) ≡ setTxn (now (txns .entry)) (slot .0) (newTxn (number .0) kind (start .0)) ⌝ }
 {
     let n = number.0;
     let q = start.0;
-    txns[LAST_NUMBER_AT] = n;
     leave(txns, slot);
     let at = TXN_HEAD + TXN_ROW * (slot.0 as usize);
     txns[at] = n;
     txns[at + TXN_KIND_AT] = kind;
     txns[at + TXN_START_AT] = q;
+}
+
+// The row of one that begins: its number is now the last one given.
+pub fn begin(txns: &mut [u64], slot: Slot, number: Number, kind: u64, start: Stamp)
+    requires { ⌜ (length (now txns) ≡ txnWords base) × (slot .0 < base .slots) ⌝ }
+    ensures { λ _. ⌜ now (txns .exit) ≡ setTxn (set (now (txns .entry)) 0 (number .0)) (slot .0) (newTxn (number .0) kind (start .0)) ⌝ }
+{
+    let n = number.0;
+    txns[LAST_NUMBER_AT] = n;
+    put_row(txns, slot, number, kind, start);
 }
 
 // The clock, written.
@@ -184,4 +193,14 @@ pub fn set_clock(txns: &mut [u64], stamp: Stamp)
 {
     let c = stamp.0;
     txns[CLOCK_AT] = c;
+}
+
+// An update takes its stamp, which is now the clock, and is past its writing.
+pub fn settle(txns: &mut [u64], slot: Slot, stamp: Stamp)
+    requires { ⌜ (length (now txns) ≡ txnWords base) × (slot .0 < base .slots) ⌝ }
+    ensures { λ _. ⌜ now (txns .exit) ≡ setTxn (set (now (txns .entry)) 1 (stamp .0)) (slot .0) (newTxn ((txn (now (txns .entry)) (slot .0)) .number) aSettled (stamp .0)) ⌝ }
+{
+    let n = row_word(&txns[..], slot, 0);
+    set_clock(txns, stamp);
+    put_row(txns, slot, Number(n), SETTLED_KIND, stamp);
 }

@@ -6,7 +6,7 @@ use lib.Dec.{eqb, leb, ltb}
 use Rattle.names.specs.declared.Sizes.{Sizes}
 use Rattle.names.specs.Sizes.{base}
 use Rattle.rules.specs.Words.{implies, everyBelow}
-use Rattle.rules.specs.Tables.{lastNumber, clock, Txn, txn, live, liveUpdate, aQuery, noLock, exclusiveLock}
+use Rattle.rules.specs.Tables.{lastNumber, clock, Txn, txn, live, liveUpdate, liveSettled, aQuery, noLock, exclusiveLock}
 use Rattle.rules.specs.Tested.{topsMost, freeZero, listed, startGood, awaitedGood}
 use Rattle.shapes.specs.declared.Seen.{Seen}
 
@@ -33,8 +33,11 @@ updatesIn S t = slotsThat (S .slots) (λ s. liveUpdate (txn t s))
 unfoldable pub waitingIn : Sizes → List ℕ → ℕ
 waitingIn S t = slotsThat (S .slots) (λ s. waits (txn t s))
 
+unfoldable pub settledIn : Sizes → List ℕ → ℕ
+settledIn S t = slotsThat (S .slots) (λ s. liveSettled (txn t s))
+
 abbrev pub seen : Sizes → List ℕ → Seen
-seen S t = record { ok = rowsGood S t; updates = updatesIn S t; waiting = waitingIn S t }
+seen S t = record { ok = rowsGood S t; updates = updatesIn S t; waiting = waitingIn S t; settled = settledIn S t }
 
 -- ---- a row as the code tests it, by its words
 abbrev pub freeOk : ℕ → ℕ → ℕ → ℕ → ℕ → Bool
@@ -51,6 +54,10 @@ updateOk last number start wanted item rank =
 abbrev pub queryOk : ℕ → ℕ → ℕ → ℕ → ℕ → ℕ → ℕ → ℕ → Bool
 queryOk last now number kind start wanted item rank =
     leb number last && eqb kind aQuery && leb start now && eqb wanted noLock && (eqb item 0 && eqb rank 0)
+
+abbrev pub settledOk : ℕ → ℕ → ℕ → ℕ → ℕ → ℕ → ℕ → Bool
+settledOk last now number start wanted item rank =
+    leb number last && (leb 1 start && leb start now) && eqb wanted noLock && (eqb item 0 && eqb rank 0)
 
 -- no slot below i has the number n; the number of slot i is that of no slot below, if it is one
 unfoldable pub apartFrom : List ℕ → ℕ → ℕ → Bool

@@ -1,5 +1,5 @@
-// The transaction rows: their shape, who is a live update, who of these waits, and that no two live
-// transactions have one number.
+// The transaction rows: their shape, who is a live update, who of these waits, who is past its
+// writing, and that no two live transactions have one number.
 //
 // Every function is proved equal to its definition, for tables of the exact size.
 ghost use mathlib.Core.Path.{_≡_};
@@ -8,12 +8,13 @@ ghost use lib.ListN.{length};
 ghost use Rattle.names.specs.Sizes.{base};
 ghost use Rattle.rules.specs.Tables.{txnWords};
 ghost use Rattle.rules.specs.Tested.{distinct};
-ghost use Rattle.shapes.specs.Shape.{freeOk, updateOk, queryOk, seen, apartFrom, distinctAt};
+ghost use Rattle.shapes.specs.Shape.{freeOk, updateOk, queryOk, settledOk, seen, apartFrom, distinctAt};
 use names::CLOCK_AT;
 use names::EXCLUSIVE_LOCK;
 use names::LAST_NUMBER_AT;
 use names::NO_LOCK;
 use names::QUERY_KIND;
+use names::SETTLED_KIND;
 use names::TXN_HEAD;
 use names::TXN_ITEM_AT;
 use names::TXN_KIND_AT;
@@ -26,11 +27,13 @@ use names::UPDATE_KIND;
 const SLOTS: usize = names::SLOTS as usize;
 
 // What one pass over the transaction rows sees: whether each is as the rules ask, but for what the
-// locks have a part in; the slots of the live updates; the slots of those that await a lock.
+// locks have a part in; the slots of the live updates; the slots of those that await a lock; the slots
+// of those past their writing.
 pub struct Seen {
     pub ok: bool,
     pub updates: u64,
     pub waiting: u64,
+    pub settled: u64,
 }
 
 // A free row is all zeros.
@@ -72,6 +75,24 @@ fn query_ok(
         & ((item == 0) & (rank == 0))
 }
 
+// One past its writing has a number and a stamp that were given; it awaits nothing.
+fn settled_ok(
+    last: u64,
+    clock: u64,
+    number: u64,
+    start: u64,
+    wanted: u64,
+    item: u64,
+    rank: u64,
+) -> bool
+    ensures { λ r. ⌜ r ≡ settledOk last clock number start wanted item rank ⌝ }
+{
+    (number <= last)
+        & ((1 <= start) & (start <= clock))
+        & (wanted == NO_LOCK)
+        & ((item == 0) & (rank == 0))
+}
+
 // One pass over the transaction rows.
 pub fn rows(txns: &[u64]) -> Seen
     requires { ⌜ length (now txns) ≡ txnWords base ⌝ }
@@ -82,6 +103,7 @@ pub fn rows(txns: &[u64]) -> Seen
     let mut ok = (last <= names::LAST_WORD) & (clock <= names::LAST_WORD);
     let mut updates: u64 = 0;
     let mut waiting: u64 = 0;
+    let mut settled: u64 = 0;
     let mut slot: usize = 0;
     while slot < SLOTS {
         let at = TXN_HEAD + TXN_ROW * slot;
@@ -101,7 +123,12 @@ pub fn rows(txns: &[u64]) -> Seen
                     waiting = waiting | (1 << slot);
                 }
             } else {
-                ok = ok & query_ok(last, clock, number, kind, start, wanted, item, rank);
+                if kind == SETTLED_KIND {
+                    ok = ok & settled_ok(last, clock, number, start, wanted, item, rank);
+                    settled = settled | (1 << slot);
+                } else {
+                    ok = ok & query_ok(last, clock, number, kind, start, wanted, item, rank);
+                }
             }
         }
         slot += 1;
@@ -110,6 +137,7 @@ pub fn rows(txns: &[u64]) -> Seen
         ok,
         updates,
         waiting,
+        settled,
     }
 }
 

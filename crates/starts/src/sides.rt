@@ -1,4 +1,4 @@
-// What stands on either side of a stamp among the starts of the live queries.
+// What stands on either side of a stamp among the starts of those who read by one.
 ghost use mathlib.Core.Path.{_≡_};
 ghost use mathlib.Core.List.{List, [], _∷_, _++_};
 ghost use Prim.Native.Nat.{ℕ};
@@ -8,11 +8,11 @@ ghost use Rattle.rules.specs.Tables.{txnWords, starts};
 ghost use Rattle.starts.specs.Beside.{Beside};
 use super::GUARD;
 use super::SLOTS;
-use names::QUERY_KIND;
 use names::TXN_HEAD;
 use names::TXN_KIND_AT;
 use names::TXN_ROW;
 use names::TXN_START_AT;
+use names::UPDATE_KIND;
 
 // One more than the greatest start below the stamp, 0 where none is below it; and the least start
 // from the stamp on, the greatest word where there is none.
@@ -43,7 +43,7 @@ fn met(known: Neighbours, stamp: u64, start: u64) -> Neighbours
     }
 }
 
-// The neighbours of a stamp among the starts of the live queries.
+// The neighbours of a stamp among the starts of those who read by one.
 pub fn beside(txns: &[u64], stamp: u64) -> Neighbours
     requires { ⌜ length (now txns) ≡ txnWords base ⌝ }
     ensures { λ r. ⌜ Beside (starts base (now (txns .entry))) stamp (r .below) (r .next) ⌝ }
@@ -55,7 +55,7 @@ pub fn beside(txns: &[u64], stamp: u64) -> Neighbours
     let mut i: usize = 0;
     while i < SLOTS {
         let at = TXN_HEAD + TXN_ROW * i;
-        if (txns[at] != 0) & (txns[at + TXN_KIND_AT] == QUERY_KIND) {
+        if (txns[at] != 0) & (txns[at + TXN_KIND_AT] != UPDATE_KIND) {
             known = met(known, stamp, txns[at + TXN_START_AT]);
         }
         i += 1;

@@ -8,14 +8,14 @@ use lib.ListN.{length}
 use lib.Dec.{T, eqb, leb, eqb·zero-suc}
 use Rattle.names.specs.Sizes.{base}
 use Rattle.rules.specs.Words.{bit, implies}
-use Rattle.rules.specs.Tables.{txnWords, lockWords, lastNumber, clock, Txn, txn, live, liveUpdate, anUpdate, aQuery, noLock, sharedLock, exclusiveLock}
+use Rattle.rules.specs.Tables.{txnWords, lockWords, lastNumber, clock, Txn, txn, live, liveUpdate, anUpdate, aQuery, aSettled, noLock, sharedLock, exclusiveLock}
 use Rattle.rules.specs.Tables.{lock, holds, holdsShared, holdsExclusive}
 use Rattle.rules.specs.Good.{GoodTxn}
 use Rattle.rules.specs.Tested.{topsMost, freeZero, listed, startGood, awaitedGood, awaiterGood, txnGood, lockGood}
 use Rattle.rules.proofs.Tests.{and-right, and-both, or-cases, or-right, not-make, implies-make, ne-make, false-is}
 use Rattle.rules.proofs.Counts.{everyBelow→}
 use Rattle.rules.proofs.Bits.{bit-none}
-use Rattle.rules.proofs.EqualRows.{txn→Good, lock→Good, free-or-live, live-update, live-query}
+use Rattle.rules.proofs.EqualRows.{txn→Good, lock→Good, free-or-live, live-update, live-query, live-settled, query-reads, settled-reads, holder}
 use Rattle.shapes.specs.Shape.{rowGood, rowsGood, waits, waitingIn}
 use Rattle.holdings.specs.Holding.{locksGood}
 use Rattle.waiting.specs.Waiting.{Readable, Awaiting}
@@ -61,9 +61,10 @@ pub awaits-live : (t : List ℕ) (s : ℕ) (r : Txn) → GoodTxn base t [] s r �
 unfolding waits
 awaits-live t s r g d = and-both (liveUpdate r) _ (go (free-or-live r)) (ne-make (r .awaitedLock) noLock d)
   where
-    kind : T (live r) → (r .kind ≡ anUpdate) ⊎ (r .kind ≡ aQuery) → T (liveUpdate r)
+    kind : T (live r) → (r .kind ≡ anUpdate) ⊎ ((r .kind ≡ aQuery) ⊎ (r .kind ≡ aSettled)) → T (liveUpdate r)
     kind a (inl e) = live-update r a e
-    kind a (inr e) = absurd (d (g .queryIdle (live-query r a e)))
+    kind a (inr (inl e)) = absurd (d (g .readerIdle (query-reads r (live-query r a e))))
+    kind a (inr (inr e)) = absurd (d (g .readerIdle (settled-reads r (live-settled r a e))))
 
     go : (r .number ≡ 0) ⊎ T (live r) → T (liveUpdate r)
     go (inl e) = absurd (d (ap (λ (q : Txn). q .awaitedLock) (g .free e)))
@@ -91,5 +92,5 @@ module _ (t : List ℕ) (h : T (rowsGood base t)) where
         locksExact = zl;
         lockListed = λ s i. row-at s i .lockListed;
         itemKnown = λ s i. row-at s i .itemKnown;
-        inside = λ x i b a. lock→Good base t (lock l x) (everyBelow→ (base .items) (λ x. lockGood base t (lock l x)) k x i) .holders b a .0;
+        inside = λ x i b a. holder base t (lock l x) (lock→Good base t (lock l x) (everyBelow→ (base .items) (λ x. lockGood base t (lock l x)) k x i)) b a .0;
       }

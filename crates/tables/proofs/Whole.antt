@@ -1,17 +1,19 @@
 -- The test of all tables, put together from what its parts say.
-use Prim.Native.Nat.{ℕ, _<_}
+use Prim.Native.Nat.{ℕ, _≤_, _<_}
 use mathlib.Core.Path.{_≡_, sym, _∙_, subst}
 use mathlib.Core.Bool.{Bool, false, _&&_}
 use mathlib.Core.List.{List}
-use lib.ListN.{length}
+use lib.ListN.{getD, length}
 use lib.Dec.{T, eqb, eqb→eq}
 use Rattle.names.specs.Sizes.{base}
-use Rattle.rules.specs.Words.{everyBelow, everyRow}
+use Rattle.rules.specs.Words.{everyBelow, everyRow, row}
 use Rattle.rules.specs.Tables.{tables, txnWords, lockWords, versionWords, versionRow, clock, starts, txn, lock}
 use Rattle.rules.specs.Waits.{noCircle}
-use Rattle.rules.specs.Tested.{good, sizesExact, topsMost, txnGood, awaiterGood, distinct, lockGood, quotaGood, versionsGood, ranksGood}
+use Rattle.rules.specs.Tested.{good, sizesExact, topsMost, txnGood, awaiterGood, distinct, lockGood, quotaGood, versionsGood, ranksGood, settledGood}
 use Rattle.rules.proofs.Tests.{and-left, and-right, and-both, is-false, eq-make}
 use Rattle.rules.proofs.Counts.{everyBelow→, →everyBelow}
+use Rattle.rules.proofs.Rows.{everyRow→}
+use Rattle.rules.proofs.EqualVersions.{versions→Good}
 use Rattle.words.proofs.Turns.{iff-eq}
 use Rattle.shapes.specs.Shape.{rowGood, rowsGood}
 use Rattle.holdings.specs.Holding.{locksGood, quotasGood}
@@ -33,6 +35,7 @@ pub record Parts (t l v : List ℕ) : Type 0 where
   pub numbers : T (distinct base t)
   pub awaiters : T (awaitersGood base t l)
   pub ranks : T (ranksGood base t l)
+  pub settled : T (settledGood base (tables t l v))
   pub free : T (noCircle base t l)
   pub versions : T (versionsTest t v)
 
@@ -56,6 +59,7 @@ module _ (t l v : List ℕ) where
       let h₅ = and-right (everyBelow (base .items) (λ x. lockGood base t (lock l x))) _ h₄ in
       let h₆ = and-right (everyBelow (base .slots) quotaTest) _ h₅ in
       let h₇ = and-right (versionsTest t v) _ h₆ in
+      let h₈ = and-right (ranksGood base t l) _ h₇ in
       let a = and-left (sizesExact base (tables t l v)) _ h in
       let b = and-right (eqb (length t) (txnWords base)) _ a in
       let both : (s : ℕ) → s < base .slots → T (rowGood base t (txn t s) && awaiterTest s)
@@ -70,7 +74,8 @@ module _ (t l v : List ℕ) where
         numbers = and-left (distinct base t) _ h₃;
         awaiters = →everyBelow (base .slots) awaiterTest (λ s i. and-right (rowGood base t (txn t s)) _ (both s i));
         ranks = and-left (ranksGood base t l) _ h₇;
-        free = and-right (ranksGood base t l) _ h₇;
+        settled = and-left (settledGood base (tables t l v)) _ h₈;
+        free = and-right (settledGood base (tables t l v)) _ h₈;
         versions = and-left (versionsTest t v) _ h₆;
       }
 
@@ -91,12 +96,19 @@ module _ (t l v : List ℕ) where
       (and-both (everyBelow (base .items) (λ x. lockGood base t (lock l x))) _ (p .locks)
       (and-both (everyBelow (base .slots) quotaTest) _ (p .quotas)
       (and-both (versionsTest t v) _ (p .versions)
-      (and-both (ranksGood base t l) _ (p .ranks) (p .free))))))))
+      (and-both (ranksGood base t l) _ (p .ranks) (and-both (settledGood base (tables t l v)) _ (p .settled) (p .free)))))))))
 
   -- one part that fails
   pub fails : (Parts t l v → ⊥) → false ≡ good base (tables t l v)
   fails f = sym (is-false (good base (tables t l v)) (λ h. f (parts h)))
 
-  -- every part but the versions passed: the versions decide
-  pub decides : {r : Bool} → r ≡ versionsTest t v → (T (versionsTest t v) → Parts t l v) → r ≡ good base (tables t l v)
-  decides e f = e ∙ iff-eq (versionsTest t v) (good base (tables t l v)) (λ x. whole (f x)) (λ x. parts x .versions)
+  -- every part passed but that of those past their writing: that decides
+  pub decides : {r : Bool} → r ≡ settledGood base (tables t l v) → (T (settledGood base (tables t l v)) → Parts t l v) → r ≡ good base (tables t l v)
+  decides e f = e ∙ iff-eq (settledGood base (tables t l v)) (good base (tables t l v)) (λ x. whole (f x)) (λ x. parts x .settled)
+
+-- versions that pass: each item has one
+pub each-has : (t v : List ℕ) → T (versionsTest t v) → (x : ℕ) → x < base .items → 1 ≤ getD (row (versionRow base) x v) 0 0
+each-has t v h x i =
+    versions→Good base t (row (versionRow base) x v)
+    (everyRow→ (base .items) (versionRow base) (λ x r. versionsGood base (clock t) (starts base t) r) 0 v h x i)
+    .countLeast

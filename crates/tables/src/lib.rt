@@ -1,4 +1,4 @@
-// The test of all tables: sizes, transaction rows, locks, waits and versions, as the rules ask.
+// The test of all tables: sizes, transaction rows, locks, waits, versions and stamps, as the rules ask.
 //
 // Every function is proved against the rules of the crate `rules`. The test itself has no
 // `requires`: it answers for slices of any length and words of any value. Its parts take what the
@@ -14,6 +14,7 @@ use names::TXN_WORDS;
 use names::VERSION_WORDS;
 use shapes::distinct;
 use shapes::rows;
+use stamps::stamps_pass;
 use waiting::waits_pass;
 
 // The test of all tables.
@@ -33,10 +34,11 @@ pub fn good(txns: &[u64], locks: &[u64], versions: &[u64]) -> bool
     let ok = seen.ok;
     let updates = seen.updates;
     let waiting = seen.waiting;
+    let settled = seen.settled;
     if !ok {
         return false;
     }
-    if !locks_pass(txns, locks, updates) {
+    if !locks_pass(txns, locks, updates, settled) {
         return false;
     }
     if !distinct(txns) {
@@ -48,5 +50,11 @@ pub fn good(txns: &[u64], locks: &[u64], versions: &[u64]) -> bool
         }
     }
     let starts = starts::starts_in_order(txns);
-    versions::all_good(versions, txns[CLOCK_AT], &starts)
+    if !versions::all_good(versions, txns[CLOCK_AT], &starts) {
+        return false;
+    }
+    if settled == 0 {
+        return true;
+    }
+    stamps_pass(txns, locks, versions, settled)
 }

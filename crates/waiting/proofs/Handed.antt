@@ -2,8 +2,9 @@
 use Prim.Native.Nat.{ℕ}
 use mathlib.Core.List.{List}
 use Rattle.names.specs.Sizes.{base}
-use Rattle.rules.specs.Tables.{tables}
+use Rattle.rules.specs.Tables.{tables, lock}
 use Rattle.rules.specs.Good.{Good}
+use Rattle.rules.proofs.EqualRows.{holder}
 use Rattle.waiting.specs.Waiting.{Readable}
 
 -- good tables can be read
@@ -14,5 +15,5 @@ good-readable t l v g =
       locksExact = g .locksExact;
       lockListed = λ s i. g .txnGood s i .lockListed;
       itemKnown = λ s i. g .txnGood s i .itemKnown;
-      inside = λ x i b a. g .lockGood x i .holders b a .0;
+      inside = λ x i b a. holder base t (lock l x) (g .lockGood x i) b a .0;
     }

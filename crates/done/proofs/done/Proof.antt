@@ -131,6 +131,36 @@ aborts-requires c κs =
     let a = subst (Able G) (c .before .before .before .deed12 .given .1) (c .before .before .before .before .before .before .before .before .pre .1) in
     (g .txnsExact, g .locksExact, a)
 
+enum-known-deed-13 : tie.Need-enum-known-deed-13
+enum-known-deed-13 c = search needs
+
+settles-requires : tie.Need-settles-requires
+settles-requires c κs =
+    let G = before (c .before .before .before .before .before .before .before .before) in
+    let g = c .before .before .before .before .before .before .before .before .pre .0 in
+    let a = subst (Able G) (c .before .before .before .deed13 .given .1) (c .before .before .before .before .before .before .before .before .pre .1) in
+    (g .txnsExact, g .locksExact, a, g .clockMost)
+
+enum-known-deed-14 : tie.Need-enum-known-deed-14
+enum-known-deed-14 c = search needs
+
+commits-settled-requires : tie.Need-commits-settled-requires
+commits-settled-requires c κs =
+    let G = before (c .before .before .before .before .before .before .before .before .before) in
+    let g = c .before .before .before .before .before .before .before .before .before .pre .0 in
+    let a = subst (Able G) (c .before .before .before .before .deed14 .given .1) (c .before .before .before .before .before .before .before .before .before .pre .1) in
+    (g, a .0, a .1)
+
+enum-known-deed-15 : tie.Need-enum-known-deed-15
+enum-known-deed-15 c = search needs
+
+aborts-settled-requires : tie.Need-aborts-settled-requires
+aborts-settled-requires c κs =
+    let G = before (c .before .before .before .before .before .before .before .before .before) in
+    let g = c .before .before .before .before .before .before .before .before .before .pre .0 in
+    let a = subst (Able G) (c .before .before .before .before .deed15 .given .1) (c .before .before .before .before .before .before .before .before .before .pre .1) in
+    (g, a .0, a .1)
+
 returns : tie.Need-returns
 unfolding done
 returns c =
@@ -250,6 +280,41 @@ returns-12 : tie.Need-returns-12
 returns-12 c =
     told (before (c .before .before .before .before .before .before .before .before .before .before .before .before .before)) (c .before .before .before .before .before .before .before .before .deed12 .given .1) (c .before .before .before .before .aborts .ensures ((before (c .before .before .before .before .before .before .before .before .before .before .before .before .before)) .versions))
 
+same-length-24 : tie.Need-same-length-24
+same-length-24 c = search needs
+
+same-length-25 : tie.Need-same-length-25
+same-length-25 c = search needs
+
+returns-13 : tie.Need-returns-13
+returns-13 c =
+    let G = before (c .before .before .before .before .before .before .before .before .before .before .before .before .before) in
+    told G (c .before .before .before .before .before .before .before .before .deed13 .given .1) (c .before .before .before .before .settles .ensures (G .versions))
+
+same-length-26 : tie.Need-same-length-26
+same-length-26 c = search needs
+
+same-length-27 : tie.Need-same-length-27
+same-length-27 c = search needs
+
+same-length-28 : tie.Need-same-length-28
+same-length-28 c = search needs
+
+returns-14 : tie.Need-returns-14
+returns-14 c = told (before (c .before .before .before .before .before .before .before .before .before .before .before .before .before .before .before .before)) (c .before .before .before .before .before .before .before .before .before .before .before .deed14 .given .1) (c .before .before .before .before .before .before .commits-settled .ensures)
+
+same-length-29 : tie.Need-same-length-29
+same-length-29 c = search needs
+
+same-length-30 : tie.Need-same-length-30
+same-length-30 c = search needs
+
+same-length-31 : tie.Need-same-length-31
+same-length-31 c = search needs
+
+returns-15 : tie.Need-returns-15
+returns-15 c = told (before (c .before .before .before .before .before .before .before .before .before .before .before .before .before .before .before .before)) (c .before .before .before .before .before .before .before .before .before .before .before .deed15 .given .1) (c .before .before .before .before .before .before .aborts-settled .ensures)
+
 pub done-spec : {M : Type 1} → statement M
 done-spec =
     tie.close
@@ -278,6 +343,12 @@ done-spec =
     ends-requires
     enum-known-deed-12
     aborts-requires
+    enum-known-deed-13
+    settles-requires
+    enum-known-deed-14
+    commits-settled-requires
+    enum-known-deed-15
+    aborts-settled-requires
     returns
     same-length
     same-length-2
@@ -312,4 +383,15 @@ done-spec =
     returns-11
     same-length-22
     same-length-23
-    returns-12)
+    returns-12
+    same-length-24
+    same-length-25
+    returns-13
+    same-length-26
+    same-length-27
+    same-length-28
+    returns-14
+    same-length-29
+    same-length-30
+    same-length-31
+    returns-15)

@@ -12,13 +12,13 @@ use Rattle.holdings.proofs.locks_ok.Statement.{statement}
 use Rattle.holdings.proofs.locks_ok.Tie as tie
 
 abbrev Inv-loop : tie.InvT-loop
-Inv-loop locks updates counts₀ most₀ ok₀ item₀ counts most ok item = Counting updates locks counts most ok item
+Inv-loop locks updates holders counts₀ most₀ ok₀ item₀ counts most ok item = Counting updates holders locks counts most ok item
 
 abbrev μ-loop : tie.MeasureT-loop
-μ-loop locks updates counts₀ most₀ ok₀ item₀ counts most ok item = base .items - item
+μ-loop locks updates holders counts₀ most₀ ok₀ item₀ counts most ok item = base .items - item
 
 loop-holds : tie.Need-loop-holds Inv-loop μ-loop
-loop-holds c = counting-begin _ _
+loop-holds c = counting-begin _ _ _
 
 mul-at : tie.Need-mul-at Inv-loop μ-loop
 mul-at c = omega arith
@@ -64,7 +64,7 @@ add-held c =
     let l = c .before .before .before .before .before .before .before .before .before .args .locks .now in
     let g = c .before .before .before .before .before .before .before .loop in
     let a = getD l (lockRow * g .item + lockExclusiveAt) 0 - 1 in
-    let n : getD (g .counts) a 0 ≤ base .items = few _ l (g .counts) (g .most) (g .ok) (g .item) (c .before .before .before .before .before .before .loop-test .taken) (g .inv) a (omega arith) in
+    let n : getD (g .counts) a 0 ≤ base .items = few _ _ l (g .counts) (g .most) (g .ok) (g .item) (c .before .before .before .before .before .before .loop-test .taken) (g .inv) a (omega arith) in
     omega arith
 
 mul-counts : tie.Need-mul-counts Inv-loop μ-loop
@@ -88,10 +88,10 @@ loop-again c =
     let k = c .before .before .before .before .before .loop-test .taken in
     let tested = c .before .lock-ok .ensures in
     ⊎-elim
-    (λ w. counting-one (a .updates) l (g .counts) (g .most) (g .ok) (g .item) k (g .inv) tested (w .0 .taken) (w .1 .taken) (w .2) (w .3) refl)
+    (λ w. counting-one (a .updates) (a .holders) l (g .counts) (g .most) (g .ok) (g .item) k (g .inv) tested (w .0 .taken) (w .1 .taken) (w .2) (w .3) refl)
     (⊎-elim
-    (λ w. counting-none (a .updates) l (g .counts) (g .most) (g .ok) (g .item) k (g .inv) tested (λ s j z. let b = w .1 .left in omega arith) (w .2) (w .3) refl)
-    (λ w. counting-none (a .updates) l (g .counts) (g .most) (g .ok) (g .item) k (g .inv) tested (λ s j z. let b = w .0 .left in omega arith) (w .1) (w .2) refl))
+    (λ w. counting-none (a .updates) (a .holders) l (g .counts) (g .most) (g .ok) (g .item) k (g .inv) tested (λ s j z. let b = w .1 .left in omega arith) (w .2) (w .3) refl)
+    (λ w. counting-none (a .updates) (a .holders) l (g .counts) (g .most) (g .ok) (g .item) k (g .inv) tested (λ s j z. let b = w .0 .left in omega arith) (w .1) (w .2) refl))
     (c .if1 .came)
 
 returns : tie.Need-returns Inv-loop μ-loop
@@ -99,8 +99,8 @@ returns c =
     let a = c .before .before .before .args in
     let g = c .before .loop in
     let e : g .item ≡ base .items = (let k = g .inv .within in omega arith) in
-    let h : Counting (a .updates) (a .locks .now) (g .counts) (g .most) (g .ok) (base .items) = subst (λ (n : ℕ). Counting (a .updates) (a .locks .now) (g .counts) (g .most) (g .ok) n) e (g .inv) in
-    (counting-right (a .updates) (a .locks .now) (g .counts) (g .most) (g .ok) h, counting-end (a .updates) (a .locks .now) (g .counts) (g .most) (g .ok) h)
+    let h : Counting (a .updates) (a .holders) (a .locks .now) (g .counts) (g .most) (g .ok) (base .items) = subst (λ (n : ℕ). Counting (a .updates) (a .holders) (a .locks .now) (g .counts) (g .most) (g .ok) n) e (g .inv) in
+    (counting-right (a .updates) (a .holders) (a .locks .now) (g .counts) (g .most) (g .ok) h, counting-end (a .updates) (a .holders) (a .locks .now) (g .counts) (g .most) (g .ok) h)
 
 pub locks-ok-spec : {M : Type 1} → statement M
 locks-ok-spec =

@@ -4,7 +4,7 @@ use Prim.Native.Nat.{ℕ}
 use Rattle.names.specs.Sizes.{base}
 use Rattle.rules.specs.Tables.{tables, aQuery}
 use Rattle.rules.specs.Answers.{Call}
-use Rattle.rules.specs.Step.{judged, beginBy, commitBy, abortBy}
+use Rattle.rules.specs.Step.{judged, beginBy, commitBy, abortBy, settleBy}
 use Rattle.judged.specs.Searched.{ofTxns}
 use Rattle.judged.proofs.Exits.{searchable}
 use borrow.Author.Needs.{needs}
@@ -54,6 +54,12 @@ abort-by-requires : tie.Need-abort-by-requires
 abort-by-requires c κs =
     searchable (tables (c .before .before .before .before .before .before .args .txns .now) (c .before .before .before .before .before .before .args .locks .now) (c .before .before .before .before .before .before .args .versions .now)) (c .before .before .before .before .before .before .pre)
 
+enum-known-call-5 : tie.Need-enum-known-call-5
+enum-known-call-5 c = search needs
+
+settle-by-requires : tie.Need-settle-by-requires
+settle-by-requires c κs = searchable (tables (c .before .before .before .before .before .before .args .txns .now) (c .before .before .before .before .before .before .args .locks .now) (c .before .before .before .before .before .before .args .versions .now)) (c .before .before .before .before .before .before .pre)
+
 returns : tie.Need-returns
 unfolding judged beginBy
 returns c =
@@ -84,6 +90,11 @@ unfolding judged abortBy
 returns-6 c =
     c .abort-by .ensures ∙ ap (λ (m : Call). judged base m (tables (c .before .before .before .before .before .before .before .args .txns .now) (c .before .before .before .before .before .before .before .args .locks .now) (c .before .before .before .before .before .before .before .args .versions .now))) (sym (c .before .before .call4 .given .1))
 
+returns-7 : tie.Need-returns-7
+unfolding judged settleBy
+returns-7 c =
+    c .settle-by .ensures ∙ ap (λ (m : Call). judged base m (tables (c .before .before .before .before .before .before .before .args .txns .now) (c .before .before .before .before .before .before .before .args .locks .now) (c .before .before .before .before .before .before .before .args .versions .now))) (sym (c .before .before .call5 .given .1))
+
 pub judged-spec : {M : Type 1} → statement M
 judged-spec =
     tie.close
@@ -101,9 +112,12 @@ judged-spec =
     commit-by-requires
     enum-known-call-4
     abort-by-requires
+    enum-known-call-5
+    settle-by-requires
     returns
     returns-2
     returns-3
     returns-4
     returns-5
-    returns-6)
+    returns-6
+    returns-7)

@@ -1,13 +1,16 @@
 -- The rows passed are rewritten, with the working value in front where the slot holds the item exclusively.
 use Rattle.rewrites.proofs.commit_all.Statement.{statement}
 use Rattle.rewrites.proofs.commit_all.Tie as tie
-use Prim.Native.Nat.{_≤_, _+_, _-_}
+use Prim.Native.Nat.{_≤_, _+_, _-_, _*_}
 use native.Mathlib.Omega.{arith}
 use mathlib.Core.Path.{_≡_, sym, _∙_}
-use lib.ListN.{length}
+use mathlib.Core.Bool.{true}
+use lib.ListN.{length, getD}
+use lib.Dec.{eqb}
 use Rattle.names.specs.Sizes.{base}
+use Rattle.names.specs.Layout.{lockExclusiveAt}
 use Rattle.rules.specs.Words.{row}
-use Rattle.rules.specs.Tables.{versionRow, versionWords}
+use Rattle.rules.specs.Tables.{versionRow, versionWords, lockRow}
 use Rattle.packing.specs.Changed.{Frontable}
 use Rattle.rewrites.proofs.Committed.{Committed, none-committed, committed-size, next-frontable, one-committed, all-committed}
 
@@ -23,11 +26,14 @@ size c =
     let a = c .before .before .before .before .args in
     committed-size (a .versions .now) (a .locks .now) (a .slot .0) (a .stamp .0) (a .below) (c .before .before .before .before .pre) (c .loop .versions) (c .loop .i) (c .loop .inv .1) (c .loop .inv .0)
 
-frontable : (c : tie.In-loop Inv-loop μ-loop) → Frontable (row (versionRow base) (c .before .loop .i) (c .before .loop .versions)) (c .before .before .before .before .before .args .below)
-frontable c =
+frontable :
+    (c : tie.In-loop Inv-loop μ-loop)
+    → eqb (getD (c .before .before .before .before .before .args .locks .now) (lockRow * c .before .loop .i + lockExclusiveAt) 0) (c .before .before .before .before .before .args .slot .0 + 1) ≡ true
+    → Frontable (row (versionRow base) (c .before .loop .i) (c .before .loop .versions)) (c .before .before .before .before .before .args .below)
+frontable c e =
     let a = c .before .before .before .before .before .args in
     let l = c .before .loop in
-    next-frontable (a .versions .now) (a .locks .now) (a .slot .0) (a .stamp .0) (a .below) (c .before .before .before .before .before .pre) (l .versions) (l .i) (l .inv .1) (c .loop-test .taken)
+    next-frontable (a .versions .now) (a .locks .now) (a .slot .0) (a .stamp .0) (a .below) (c .before .before .before .before .before .pre) (l .versions) (l .i) (l .inv .1) (c .loop-test .taken) e
 
 add-owner : tie.Need-add-owner Inv-loop μ-loop
 add-owner c = omega arith

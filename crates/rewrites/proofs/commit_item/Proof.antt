@@ -36,7 +36,7 @@ part-put-front-end c = search needs
 put-front-requires : tie.Need-put-front-requires
 put-front-requires c κs =
     let a = c .before .before .before .args in
-    subst (λ (r : List ℕ). Frontable r (a .below)) (sym (lent (a .x) (a .versions .now))) (c .before .before .before .pre .2)
+    subst (λ (r : List ℕ). Frontable r (a .below)) (sym (lent (a .x) (a .versions .now))) (c .before .before .before .pre .2 (c .before .if1 .taken))
 
 same-length : tie.Need-same-length
 same-length c = search needs

@@ -6,20 +6,24 @@ use native.Mathlib.Omega.{arith}
 use borrow.Author.Needs.{needs}
 use Rattle.names.specs.Sizes.{base}
 use Rattle.rules.specs.Words.{everyBelow}
-use Rattle.rules.specs.Tables.{txn, liveUpdate}
+use Rattle.rules.specs.Tables.{Txn, txn, liveUpdate, liveSettled}
 use Rattle.rules.specs.Tested.{topsMost}
-use mathlib.Core.Bool.{_&&_}
-use Rattle.shapes.specs.Shape.{rowGood, rowsGood, slotsThat, updatesIn, waitingIn, waits}
-use Rattle.shapes.proofs.Seeing.{free-same, update-same, query-same, free-idle, update-live, query-idle}
-use Rattle.shapes.proofs.Seeing.{Passed, passed-begin, passed-other, passed-still, passed-waits}
+use mathlib.Core.Bool.{false, _&&_}
+use Rattle.shapes.specs.Shape.{rowGood, rowsGood, slotsThat, updatesIn, waitingIn, settledIn, waits}
+use Rattle.shapes.proofs.Seeing.{free-same, update-same, settled-same, query-same, free-idle, update-live, query-idle, free-unsettled, other-unsettled, settled-live}
+use Rattle.shapes.proofs.Seeing.{Passed, passed-begin, passed-other, passed-settled, passed-still, passed-waits}
 use Rattle.shapes.proofs.rows.Statement.{statement}
 use Rattle.shapes.proofs.rows.Tie as tie
 
+-- who has the kind of an update is not past its writing
+unsettled : (r : Txn) → r .kind ≡ 0 → liveSettled r ≡ false
+unsettled r e = other-unsettled r (λ z. omega arith)
+
 abbrev Inv-loop : tie.InvT-loop
-Inv-loop txns last clock ok₀ updates₀ waiting₀ slot₀ ok updates waiting slot = Passed txns ok updates waiting slot
+Inv-loop txns last clock ok₀ updates₀ waiting₀ settled₀ slot₀ ok updates waiting settled slot = Passed txns ok updates waiting settled slot
 
 abbrev μ-loop : tie.MeasureT-loop
-μ-loop txns last clock ok₀ updates₀ waiting₀ slot₀ ok updates waiting slot = base .slots - slot
+μ-loop txns last clock ok₀ updates₀ waiting₀ settled₀ slot₀ ok updates waiting settled slot = base .slots - slot
 
 shared-slice-read-last : tie.Need-shared-slice-read-last Inv-loop μ-loop
 shared-slice-read-last c = search needs
@@ -100,6 +104,12 @@ shl-updates c = search needs
 shl-waiting : tie.Need-shl-waiting Inv-loop μ-loop
 shl-waiting c = search needs
 
+settled-ok-requires : tie.Need-settled-ok-requires Inv-loop μ-loop
+settled-ok-requires c κs = tt
+
+shl-settled : tie.Need-shl-settled Inv-loop μ-loop
+shl-settled c = search needs
+
 query-ok-requires : tie.Need-query-ok-requires Inv-loop μ-loop
 query-ok-requires c κs = tt
 
@@ -117,16 +127,18 @@ loop-again c =
     let h = c .before .before .before .before .before .before .before .before .loop .inv in
     let l = c .before .before .before .before .before .before .before .loop-test .taken in
     ⊎-elim
-    (λ w. passed-other t h l (w .2) (w .1 .ensures ∙ free-same t r (w .0 .taken)) (free-idle r (w .0 .taken)) (w .3) (w .4))
+    (λ w. passed-other t h l (w .2) (w .1 .ensures ∙ free-same t r (w .0 .taken)) (free-idle r (w .0 .taken)) (free-unsettled r (w .0 .taken)) (w .3) (w .4) (w .5))
     (⊎-elim
-    (λ w. passed-waits t h l (w .4) (w .2 .ensures ∙ update-same t r (w .0 .left) (w .1 .taken)) (update-live r (w .0 .left) (w .1 .taken)) (w .3 .taken) (w .5) (w .6))
+    (λ w. passed-waits t h l (w .4) (w .2 .ensures ∙ update-same t r (w .0 .left) (w .1 .taken)) (update-live r (w .0 .left) (w .1 .taken)) (unsettled r (w .1 .taken)) (w .3 .taken) (w .5) (w .6) (w .7))
     (⊎-elim
-    (λ w. passed-still t h l (w .4) (w .2 .ensures ∙ update-same t r (w .0 .left) (w .1 .taken)) (update-live r (w .0 .left) (w .1 .taken)) (w .3 .left) (w .5) (w .6))
-    (λ w. passed-other t h l (w .3) (w .2 .ensures ∙ query-same t r (w .0 .left) (w .1 .left)) (query-idle r (w .0 .left) (w .1 .left)) (w .4) (w .5))))
+    (λ w. passed-still t h l (w .4) (w .2 .ensures ∙ update-same t r (w .0 .left) (w .1 .taken)) (update-live r (w .0 .left) (w .1 .taken)) (unsettled r (w .1 .taken)) (w .3 .left) (w .5) (w .6) (w .7))
+    (⊎-elim
+    (λ w. passed-settled t h l (w .4) (w .3 .ensures ∙ settled-same t r (w .0 .left) (w .2 .taken)) (query-idle r (w .0 .left) (w .1 .left)) (settled-live r (w .0 .left) (w .2 .taken)) (w .5) (w .6) (w .7))
+    (λ w. passed-other t h l (w .4) (w .3 .ensures ∙ query-same t r (w .0 .left) (w .1 .left) (w .2 .left)) (query-idle r (w .0 .left) (w .1 .left)) (other-unsettled r (w .2 .left)) (w .5) (w .6) (w .7)))))
     (c .if1 .came)
 
 returns : tie.Need-returns Inv-loop μ-loop
-unfolding rowsGood updatesIn waitingIn
+unfolding rowsGood updatesIn waitingIn settledIn
 returns c =
     let t = c .before .before .before .before .before .args .txns .now in
     let h = c .before .loop .inv in
@@ -134,7 +146,8 @@ returns c =
     let ok = h .shaped ∙ ap (λ (n : ℕ). topsMost t && everyBelow n (λ s. rowGood base t (txn t s))) e in
     let updates = h .ofUpdates ∙ ap (λ (n : ℕ). slotsThat n (λ s. liveUpdate (txn t s))) e in
     let waiting = h .ofWaiting ∙ ap (λ (n : ℕ). slotsThat n (λ s. waits (txn t s))) e in
-    λ i. record { ok = ok i; updates = updates i; waiting = waiting i }
+    let settled = h .ofSettled ∙ ap (λ (n : ℕ). slotsThat n (λ s. liveSettled (txn t s))) e in
+    λ i. record { ok = ok i; updates = updates i; waiting = waiting i; settled = settled i }
 
 pub rows-spec : {M : Type 1} → statement M
 rows-spec =
@@ -168,6 +181,8 @@ rows-spec =
     update-ok-requires
     shl-updates
     shl-waiting
+    settled-ok-requires
+    shl-settled
     query-ok-requires
     add-slot
     loop-less

@@ -8,18 +8,19 @@ use lib.Dec.{T}
 use borrow.Author.Tests.{not-true, not-false}
 use borrow.Author.Needs.{needs}
 use Rattle.names.specs.Sizes.{base}
-use Rattle.rules.specs.Tables.{starts}
-use Rattle.rules.specs.Tested.{distinct, ranksGood}
+use Rattle.rules.specs.Tables.{tables, starts}
+use Rattle.rules.specs.Tested.{distinct, ranksGood, settledGood}
 use Rattle.rules.specs.Waits.{noCircle}
-use Rattle.rules.proofs.Tests.{and-left, and-right, and-both, true-is, false-is}
+use Rattle.rules.proofs.Tests.{and-left, and-right, and-both, is-true, true-is, false-is}
 use Rattle.shapes.specs.declared.Seen.{Seen}
-use Rattle.shapes.specs.Shape.{rowsGood}
+use Rattle.shapes.specs.Shape.{rowsGood, settledIn}
 use Rattle.holdings.specs.Holding.{locksGood, quotasGood}
 use Rattle.waiting.specs.Waiting.{Readable, Awaiting, awaitersGood}
-use Rattle.holdings.proofs.Holders.{updates-lt}
+use Rattle.holdings.proofs.Holders.{updates-lt, settled-lt}
+use Rattle.stamps.proofs.Stamps.{none-stamped}
 use Rattle.tables.proofs.Reading.{awaiting, readable}
 use Rattle.waiting.proofs.Rounds.{none-awaits, none-ranked, none-circles}
-use Rattle.tables.proofs.Whole.{fails, decides}
+use Rattle.tables.proofs.Whole.{Parts, versionsTest, fails, decides, each-has}
 use Rattle.tables.proofs.good.Statement.{statement}
 use Rattle.tables.proofs.good.Tie as tie
 
@@ -53,18 +54,25 @@ rows-passed c = true-is (sym (ap (λ (s : Seen). s .ok) (c .before .rows .ensure
 locks-pass-requires : tie.Need-locks-pass-requires
 locks-pass-requires c κs =
     let e = ap (λ (s : Seen). s .updates) (c .before .rows .ensures) in
-    (c .before .before .before .before .if1 .left, c .before .before .before .if2 .left, subst (λ (u : ℕ). u < 2 ^ base .slots) (sym e) (updates-lt (txns (c .before .before))))
+    let f = ap (λ (s : Seen). s .settled) (c .before .rows .ensures) in (
+      c .before .before .before .before .if1 .left,
+      c .before .before .before .if2 .left,
+      subst (λ (u : ℕ). u < 2 ^ base .slots) (sym e) (updates-lt (txns (c .before .before))),
+      subst (λ (u : ℕ). u < 2 ^ base .slots) (sym f) (settled-lt (txns (c .before .before))),
+    )
 
 returns-5 : tie.Need-returns-5
 returns-5 c =
     let e = ap (λ (s : Seen). s .updates) (c .before .before .before .rows .ensures) in
-    fails _ _ _ (λ p. false-is (sym (c .before .locks-pass .ensures e) ∙ not-true _ (c .if5 .taken)) (and-both (locksGood base _ _) _ (p .locks) (p .quotas)))
+    let f = ap (λ (s : Seen). s .settled) (c .before .before .before .rows .ensures) in
+    fails _ _ _ (λ p. false-is (sym (c .before .locks-pass .ensures e f) ∙ not-true _ (c .if5 .taken)) (and-both (locksGood base _ _) _ (p .locks) (p .quotas)))
 
 -- and the locks with the quota, so the waits can be read
 held-passed : (c : tie.Else5) → T (locksGood base (txns (c .before .before .before .before)) (locks (c .before .before .before .before)) && quotasGood base (txns (c .before .before .before .before)) (locks (c .before .before .before .before)))
 held-passed c =
     let e = ap (λ (s : Seen). s .updates) (c .before .before .before .rows .ensures) in
-    true-is (sym (c .before .locks-pass .ensures e) ∙ not-false _ (c .if5 .left))
+    let f = ap (λ (s : Seen). s .settled) (c .before .before .before .rows .ensures) in
+    true-is (sym (c .before .locks-pass .ensures e f) ∙ not-false _ (c .if5 .left))
 
 locks-passed : (c : tie.Else5) → T (locksGood base (txns (c .before .before .before .before)) (locks (c .before .before .before .before)))
 locks-passed c = and-left (locksGood base _ _) _ (held-passed c)
@@ -104,34 +112,75 @@ all-good-requires c κs = (c .before .before .before .before .before .before .be
 
 returns-8 : tie.Need-returns-8
 returns-8 c =
-    let t = txns (c .before .before .before .before .before .before .before .before .before .before .before) in
-    let l = locks (c .before .before .before .before .before .before .before .before .before .before .before) in
-    let rows = rows-passed (c .before .before .before .before .before .before .before .before .before) in
-    let held = held-passed (c .before .before .before .before .before .before .before) in
-    let can = readable-here (c .before .before .before .before .before .before .before) in
-    let e = ap (λ (s : Seen). s .waiting) (c .before .before .before .before .before .before .before .before .before .before .rows .ensures) in
+    let t = txns (c .before .before .before .before .before .before .before .before .before .before .before .before) in
+    fails _ _ _ (λ p. false-is (sym (c .before .all-good .ensures (starts base t) (c .before .before .before .before .starts-in-order .ensures)) ∙ not-true _ (c .if9 .taken)) (p .versions))
+
+-- and the versions
+abbrev rows-there : tie.Else9 → tie.Else3
+rows-there c = c .before .before .before .before .before .before .before .before .before .before .before .before
+
+abbrev versions : tie.Else9 → List ℕ
+versions c = (rows-there c) .before .before .before .before .before .before .args .versions .now
+
+versions-passed : (c : tie.Else9) → T (versionsTest (txns (rows-there c)) (versions c))
+versions-passed c =
+    true-is (sym (c .before .all-good .ensures (starts base (txns (rows-there c))) (c .before .before .before .before .starts-in-order .ensures)) ∙ not-false _ (c .if9 .left))
+
+-- so those past their writing decide
+parts-here :
+    (c : tie.Else9) → T (settledGood base (tables (txns (rows-there c)) (locks (rows-there c)) (versions c)))
+    → Parts (txns (rows-there c)) (locks (rows-there c)) (versions c)
+parts-here c x =
+    let t = txns (c .before .before .before .before .before .before .before .before .before .before .before .before) in
+    let l = locks (c .before .before .before .before .before .before .before .before .before .before .before .before) in
+    let rows = rows-passed (c .before .before .before .before .before .before .before .before .before .before) in
+    let held = held-passed (c .before .before .before .before .before .before .before .before) in
+    let can = readable-here (c .before .before .before .before .before .before .before .before) in
+    let e = ap (λ (s : Seen). s .waiting) (c .before .before .before .before .before .before .before .before .before .before .before .rows .ensures) in
     let waits : T (awaitersGood base t l && (ranksGood base t l && noCircle base t l)) =
     ⊎-elim
     (λ w. true-is (sym (w .1 .ensures) ∙ not-false _ (w .2 .left)))
     (λ w.
     let none : Awaiting t 0 = subst (λ (u : ℕ). Awaiting t u) (sym e ∙ w .left) (awaiting t rows) in
     and-both (awaitersGood base t l) _ (none-awaits t l can none) (and-both (ranksGood base t l) _ (none-ranked t l can none) (none-circles t l can none)))
-    (c .before .before .before .before .if7 .came) in
-    decides t l _ (c .all-good .ensures (starts base t) (c .before .before .before .starts-in-order .ensures))
-    (λ x.
+    (c .before .before .before .before .before .if7 .came) in
     record {
-      txnsExact = c .before .before .before .before .before .before .before .before .before .before .before .before .before .if1 .left;
-      locksExact = c .before .before .before .before .before .before .before .before .before .before .before .before .if2 .left;
-      versionsExact = c .before .before .before .before .before .before .before .before .before .before .before .if3 .left;
+      txnsExact = c .before .before .before .before .before .before .before .before .before .before .before .before .before .before .if1 .left;
+      locksExact = c .before .before .before .before .before .before .before .before .before .before .before .before .before .if2 .left;
+      versionsExact = c .before .before .before .before .before .before .before .before .before .before .before .before .if3 .left;
       rows = rows;
       locks = and-left (locksGood base t l) _ held;
       quotas = and-right (locksGood base t l) _ held;
-      numbers = true-is (sym (c .before .before .before .before .before .before .distinct .ensures) ∙ not-false _ (c .before .before .before .before .before .if6 .left));
+      numbers = true-is (sym (c .before .before .before .before .before .before .before .distinct .ensures) ∙ not-false _ (c .before .before .before .before .before .before .if6 .left));
       awaiters = and-left (awaitersGood base t l) _ waits;
       ranks = and-left (ranksGood base t l) _ (and-right (awaitersGood base t l) _ waits);
       free = and-right (ranksGood base t l) _ (and-right (awaitersGood base t l) _ waits);
-      versions = x;
-    })
+      settled = x;
+      versions = versions-passed c;
+    }
+
+returns-9 : tie.Need-returns-9
+returns-9 c =
+    let G = tables (txns (rows-there (c .before))) (locks (rows-there (c .before))) (versions (c .before)) in
+    let x = none-stamped G (sym (ap (λ (s : Seen). s .settled) (c .before .before .before .before .before .before .before .before .before .before .before .before .rows .ensures)) ∙ c .if10 .taken) in
+    decides _ _ _ (sym (is-true (settledGood base G) x)) (parts-here (c .before))
+
+stamps-pass-requires : tie.Need-stamps-pass-requires
+stamps-pass-requires c κs =
+    let rows = rows-there (c .before) in (
+      record {
+        txnsExact = rows .before .before .if1 .left;
+        seen = ap (λ (s : Seen). s .settled) (c .before .before .before .before .before .before .before .before .before .before .before .before .rows .ensures);
+      },
+      record {
+        locksExact = rows .before .if2 .left;
+        versionsExact = rows .if3 .left;
+        some = each-has (txns rows) (versions (c .before)) (versions-passed (c .before));
+      },
+    )
+
+returns-10 : tie.Need-returns-10
+returns-10 c = decides _ _ _ (c .stamps-pass .ensures) (parts-here (c .before .before))
 
 pub good-spec : {M : Type 1} → statement M
 good-spec =
@@ -152,4 +201,7 @@ good-spec =
     shared-slice-read-all-good
     slice-aggregate-all-good
     all-good-requires
-    returns-8)
+    returns-8
+    returns-9
+    stamps-pass-requires
+    returns-10)

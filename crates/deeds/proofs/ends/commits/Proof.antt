@@ -9,11 +9,11 @@ use native.Mathlib.Omega.{arith}
 use lib.ListN.{length, set, length-set}
 use Rattle.names.specs.Sizes.{base}
 use Rattle.rules.specs.Tables.{Tables, tables, setTxn, noTxn, starts, clock}
-use Rattle.rules.specs.Step.{committed}
+use Rattle.rules.specs.Step.{committed, committedUnder}
 use Rattle.rules.proofs.ChangedVersions.{committed-starts, left-starts}
 use Rattle.starts.specs.Beside.{Beside}
 use Rattle.rewrites.specs.Written.{Reading}
-use Rattle.rewrites.proofs.Handed.{good-commits, good-reading}
+use Rattle.rewrites.proofs.Handed.{good-commits, good-reading, good-newer}
 use Rattle.deeds.proofs.Deeds.{commits-done}
 
 -- where the neighbours are known: the tables as they came, the stamp, and the starts that are left
@@ -45,7 +45,7 @@ neighbours c = subst (λ (u : List ℕ). Beside (starts base u) (stamp c) (below
 
 -- the committer is no query: those who read are those of before, and less than there are places
 same : (c : tie.After-beside) → left c ≡ starts base (G c .txns)
-unfolding committed
+unfolding committed committedUnder
 same c =
     let p = c .before .before .before .before .before .before .before .before .before .before .before .before .before .before .before .before .pre in
     ap (λ (m : ℕ). starts base (setTxn (set (G c .txns) 1 m) (slot c) noTxn)) (stamp-is c) ∙ committed-starts base (G c) (p .0) (omega arith) (slot c) (p .1) (p .2)
@@ -79,7 +79,7 @@ commit-all-requires : tie.Need-commit-all-requires
 commit-all-requires c κs =
     let at = c .before .before in
     let p = at .before .before .before .before .before .before .before .before .before .before .before .before .before .before .before .before .pre in
-    good-commits (G at) (p .0) (left at) (same at) (few at) (stamp at) (below at) (at .beside .result .next) (neighbours at) (slot at) (p .1) (let z = stamp-is at in omega arith)
+    good-commits (G at) (p .0) (left at) (same at) (few at) (stamp at) (below at) (at .beside .result .next) (neighbours at) (G at .locks) (p .0 .locksExact) (slot at) (p .1) (λ x i k. good-newer (G at) (p .0) (stamp at) x (let z = stamp-is at in omega arith) i)
 
 release-requires : tie.Need-release-requires
 release-requires c κs = search needs

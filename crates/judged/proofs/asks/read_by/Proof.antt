@@ -1,4 +1,4 @@
--- A read: nobody calls, no item, one who waits for something else, a query, an update.
+-- A read: nobody calls, no item, one who waits for something else, who reads by a start, an update.
 use mathlib.Core.Path.{_≡_, sym, _∙_}
 use Prim.Native.Nat.{ℕ, _<_}
 use native.Mathlib.Omega.{arith}
@@ -9,9 +9,10 @@ use Rattle.names.specs.declared.Item.{Item}
 use Rattle.names.specs.declared.ItemOf.the-variants.{Known}
 use Rattle.rules.specs.Tables.{Tables, tables, slotOf}
 use Rattle.rules.specs.Good.{Good}
+use Rattle.rules.specs.Step.{startRead}
 use Rattle.rows.specs.Founds.{foundAt}
 use Rattle.rows.specs.declared.txns.Found.the-variants.{At}
-use Rattle.judged.proofs.Exits.{searchable, caller-inside, item-inside, read-unknown, read-no-item, read-waits, read-starts, read-asks}
+use Rattle.judged.proofs.Exits.{searchable, free-rows, caller-inside, item-inside, read-unknown, read-no-item, read-waits, read-starts, read-asks}
 use borrow.Author.Needs.{needs}
 use Rattle.judged.proofs.asks.read_by.Statement.{statement}
 use Rattle.judged.proofs.asks.read_by.Tie as tie
@@ -89,9 +90,15 @@ kind-requires : tie.Need-kind-requires
 kind-requires c κs =
     (good (who (c .before .before)) .txnsExact, inside (who (c .before .before)))
 
+start-read-requires : tie.Need-start-read-requires
+start-read-requires c κs =
+    let at = c .before .before .before .before in
+    (searchable (G (who at)) (good (who at)), free-rows (G (who at)) (good (who at)), good (who at) .locksExact, inside (who at), item-below at)
+
 returns-4 : tie.Need-returns-4
+unfolding startRead
 returns-4 c =
-    read-starts (G (who (c .before .before .before .before))) (number (who (c .before .before .before .before))) (word (who (c .before .before .before .before))) (slot (who (c .before .before .before .before))) (found (who (c .before .before .before .before))) (item (c .before .before .before .before)) (is-known (c .before .before .before .before)) _ (c .before .before .before .awaits-other .ensures) (c .before .before .if1 .left) _ (c .before .kind .ensures) (c .if2 .taken)
+    c .start-read .ensures ∙ read-starts (G (who (c .before .before .before .before .before))) (number (who (c .before .before .before .before .before))) (word (who (c .before .before .before .before .before))) (slot (who (c .before .before .before .before .before))) (found (who (c .before .before .before .before .before))) (item (c .before .before .before .before .before)) (is-known (c .before .before .before .before .before)) _ (c .before .before .before .before .awaits-other .ensures) (c .before .before .before .if1 .left) _ (c .before .before .kind .ensures) (c .before .if2 .taken)
 
 access-requires : tie.Need-access-requires
 access-requires c κs =
@@ -116,6 +123,7 @@ read-by-spec =
     awaits-other-requires
     returns-3
     kind-requires
+    start-read-requires
     returns-4
     access-requires
     returns-5)

@@ -11,7 +11,7 @@ use Rattle.rules.specs.Tables.{Tables, tables, slotOf}
 use Rattle.rules.specs.Good.{Good}
 use Rattle.rows.specs.Founds.{foundAt}
 use Rattle.rows.specs.declared.txns.Found.the-variants.{At}
-use Rattle.judged.proofs.Exits.{searchable, caller-inside, item-inside, write-unknown, write-no-item, write-query, write-waits, write-full, write-asks}
+use Rattle.judged.proofs.Exits.{searchable, caller-inside, item-inside, write-unknown, write-no-item, write-query, write-waits, write-past, write-full, write-asks}
 use borrow.Author.Needs.{needs}
 use Rattle.judged.proofs.asks.write_by.Statement.{statement}
 use Rattle.judged.proofs.asks.write_by.Tie as tie
@@ -94,20 +94,25 @@ returns-4 c =
     write-waits (G (who (c .before .before .before .before))) (number (who (c .before .before .before .before))) (word (who (c .before .before .before .before))) (slot (who (c .before .before .before .before))) (found (who (c .before .before .before .before))) (item (c .before .before .before .before)) (is-known (c .before .before .before .before)) _ _ (c .before .before .before .kind .ensures) (c .before .before .if1 .left) _ (c .before .awaits-other .ensures) (c .if2 .taken)
 
 writes-further-requires : tie.Need-writes-further-requires
-writes-further-requires c κs =
-    (good (who (c .before .before .before .before)) .locksExact, inside (who (c .before .before .before .before)), item-below (c .before .before .before .before))
+writes-further-requires c κs = let at = c .before .before .before .before .before .before in (good (who at) .locksExact, inside (who at), item-below at)
+
+writes-past-requires : tie.Need-writes-past-requires
+writes-past-requires c κs = let at = c .before .before .before .before in (searchable (G (who at)) (good (who at)), good (who at) .locksExact, inside (who at), item-below at)
 
 returns-5 : tie.Need-returns-5
 returns-5 c =
-    write-full (G (who (c .before .before .before .before .before .before))) (number (who (c .before .before .before .before .before .before))) (word (who (c .before .before .before .before .before .before))) (slot (who (c .before .before .before .before .before .before))) (found (who (c .before .before .before .before .before .before))) (item (c .before .before .before .before .before .before)) (is-known (c .before .before .before .before .before .before)) _ _ (c .before .before .before .before .before .kind .ensures) (c .before .before .before .before .if1 .left) _ (c .before .before .before .awaits-other .ensures) (c .before .before .if2 .left) _ (c .before .writes-further .ensures) (c .if3 .taken)
+    write-past (G (who (c .before .before .before .before .before .before))) (number (who (c .before .before .before .before .before .before))) (word (who (c .before .before .before .before .before .before))) (slot (who (c .before .before .before .before .before .before))) (found (who (c .before .before .before .before .before .before))) (item (c .before .before .before .before .before .before)) (is-known (c .before .before .before .before .before .before)) _ _ (c .before .before .before .before .before .kind .ensures) (c .before .before .before .before .if1 .left) _ (c .before .before .before .awaits-other .ensures) (c .before .before .if2 .left) _ (c .before .writes-past .ensures) (c .if3 .taken)
 
 access-requires : tie.Need-access-requires
-access-requires c κs =
-    (good (who (c .before .before .before .before .before .before)), inside (who (c .before .before .before .before .before .before)), item-below (c .before .before .before .before .before .before), omega arith)
+access-requires c κs = let at = c .before .before .before .before .before .before .before .before in (good (who at), inside (who at), item-below at, omega arith)
 
 returns-6 : tie.Need-returns-6
 returns-6 c =
-    c .access .ensures ∙ write-asks (G (who (c .before .before .before .before .before .before .before))) (number (who (c .before .before .before .before .before .before .before))) (word (who (c .before .before .before .before .before .before .before))) (slot (who (c .before .before .before .before .before .before .before))) (found (who (c .before .before .before .before .before .before .before))) (item (c .before .before .before .before .before .before .before)) (is-known (c .before .before .before .before .before .before .before)) _ _ (c .before .before .before .before .before .before .kind .ensures) (c .before .before .before .before .before .if1 .left) _ (c .before .before .before .before .awaits-other .ensures) (c .before .before .before .if2 .left) _ (c .before .before .writes-further .ensures) (c .before .if3 .left)
+    write-full (G (who (c .before .before .before .before .before .before .before .before))) (number (who (c .before .before .before .before .before .before .before .before))) (word (who (c .before .before .before .before .before .before .before .before))) (slot (who (c .before .before .before .before .before .before .before .before))) (found (who (c .before .before .before .before .before .before .before .before))) (item (c .before .before .before .before .before .before .before .before)) (is-known (c .before .before .before .before .before .before .before .before)) _ _ (c .before .before .before .before .before .before .before .kind .ensures) (c .before .before .before .before .before .before .if1 .left) _ (c .before .before .before .before .before .awaits-other .ensures) (c .before .before .before .before .if2 .left) _ (c .before .before .before .writes-past .ensures) (c .before .before .if3 .left) _ (c .before .writes-further .ensures) (c .if4 .taken)
+
+returns-7 : tie.Need-returns-7
+returns-7 c =
+    c .access .ensures ∙ write-asks (G (who (c .before .before .before .before .before .before .before .before .before))) (number (who (c .before .before .before .before .before .before .before .before .before))) (word (who (c .before .before .before .before .before .before .before .before .before))) (slot (who (c .before .before .before .before .before .before .before .before .before))) (found (who (c .before .before .before .before .before .before .before .before .before))) (item (c .before .before .before .before .before .before .before .before .before)) (is-known (c .before .before .before .before .before .before .before .before .before)) _ _ (c .before .before .before .before .before .before .before .before .kind .ensures) (c .before .before .before .before .before .before .before .if1 .left) _ (c .before .before .before .before .before .before .awaits-other .ensures) (c .before .before .before .before .before .if2 .left) _ (c .before .before .before .before .writes-past .ensures) (c .before .before .before .if3 .left) _ (c .before .before .writes-further .ensures) (c .before .if4 .left)
 
 pub write-by-spec : {M : Type 1} → statement M
 write-by-spec =
@@ -125,7 +130,9 @@ write-by-spec =
     returns-3
     awaits-other-requires
     returns-4
-    writes-further-requires
+    writes-past-requires
     returns-5
+    writes-further-requires
+    returns-6
     access-requires
-    returns-6)
+    returns-7)

@@ -1,4 +1,4 @@
--- Who aborts: nobody, a query or an update.
+-- Who aborts: nobody, a query, one past its writing or an update.
 use mathlib.Core.Path.{_≡_, sym, _∙_}
 use Prim.Native.Nat.{ℕ}
 use mathlib.Core.List.{List}
@@ -7,7 +7,7 @@ use Rattle.names.specs.declared.Slot.{Slot}
 use Rattle.rules.specs.Tables.{slotOf}
 use Rattle.rows.specs.Founds.{foundAt}
 use Rattle.rows.specs.declared.txns.Found.the-variants.{At}
-use Rattle.judged.proofs.Exits.{caller-inside, abort-unknown, abort-ends, abort-aborts}
+use Rattle.judged.proofs.Exits.{caller-inside, abort-unknown, abort-ends, abort-settled, abort-aborts}
 use borrow.Author.Needs.{needs}
 use Rattle.judged.proofs.ends.abort_by.Statement.{statement}
 use Rattle.judged.proofs.ends.abort_by.Tie as tie
@@ -48,9 +48,13 @@ returns-2 c =
 
 returns-3 : tie.Need-returns-3
 returns-3 c =
-    abort-aborts (txns (c .before .before)) (number (c .before .before)) (slot (c .before .before)) (found (c .before .before)) _ (c .before .kind .ensures) (c .if1 .left)
+    abort-settled (txns (c .before .before .before)) (number (c .before .before .before)) (slot (c .before .before .before)) (found (c .before .before .before)) _ (c .before .before .kind .ensures) (c .before .if1 .left) (c .if2 .taken)
+
+returns-4 : tie.Need-returns-4
+returns-4 c =
+    abort-aborts (txns (c .before .before .before)) (number (c .before .before .before)) (slot (c .before .before .before)) (found (c .before .before .before)) _ (c .before .before .kind .ensures) (c .before .if1 .left) (c .if2 .left)
 
 pub abort-by-spec : {M : Type 1} → statement M
 abort-by-spec =
     tie.close
-    (tie.spec find-requires enum-known-found enum-told returns kind-requires returns-2 returns-3)
+    (tie.spec find-requires enum-known-found enum-told returns kind-requires returns-2 returns-3 returns-4)

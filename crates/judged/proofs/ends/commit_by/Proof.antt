@@ -1,4 +1,4 @@
--- Who commits: nobody, one who waits, a query, or an update with a stamp left or none.
+-- Who commits: nobody, one who waits, a query, one past its writing, or an update with a stamp left or none.
 use mathlib.Core.Path.{_≡_, sym, _∙_}
 use Prim.Native.Nat.{ℕ}
 use mathlib.Core.List.{List}
@@ -7,7 +7,7 @@ use Rattle.names.specs.declared.Slot.{Slot}
 use Rattle.rules.specs.Tables.{slotOf}
 use Rattle.rows.specs.Founds.{foundAt}
 use Rattle.rows.specs.declared.txns.Found.the-variants.{At}
-use Rattle.judged.proofs.Exits.{caller-inside, commit-unknown, commit-waits, commit-ends, commit-spent, commit-commits}
+use Rattle.judged.proofs.Exits.{caller-inside, commit-unknown, commit-waits, commit-ends, commit-settled, commit-spent, commit-commits}
 use borrow.Author.Needs.{needs}
 use Rattle.judged.proofs.ends.commit_by.Statement.{statement}
 use Rattle.judged.proofs.ends.commit_by.Tie as tie
@@ -68,11 +68,15 @@ enum-told-3 c = search needs
 
 returns-4 : tie.Need-returns-4
 returns-4 c =
-    commit-spent (txns (c .before .before .before .before .before .before .before .before)) (number (c .before .before .before .before .before .before .before .before)) (slot (c .before .before .before .before .before .before .before .before)) (found (c .before .before .before .before .before .before .before .before)) _ (c .before .before .before .before .before .before .before .awaited-lock .ensures) (c .before .before .before .before .before .before .if1 .left) _ (c .before .before .before .before .before .kind .ensures) (c .before .before .before .before .if2 .left) _ (c .before .before .before .clock .ensures) (c .before .before .before .before .before .before .before .before .before .before .before .before .before .pre) (sym (c .before .before .next .ensures) ∙ c .enum-told3 .given .1)
+    commit-settled (txns (c .before .before .before .before .before)) (number (c .before .before .before .before .before)) (slot (c .before .before .before .before .before)) (found (c .before .before .before .before .before)) _ (c .before .before .before .before .awaited-lock .ensures) (c .before .before .before .if1 .left) _ (c .before .before .kind .ensures) (c .before .if2 .left) (c .if3 .taken)
 
 returns-5 : tie.Need-returns-5
 returns-5 c =
-    commit-commits (txns (c .before .before .before .before .before .before .before .before)) (number (c .before .before .before .before .before .before .before .before)) (slot (c .before .before .before .before .before .before .before .before)) (found (c .before .before .before .before .before .before .before .before)) _ (c .before .before .before .before .before .before .before .awaited-lock .ensures) (c .before .before .before .before .before .before .if1 .left) _ (c .before .before .before .before .before .kind .ensures) (c .before .before .before .before .if2 .left) _ (c .before .before .before .clock .ensures) _ (sym (c .before .before .next .ensures) ∙ c .enum-told2 .given .1)
+    commit-spent (txns (c .before .before .before .before .before .before .before .before .before)) (number (c .before .before .before .before .before .before .before .before .before)) (slot (c .before .before .before .before .before .before .before .before .before)) (found (c .before .before .before .before .before .before .before .before .before)) _ (c .before .before .before .before .before .before .before .before .awaited-lock .ensures) (c .before .before .before .before .before .before .before .if1 .left) _ (c .before .before .before .before .before .before .kind .ensures) (c .before .before .before .before .before .if2 .left) (c .before .before .before .before .if3 .left) _ (c .before .before .before .clock .ensures) (c .before .before .before .before .before .before .before .before .before .before .before .before .before .before .pre) (sym (c .before .before .next .ensures) ∙ c .enum-told3 .given .1)
+
+returns-6 : tie.Need-returns-6
+returns-6 c =
+    commit-commits (txns (c .before .before .before .before .before .before .before .before .before)) (number (c .before .before .before .before .before .before .before .before .before)) (slot (c .before .before .before .before .before .before .before .before .before)) (found (c .before .before .before .before .before .before .before .before .before)) _ (c .before .before .before .before .before .before .before .before .awaited-lock .ensures) (c .before .before .before .before .before .before .before .if1 .left) _ (c .before .before .before .before .before .before .kind .ensures) (c .before .before .before .before .before .if2 .left) (c .before .before .before .before .if3 .left) _ (c .before .before .before .clock .ensures) _ (sym (c .before .before .next .ensures) ∙ c .enum-told2 .given .1)
 
 pub commit-by-spec : {M : Type 1} → statement M
 commit-by-spec =
@@ -86,9 +90,10 @@ commit-by-spec =
     returns-2
     kind-requires
     returns-3
+    returns-4
     clock-requires
     next-requires
     enum-told-2
     enum-told-3
-    returns-4
-    returns-5)
+    returns-5
+    returns-6)

@@ -6,10 +6,11 @@ use mathlib.Core.List.{List}
 use mathlib.Core.Path.{refl, sym, _∙_, subst}
 use native.Mathlib.Omega.{arith}
 use Rattle.names.specs.Sizes.{base}
+use Rattle.rules.specs.Tables.{released}
 use Rattle.rows.proofs.Releases.{Released, none-released, one-released, all-released}
 
 abbrev Inv-loop : tie.InvT-loop
-Inv-loop locks₀ slot x₀ locks x = Released (slot .0) locks₀ locks x
+Inv-loop locks₀ slot x₀ locks x = Released (released (slot .0)) locks₀ locks x
 
 abbrev μ-loop : tie.MeasureT-loop
 μ-loop locks₀ slot x₀ locks x = base .items - x
@@ -30,8 +31,8 @@ loop-again : tie.Need-loop-again Inv-loop μ-loop
 loop-again c =
     let a = c .before .before .before .before .before .before .before .args in
     let l = c .before .before .before .before .before .loop in
-    subst (λ (m : List ℕ). Released (a .slot .0) (a .locks .now) m (l .x + 1)) (sym (c .before .before .release-item .ensures))
-    (one-released (a .slot .0) (a .locks .now) (l .locks) (l .x) _ (omega arith) (l .inv) refl)
+    subst (λ (m : List ℕ). Released (released (a .slot .0)) (a .locks .now) m (l .x + 1)) (sym (c .before .before .release-item .ensures))
+    (one-released (released (a .slot .0)) (a .locks .now) (l .locks) (l .x) _ (omega arith) (l .inv) refl)
 
 same-length : tie.Need-same-length Inv-loop μ-loop
 same-length c = c .before .loop .inv .size ∙ sym (c .before .before .before .pre .0)

@@ -5,7 +5,7 @@ use mathlib.Core.Logic.{⊎-elim}
 use Prim.Native.Nat.{ℕ, _≤_, _-_}
 use native.Mathlib.Omega.{arith}
 use Rattle.names.specs.Sizes.{base}
-use Rattle.rules.specs.Tables.{starts, startsFrom, txn, liveQuery, live}
+use Rattle.rules.specs.Tables.{starts, startsFrom, txn, byStart, live}
 use Rattle.starts.specs.Beside.{Beside}
 use Rattle.starts.proofs.Tells.{none-beside}
 use Rattle.starts.proofs.Fill.{starts-yes, starts-no}
@@ -60,7 +60,7 @@ loop-less : tie.Need-loop-less Inv-loop μ-loop
 loop-less c = omega arith
 
 loop-again : tie.Need-loop-again Inv-loop μ-loop
-unfolding liveQuery live txn
+unfolding byStart live txn
 loop-again c =
     let a = c .before .before .before .before .before .before .args in
     let l = c .before .before .before .before .loop in

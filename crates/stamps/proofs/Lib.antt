@@ -1,0 +1,2 @@
+-- Laws of the test of the stamps.
+pub mod Stamps
