@@ -1,10 +1,11 @@
 -- Request E1: the calls are written as "kind, number, item, value". "Kinds are 1 to 6 in the order of the runner's words; unused
--- fields are 0." `fieldsOf` says this of each call; `callOf` is the call whose fields words are, if there is one.
+-- fields are 0." Request E6: "A new call (`settle number` in the runner, kind 7 in journals)". `fieldsOf` says this of each call;
+-- `callOf` is the call whose fields words are, if there is one.
 use Prim.Native.Nat.{ℕ}
 use mathlib.Core.Bool.{Bool, cond, _&&_}
 use mathlib.Core.List.{List, [], _∷_}
 use lib.Dec.{eqb, leb}
-use Rattle.rules.specs.Answers.{Call, BeginUpdate, BeginQuery, Read, Write, Commit, Abort}
+use Rattle.rules.specs.Answers.{Call, BeginUpdate, BeginQuery, Read, Write, Commit, Abort, Settle}
 use Rattle.call_words.specs.declared.Fields.{Fields}
 use Rattle.call_words.specs.declared.CallOf.{CallOf}
 use Rattle.call_words.specs.declared.CallOf.the-variants.{Known, Unknown}
@@ -29,9 +30,13 @@ commitKind = 5
 abbrev pub abortKind : ℕ
 abortKind = 6
 
+-- request E6
+abbrev pub settleKind : ℕ
+settleKind = 7
+
 -- "a known kind": from the first to the last
 abbrev pub knownKind : ℕ → Bool
-knownKind k = leb beginUpdateKind k && leb k abortKind
+knownKind k = leb beginUpdateKind k && leb k settleKind
 
 -- ---- a call's four words
 
@@ -45,6 +50,7 @@ fieldsOf (Read n x) = fields readKind n x 0
 fieldsOf (Write n x v) = fields writeKind n x v
 fieldsOf (Commit n) = fields commitKind n 0 0
 fieldsOf (Abort n) = fields abortKind n 0 0
+fieldsOf (Settle n) = fields settleKind n 0 0
 
 -- the numbers that it uses, in this order
 abbrev pub numbersOf : Call → List ℕ
@@ -54,6 +60,7 @@ numbersOf (Read n x) = n ∷ x ∷ []
 numbersOf (Write n x v) = n ∷ x ∷ v ∷ []
 numbersOf (Commit n) = n ∷ []
 numbersOf (Abort n) = n ∷ []
+numbersOf (Settle n) = n ∷ []
 
 -- ---- four words as a call
 
@@ -65,7 +72,8 @@ callIn f =
     (cond (eqb (f .kind) readKind) (Read (f .number) (f .item))
     (cond (eqb (f .kind) writeKind) (Write (f .number) (f .item) (f .value))
     (cond (eqb (f .kind) commitKind) (Commit (f .number))
-    (Abort (f .number))))))
+    (cond (eqb (f .kind) abortKind) (Abort (f .number))
+    (Settle (f .number)))))))
 
 unfoldable pub sameFields : Fields → Fields → Bool
 sameFields f g =

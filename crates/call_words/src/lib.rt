@@ -20,10 +20,12 @@ pub const COMMIT: u64 = 5;
 
 pub const ABORT: u64 = 6;
 
+pub const SETTLE: u64 = 7;
+
 // The first and the last of them.
 const FIRST: u64 = BEGIN_UPDATE;
 
-const LAST: u64 = ABORT;
+const LAST: u64 = SETTLE;
 
 // The four words of a call.
 pub struct Fields {
@@ -65,6 +67,7 @@ pub fn fields_of(call: Call) -> Fields
         } => words(WRITE, number, item, value),
         Call::Commit { number } => words(COMMIT, number, 0, 0),
         Call::Abort { number } => words(ABORT, number, 0, 0),
+        Call::Settle { number } => words(SETTLE, number, 0, 0),
     }
 }
 
@@ -94,7 +97,8 @@ pub fn call_in(fields: Fields) -> Call
             value,
         },
         COMMIT => Call::Commit { number },
-        _ => Call::Abort { number },
+        ABORT => Call::Abort { number },
+        _ => Call::Settle { number },
     }
 }
 

@@ -36,7 +36,7 @@ samples =
     ∷ longer LeftOver (1 ∷ 1 ∷ 0 ∷ 0 ∷ 0 ∷ 1 ∷ 0 ∷ 0 ∷ 1 ∷ 0 ∷ []) (0 ∷ [])
     -- each field of that call and of its answer wrong
     ∷ file (Wrong 1) (1 ∷ 0 ∷ 0 ∷ 0 ∷ 0 ∷ 1 ∷ 0 ∷ 0 ∷ 1 ∷ 0 ∷ [])
-    ∷ file (Wrong 1) (1 ∷ 7 ∷ 0 ∷ 0 ∷ 0 ∷ 1 ∷ 0 ∷ 0 ∷ 1 ∷ 0 ∷ [])
+    ∷ file (Wrong 1) (1 ∷ 8 ∷ 0 ∷ 0 ∷ 0 ∷ 1 ∷ 0 ∷ 0 ∷ 1 ∷ 0 ∷ [])
     ∷ file (Wrong 1) (1 ∷ greatest ∷ 0 ∷ 0 ∷ 0 ∷ 1 ∷ 0 ∷ 0 ∷ 1 ∷ 0 ∷ [])
     ∷ file (Wrong 1) (1 ∷ 1 ∷ 1 ∷ 0 ∷ 0 ∷ 1 ∷ 0 ∷ 0 ∷ 1 ∷ 0 ∷ [])
     ∷ file (Wrong 1) (1 ∷ 1 ∷ 0 ∷ 1 ∷ 0 ∷ 1 ∷ 0 ∷ 0 ∷ 1 ∷ 0 ∷ [])
@@ -59,6 +59,9 @@ samples =
     ∷ file Accepted (1 ∷ 6 ∷ 9 ∷ 0 ∷ 0 ∷ 1 ∷ 3 ∷ 0 ∷ 0 ∷ 0 ∷ [])
     ∷ file (Wrong 1) (1 ∷ 6 ∷ 9 ∷ 1 ∷ 0 ∷ 1 ∷ 3 ∷ 0 ∷ 0 ∷ 0 ∷ [])
     ∷ file (Wrong 1) (1 ∷ 6 ∷ 9 ∷ 0 ∷ 1 ∷ 1 ∷ 3 ∷ 0 ∷ 0 ∷ 0 ∷ [])
+    ∷ file Accepted (1 ∷ 7 ∷ 9 ∷ 0 ∷ 0 ∷ 1 ∷ 3 ∷ 0 ∷ 0 ∷ 0 ∷ [])
+    ∷ file (Wrong 1) (1 ∷ 7 ∷ 9 ∷ 1 ∷ 0 ∷ 1 ∷ 3 ∷ 0 ∷ 0 ∷ 0 ∷ [])
+    ∷ file (Wrong 1) (1 ∷ 7 ∷ 9 ∷ 0 ∷ 1 ∷ 1 ∷ 3 ∷ 0 ∷ 0 ∷ 0 ∷ [])
     -- counts: one too many, one too few, and such that 32 times the count wraps
     ∷ file Short (1 ∷ 0 ∷ [])
     ∷ file Short (1 ∷ 1 ∷ 0 ∷ 0 ∷ 0 ∷ [])
@@ -76,8 +79,8 @@ samples =
     ∷ file Short (1 ∷ 1 ∷ 0 ∷ 0 ∷ 0 ∷ 576460752303423488 ∷ 0 ∷ 0 ∷ 1 ∷ 0 ∷ [])
     -- a wrong call and another point: the point comes first, wherever the call stands
     ∷ longer LeftOver (1 ∷ 1 ∷ 0 ∷ 0 ∷ 0 ∷ 1 ∷ 5 ∷ 0 ∷ 1 ∷ 0 ∷ []) (0 ∷ [])
-    ∷ file Unequal (1 ∷ 7 ∷ 0 ∷ 0 ∷ 0 ∷ 0 ∷ [])
-    ∷ file Short (1 ∷ 7 ∷ 0 ∷ 0 ∷ 0 ∷ 1 ∷ 0 ∷ 0 ∷ 1 ∷ [])
+    ∷ file Unequal (1 ∷ 9 ∷ 0 ∷ 0 ∷ 0 ∷ 0 ∷ [])
+    ∷ file Short (1 ∷ 9 ∷ 0 ∷ 0 ∷ 0 ∷ 1 ∷ 0 ∷ 0 ∷ 1 ∷ [])
     ∷ longer Unequal (1 ∷ 1 ∷ 0 ∷ 0 ∷ 0 ∷ 0 ∷ []) (0 ∷ [])
     -- two calls: the first wrong one is named
     ∷ file Accepted (2 ∷ 1 ∷ 0 ∷ 0 ∷ 0 ∷ 4 ∷ 1 ∷ 5 ∷ 7 ∷ 2 ∷ 0 ∷ 0 ∷ 1 ∷ 0 ∷ 0 ∷ 0 ∷ 0 ∷ 0 ∷ [])

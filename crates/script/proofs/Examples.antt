@@ -37,6 +37,11 @@ an-abort : parsed (97 ∷ 98 ∷ 111 ∷ 114 ∷ 116 ∷ 32 ∷ 48 ∷ 48 ∷ 49
 unfolding parsed spoken starts firstOf bareOf oneOf twoOf threeOf number someDigits digitsFrom
 an-abort = refl
 
+-- `settle 3`
+a-settle : parsed (115 ∷ 101 ∷ 116 ∷ 116 ∷ 108 ∷ 101 ∷ 32 ∷ 51 ∷ []) ≡ Call (rules.Settle 3)
+unfolding parsed spoken starts firstOf bareOf oneOf twoOf threeOf number someDigits digitsFrom
+a-settle = refl
+
 -- `commit 18446744073709551615`
 greatest-value : parsed (99 ∷ 111 ∷ 109 ∷ 109 ∷ 105 ∷ 116 ∷ 32 ∷ 49 ∷ 56 ∷ 52 ∷ 52 ∷ 54 ∷ 55 ∷ 52 ∷ 52 ∷ 48 ∷ 55 ∷ 51 ∷ 55 ∷ 48 ∷ 57 ∷ 53 ∷ 53 ∷ 49 ∷ 54 ∷ 49 ∷ 53 ∷ []) ≡ Call (rules.Commit 18446744073709551615)
 unfolding parsed spoken starts firstOf bareOf oneOf twoOf threeOf number someDigits digitsFrom

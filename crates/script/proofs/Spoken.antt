@@ -52,6 +52,7 @@ spoken-complete line (rules.Read n x) s = rw (s .word) (two-read (λ n x. rules.
 spoken-complete line (rules.Write n x v) s = rw (s .word) (three-read (λ n x v. rules.Write n x v) n x v (s .numbers))
 spoken-complete line (rules.Commit n) s = rw (s .word) (one-read (λ n. rules.Commit n) n (s .numbers))
 spoken-complete line (rules.Abort n) s = rw (s .word) (one-read (λ n. rules.Abort n) n (s .numbers))
+spoken-complete line (rules.Settle n) s = rw (s .word) (one-read (λ n. rules.Settle n) n (s .numbers))
 
 -- ---- a line that is read as a call says it
 
@@ -110,7 +111,7 @@ three-sound c bs d e =
     let b = two-sound c (t .1) (d (t .0)) (t .3) in
     (t .0, b .0, b .1, b .2, more-numbers (t .2) (b .3))
 
--- each of the six
+-- each of the seven
 data AllSound : List Spelled → Type 0 where
   done : AllSound []
   also : {w : Spelled} {ws : List Spelled} → Sound w → AllSound ws → AllSound (w ∷ ws)
@@ -150,7 +151,8 @@ all-sound =
     (also (by-two _ (λ n x. rules.Read n x) (λ n x. (refl, refl)))
     (also (by-three _ (λ n x v. rules.Write n x v) (λ n x v. (refl, refl)))
     (also (by-one _ (λ n. rules.Commit n) (λ n. (refl, refl)))
-    (also (by-one _ (λ n. rules.Abort n) (λ n. (refl, refl))) done)))))
+    (also (by-one _ (λ n. rules.Abort n) (λ n. (refl, refl)))
+    (also (by-one _ (λ n. rules.Settle n) (λ n. (refl, refl))) done))))))
 
 first-sound : {ws : List Spelled} (line : List ℕ) (c : rules.Call) → AllSound ws → firstOf ws line ≡ Call c → Says line c
 unfolding firstOf

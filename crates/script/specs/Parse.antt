@@ -36,7 +36,7 @@ pub record Spelled : Type 0 where
   pub word : List ℕ
   pub rest : List ℕ → Parsed
 
--- the six words, each with its numbers
+-- the seven words, each with its numbers
 abbrev pub spelled : List Spelled
 spelled =
     record { word = words.update; rest = bareOf rules.BeginUpdate }
@@ -45,6 +45,7 @@ spelled =
     ∷ record { word = words.write; rest = threeOf (λ n x v. rules.Write n x v) }
     ∷ record { word = words.commit; rest = oneOf (λ n. rules.Commit n) }
     ∷ record { word = words.abort; rest = oneOf (λ n. rules.Abort n) }
+    ∷ record { word = words.settle; rest = oneOf (λ n. rules.Settle n) }
     ∷ []
 
 -- the first of them that the line starts with

@@ -1,4 +1,4 @@
--- The six words of the script, as bytes.
+-- The words of the script, as bytes: document 01's six, and `settle` of request E6.
 use Prim.Native.Nat.{ℕ}
 use mathlib.Core.Bool.{Bool, true, false, _&&_}
 use mathlib.Core.List.{List, [], _∷_}
@@ -21,6 +21,9 @@ commit = 99 ∷ 111 ∷ 109 ∷ 109 ∷ 105 ∷ 116 ∷ []
 
 abbrev pub abort : List ℕ
 abort = 97 ∷ 98 ∷ 111 ∷ 114 ∷ 116 ∷ []
+
+abbrev pub settle : List ℕ
+settle = 115 ∷ 101 ∷ 116 ∷ 116 ∷ 108 ∷ 101 ∷ []
 
 -- the bytes start with those of the word
 unfoldable pub starts : List ℕ → List ℕ → Bool

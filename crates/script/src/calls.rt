@@ -6,6 +6,7 @@ use call_words::BEGIN_UPDATE;
 use call_words::COMMIT;
 use call_words::Fields;
 use call_words::READ;
+use call_words::SETTLE;
 use call_words::WRITE;
 use call_words::call_in;
 use lines::LONGEST;
@@ -70,6 +71,9 @@ fn spoken(line: &[u8]) -> Parsed
     }
     if starts_with(line, b"abort") {
         return one(line, 5, ABORT);
+    }
+    if starts_with(line, b"settle") {
+        return one(line, 6, SETTLE);
     }
     Parsed::Bad
 }

@@ -1,4 +1,5 @@
--- What a wait notes; request E4: the caller's place in the line, and the ranks behind it.
+-- What a wait notes; request E4: the caller's place in the line, and the ranks behind it. Request E6: the waits of queries and of those
+-- past their writing "change no word".
 use Prim.Native.Nat.{ℕ}
 use mathlib.Core.Bool.{Bool, cond}
 use mathlib.Core.List.{List}
@@ -6,14 +7,18 @@ use lib.ListN.{length}
 use lib.Dec.{eqb, leb, ltb}
 use Rattle.names.specs.Sizes.{base}
 use Rattle.rules.specs.Words.{everyBelow}
-use Rattle.rules.specs.Tables.{txnWords, lockWords, slotOf, txn, sharedLock, exclusiveLock}
+use Rattle.rules.specs.Tables.{txnWords, lockWords, slotOf, txn, anUpdate, sharedLock, exclusiveLock}
 use Rattle.rules.specs.Waits.{noted}
-use Rattle.rules.specs.Answers.{Call, BeginUpdate, BeginQuery, Read, Write, Commit, Abort}
+use Rattle.rules.specs.Answers.{Call, BeginUpdate, BeginQuery, Read, Write, Commit, Abort, Settle}
 
--- the transactions with the wait of the live transaction n noted; where there is none, or no such item, as they are
+-- the transactions with the wait of slot s noted, if it is an update's that still writes
+unfoldable pub awaitedBy : List ℕ → List ℕ → ℕ → ℕ → ℕ → List ℕ
+awaitedBy t l s k x = cond (eqb ((txn t s) .kind) anUpdate) (noted base t l s k x) t
+
+-- the same of the live transaction n; where there is none, or no such item, they stay as they are
 unfoldable pub awaited : List ℕ → List ℕ → ℕ → ℕ → ℕ → List ℕ
 awaited t l n k x =
-    cond (eqb (slotOf base t n) (base .slots)) t (cond (ltb x (base .items)) (noted base t l (slotOf base t n) k x) t)
+    cond (eqb (slotOf base t n) (base .slots)) t (cond (ltb x (base .items)) (awaitedBy t l (slotOf base t n) k x) t)
 
 -- the transactions as a call leaves them that waits
 unfoldable pub waitedIn : Call → List ℕ → List ℕ → List ℕ
@@ -23,6 +28,7 @@ waitedIn (Read n x) t l = awaited t l n sharedLock x
 waitedIn (Write n x v) t l = awaited t l n exclusiveLock x
 waitedIn (Commit n) t l = t
 waitedIn (Abort n) t l = t
+waitedIn (Settle n) t l = t
 
 -- nobody waits in words of another length, nor where a rank is above the number of slots
 unfoldable pub rankSmall : List ℕ → ℕ → Bool

@@ -1,5 +1,5 @@
-// What a wait notes: the caller's awaited lock and item, its place in the line and the ranks behind
-// it, and no other word.
+// What a wait notes: an update's awaited lock and item, its place in the line and the ranks behind
+// it, and no other word; a reader's wait notes nothing.
 use names::Call;
 use names::EXCLUSIVE_LOCK;
 use names::ITEMS;
@@ -10,13 +10,15 @@ use names::SHARED_LOCK;
 use names::SLOTS;
 use names::Slot;
 use names::TXN_WORDS;
+use names::UPDATE_KIND;
 use rows::Found;
 ghost use mathlib.Core.Path.{_≡_};
 ghost use lib.ListN.{length};
+ghost use Prim.Native.Nat.{_<_};
 ghost use Rattle.names.specs.Sizes.{base};
 ghost use Rattle.rules.specs.Tables.{txnWords, lockWords};
 ghost use Rattle.ranks.specs.Lines.{RanksSmall};
-ghost use Rattle.tally.specs.Noted.{awaited, ranksSmall, waitedIn, waited};
+ghost use Rattle.tally.specs.Noted.{awaitedBy, awaited, ranksSmall, waitedIn, waited};
 
 // Whether no rank is above the number of slots.
 fn ranks_small(txns: &[u64]) -> bool
@@ -32,6 +34,15 @@ fn ranks_small(txns: &[u64]) -> bool
     ok
 }
 
+fn awaits_by(txns: &mut [u64], locks: &[u64], slot: Slot, lock: u64, item: Item)
+    requires { ⌜ (length (now txns) ≡ txnWords base) × (length (now locks) ≡ lockWords base) × (slot .0 < base .slots) × (item .0 < base .items) × RanksSmall (now txns) ⌝ }
+    ensures { λ _. ⌜ now (txns .exit) ≡ awaitedBy (now (txns .entry)) (now (locks .entry)) (slot .0) lock (item .0) ⌝ }
+{
+    if rows::kind(&txns[..], slot) == UPDATE_KIND {
+        ranks::note(txns, locks, slot, lock, item);
+    }
+}
+
 fn awaits(txns: &mut [u64], locks: &[u64], number: u64, lock: u64, item: u64)
     requires { ⌜ (length (now txns) ≡ txnWords base) × (length (now locks) ≡ lockWords base) × RanksSmall (now txns) ⌝ }
     ensures { λ _. ⌜ now (txns .exit) ≡ awaited (now (txns .entry)) (now (locks .entry)) number lock item ⌝ }
@@ -41,7 +52,7 @@ fn awaits(txns: &mut [u64], locks: &[u64], number: u64, lock: u64, item: u64)
         return;
     };
     if item < ITEMS {
-        ranks::note(txns, locks, slot, lock, Item(item));
+        awaits_by(txns, locks, slot, lock, Item(item));
     }
 }
 
@@ -61,6 +72,7 @@ fn note_in(txns: &mut [u64], locks: &[u64], call: Call)
         Call::BeginQuery => {}
         Call::Commit { number: _ } => {}
         Call::Abort { number: _ } => {}
+        Call::Settle { number: _ } => {}
     }
 }
 

@@ -1,4 +1,4 @@
-// Tables tried whole: bad ones by all six calls, which must answer 10, and good ones by those of
+// Tables tried whole: bad ones by all seven calls, which must answer 10, and good ones by those of
 // nobody, which must be refused for that. No call may change a word.
 use crate::say;
 use crate::set::OF_ITEMS;
@@ -35,7 +35,7 @@ fn tried(tables: Tables, call: Call, code: u64, score: Score) -> Score {
     score.plus(ok, changed as u64)
 }
 
-fn four(tables: Tables, number: u64, code: u64, score: Score) -> Score {
+fn five(tables: Tables, number: u64, code: u64, score: Score) -> Score {
     let read = Call::Read { number, item: 0 };
     let write = Call::Write {
         number,
@@ -45,7 +45,8 @@ fn four(tables: Tables, number: u64, code: u64, score: Score) -> Score {
     let mut s = tried(tables, read, code, score);
     s = tried(tables, write, code, s);
     s = tried(tables, Call::Commit { number }, code, s);
-    tried(tables, Call::Abort { number }, code, s)
+    s = tried(tables, Call::Abort { number }, code, s);
+    tried(tables, Call::Settle { number }, code, s)
 }
 
 fn scored(tables: Tables, bad: bool) -> Score {
@@ -56,9 +57,9 @@ fn scored(tables: Tables, bad: bool) -> Score {
     if bad {
         let s = tried(tables, Call::BeginUpdate, BAD_TABLES, none);
         let begun = tried(tables, Call::BeginQuery, BAD_TABLES, s);
-        return four(tables, SOMEBODY, BAD_TABLES, begun);
+        return five(tables, SOMEBODY, BAD_TABLES, begun);
     }
-    four(tables, NOBODY, UNKNOWN_TRANSACTION, none)
+    five(tables, NOBODY, UNKNOWN_TRANSACTION, none)
 }
 
 fn say_row(rows: Rows) {
@@ -74,7 +75,7 @@ fn say_row(rows: Rows) {
 
 // The end of a line that has said what is damaged, or is still good.
 pub fn judge(tables: Tables, bad: bool, rows: Rows, tally: Tally) -> Tally {
-    let calls = if bad { 6 } else { 4 };
+    let calls = if bad { 7 } else { 5 };
     say_row(rows);
     say::say(b": expected ");
     say::number(calls);

@@ -19,6 +19,7 @@ pub fn lettered(letter: u8, number: u64, item: u64, value: u64) -> Meant {
         }),
         b'c' => Meant::Call(Call::Commit { number }),
         b'a' => Meant::Call(Call::Abort { number }),
+        b's' => Meant::Call(Call::Settle { number }),
         _ => Meant::Other,
     }
 }

@@ -102,7 +102,7 @@ read 4 1: 1 0 0 0
 read 3 1: 2 0 0 0
 write 3 1 31: 2 0 0 0
 read 3 0: 0 0 0 1
-see transactions 2 3: 0
+view transactions 2 3: 0
 abort 3: 0 0 0 0
 read 2 3: 0 0 0 1
 commit 2: 0 0 1 0

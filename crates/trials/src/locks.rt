@@ -34,23 +34,23 @@ update: 0 0 2 0
 write 1 7 42: 0 0 0 0
 read 2 8: 0 0 0 1
 read 2 7: 1 0 0 0
-see transactions 1 3: 1
-see transactions 1 4: 7
-see transactions 1 5: 1
+view transactions 1 3: 1
+view transactions 1 4: 7
+view transactions 1 5: 1
 read 2 7: 1 0 0 0
 commit 1: 0 0 1 0
 read 2 7: 0 42 0 1
-see transactions 1 3: 0
-see transactions 1 4: 0
-see transactions 1 5: 0
+view transactions 1 3: 0
+view transactions 1 4: 0
+view transactions 1 5: 0
 trial D: the own shared lock is exchanged for the exclusive one
 update: 0 0 1 0
 read 1 9: 0 0 0 1
-see locks 9 0: 1
+view locks 9 0: 1
 write 1 9 5: 0 0 0 0
-see locks 9 0: 0
-see locks 9 1: 1
-see locks 9 2: 5
+view locks 9 0: 0
+view locks 9 1: 1
+view locks 9 2: 5
 read 1 9: 0 5 0 0
 write 1 9 6: 0 0 0 0
 read 1 9: 0 6 0 0
@@ -61,9 +61,9 @@ update: 0 0 2 0
 read 1 3: 0 0 0 1
 read 2 3: 0 0 0 1
 write 1 3 8: 1 0 0 0
-see transactions 0 3: 2
-see transactions 0 4: 3
-see transactions 0 5: 1
+view transactions 0 3: 2
+view transactions 0 4: 3
+view transactions 0 5: 1
 write 2 3 9: 2 0 0 0
 read 2 3: 0 0 0 1
 abort 2: 0 0 0 0
@@ -85,7 +85,7 @@ update: 0 0 1 0
 update: 0 0 2 0
 write 1 3 8: 0 0 0 0
 read 2 3: 1 0 0 0
-see transactions 1 5: 1
+view transactions 1 5: 1
 commit 2: 6 0 0 0
 read 2 4: 6 0 0 0
 write 2 3 1: 6 0 0 0
@@ -146,14 +146,14 @@ update: 7 0 0 0
 query: 7 0 0 0
 abort 5: 0 0 0 0
 query: 0 0 33 0
-see transactions 4 0: 33
+view transactions 4 0: 33
 update: 7 0 0 0
 commit 33: 0 0 0 0
 update: 0 0 34 0
 query: 7 0 0 0
 commit 32: 0 0 1 0
 query: 0 0 35 0
-see transactions 31 0: 35
+view transactions 31 0: 35
 update: 7 0 0 0
 trial H: a query may not write, an update may
 query: 0 0 1 0

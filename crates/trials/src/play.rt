@@ -2,7 +2,7 @@
 //
 //     trial C: a reader waits   a trial begins, on fresh tables
 //     read 2 5: 0 0 0 1         a call, and the four numbers that document 01 wants for an answer
-//     see locks 9 1: 1          a word, by its table, its row and its place in the row, and the
+//     view locks 9 1: 1         a word, by its table, its row and its place in the row, and the
 //                               value that is wanted
 //     on 6                      the sample anew, its row 6 being the row that is damaged
 //     damage: a row is free     the tables are bad: every call answers 10
@@ -31,7 +31,7 @@ use tally::Tally;
 
 const TRIAL: u8 = b't';
 
-const SEE: u8 = b's';
+const VIEW: u8 = b'v';
 
 const ON: u8 = b'o';
 
@@ -52,7 +52,7 @@ pub struct Stage {
 fn echo(stage: Stage, line: Line, byte: u8) {
     let kind = if line.kind == 0 { byte } else { line.kind };
     let rows = stage.rows;
-    let tries = is_call(kind) | (kind == SEE);
+    let tries = is_call(kind) | (kind == VIEW);
     let damages = (kind == DAMAGE) | (kind == GOOD);
     let tally = stage.tally;
     if (rows.of == TRIALS) | damages {
@@ -88,7 +88,7 @@ fn made(stage: Stage, line: Line, call: Call) -> Stage {
     }
 }
 
-fn see(stage: Stage, line: Line) -> Stage {
+fn view(stage: Stage, line: Line) -> Stage {
     let numbers = line.numbers;
     let tables = stage.tables;
     let found = tables.word(line.second, place(line.second, numbers[0], numbers[1]));
@@ -150,8 +150,8 @@ fn step(stage: Stage, line: Line) -> Stage {
     if let Meant::Call(call) = word {
         return made(stage, line, call);
     }
-    if kind == SEE {
-        return see(stage, line);
+    if kind == VIEW {
+        return view(stage, line);
     }
     if (kind == DAMAGE) | (kind == GOOD) {
         let tables = stage.tables;

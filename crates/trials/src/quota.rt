@@ -43,9 +43,9 @@ write 1 27 7: 0 0 0 0
 write 1 28 7: 0 0 0 0
 write 1 29 7: 0 0 0 0
 write 1 30 7: 0 0 0 0
-see locks 31 1: 0
+view locks 31 1: 0
 write 1 31 7: 0 0 0 0
-see locks 31 1: 1
+view locks 31 1: 1
 write 1 32 5: 11 0 0 0
 write 1 63 5: 11 0 0 0
 write 1 64 5: 4 0 0 0
@@ -54,8 +54,8 @@ write 1 31 9: 0 0 0 0
 read 1 0: 0 9 0 0
 read 1 40: 0 0 0 1
 write 1 40 5: 11 0 0 0
-see locks 40 0: 1
-see locks 40 1: 0
+view locks 40 0: 1
+view locks 40 1: 0
 update: 0 0 2 0
 write 2 32 8: 0 0 0 0
 write 2 33 8: 0 0 0 0
@@ -149,20 +149,20 @@ write 1 30 7: 0 0 0 0
 update: 0 0 2 0
 write 2 50 8: 0 0 0 0
 write 1 50 7: 1 0 0 0
-see transactions 0 3: 2
-see transactions 0 4: 50
-see transactions 0 5: 1
+view transactions 0 3: 2
+view transactions 0 4: 50
+view transactions 0 5: 1
 write 1 50 7: 1 0 0 0
 write 1 51 7: 6 0 0 0
 read 2 0: 2 0 0 0
 commit 2: 0 0 1 0
 write 1 50 7: 0 0 0 0
-see transactions 0 3: 0
+view transactions 0 3: 0
 write 1 51 7: 11 0 0 0
 update: 0 0 3 0
 write 3 60 8: 0 0 0 0
 write 1 60 7: 11 0 0 0
-see transactions 0 3: 0
+view transactions 0 3: 0
 read 3 0: 1 0 0 0
 write 1 60 7: 11 0 0 0
 read 1 60: 2 0 0 0

@@ -130,13 +130,13 @@ query: 0 0 59 0
 update: 0 0 60 0
 write 60 0 129: 0 0 0 0
 commit 60: 0 0 30 0
-see versions 0 0: 31
+view versions 0 0: 31
 read 1 0: 0 0 0 31
 query: 0 0 61 0
 update: 0 0 62 0
 write 62 0 130: 0 0 0 0
 commit 62: 0 0 31 0
-see versions 0 0: 32
+view versions 0 0: 32
 read 1 0: 0 0 0 32
 read 3 0: 0 100 0 31
 read 5 0: 0 101 0 30
@@ -172,15 +172,15 @@ update: 0 0 63 0
 read 63 0: 0 130 0 1
 write 63 0 500: 0 0 0 0
 commit 63: 0 0 32 0
-see versions 0 0: 32
+view versions 0 0: 32
 read 1 0: 0 0 0 32
 commit 33: 0 0 0 0
-see versions 0 0: 31
+view versions 0 0: 31
 read 1 0: 0 0 0 31
 read 31 0: 0 114 0 16
 read 35 0: 0 116 0 15
 abort 1: 0 0 0 0
-see versions 0 0: 30
+view versions 0 0: 30
 ",
         tally,
     )
@@ -197,7 +197,7 @@ update: 0 0 1 0
 query: 0 0 2 0
 write 1 0 5: 0 0 0 0
 commit 1: 0 0 4294967295 0
-see head 0 1: 4294967295
+view head 0 1: 4294967295
 read 2 0: 0 0 0 2
 update: 0 0 3 0
 query: 0 0 4 0
@@ -223,14 +223,14 @@ read 2 3: 1 0 0 0
 query: 0 0 3 0
 read 3 3: 0 0 0 1
 abort 1: 0 0 0 0
-see locks 3 1: 0
-see locks 3 2: 0
+view locks 3 1: 0
+view locks 3 2: 0
 read 2 3: 0 0 0 1
 read 3 3: 0 0 0 1
 commit 2: 0 0 1 0
 query: 0 0 4 0
 read 4 3: 0 0 0 1
-see versions 3 0: 1
+view versions 3 0: 1
 update: 0 0 5 0
 write 5 3 9: 0 0 0 0
 commit 5: 0 0 2 0
@@ -238,7 +238,7 @@ query: 0 0 6 0
 read 6 3: 0 9 0 1
 read 4 3: 0 0 0 2
 read 3 3: 0 0 0 2
-see versions 3 0: 2
+view versions 3 0: 2
 trial L: a count of zero, one of seventeen, and of one again, in three rows
 put versions 0 0: 0
 update: 10 0 0 0

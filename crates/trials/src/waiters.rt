@@ -14,17 +14,17 @@ update: 0 0 3 0
 read 1 5: 0 0 0 1
 write 2 5 52: 1 0 0 0
 read 3 5: 1 0 0 0
-see transactions 1 5: 1
-see transactions 2 5: 2
+view transactions 1 5: 1
+view transactions 2 5: 2
 read 1 5: 0 0 0 1
 commit 1: 0 0 1 0
 read 3 5: 1 0 0 0
 write 2 5 52: 0 0 0 0
-see transactions 1 5: 0
-see transactions 2 5: 1
+view transactions 1 5: 0
+view transactions 2 5: 1
 commit 2: 0 0 2 0
 read 3 5: 0 52 0 1
-see transactions 2 5: 0
+view transactions 2 5: 0
 trial T: who shares the item and asks to write it stands ahead
 update: 0 0 1 0
 update: 0 0 2 0
@@ -32,17 +32,17 @@ update: 0 0 3 0
 read 1 5: 0 0 0 1
 read 2 5: 0 0 0 1
 write 3 5 53: 1 0 0 0
-see transactions 2 5: 1
+view transactions 2 5: 1
 write 1 5 51: 1 0 0 0
-see transactions 0 5: 1
-see transactions 2 5: 2
+view transactions 0 5: 1
+view transactions 2 5: 2
 write 2 5 52: 2 0 0 0
-see transactions 1 5: 0
+view transactions 1 5: 0
 abort 2: 0 0 0 0
 write 3 5 53: 1 0 0 0
 write 1 5 51: 0 0 0 0
-see transactions 0 5: 0
-see transactions 2 5: 1
+view transactions 0 5: 0
+view transactions 2 5: 1
 commit 1: 0 0 1 0
 write 3 5 53: 0 0 0 0
 trial U: who leaves a line in its middle lets those behind it move up
@@ -54,14 +54,14 @@ write 1 5 51: 0 0 0 0
 read 2 5: 1 0 0 0
 read 3 5: 1 0 0 0
 read 4 5: 1 0 0 0
-see transactions 3 5: 3
+view transactions 3 5: 3
 abort 3: 0 0 0 0
-see transactions 1 5: 1
-see transactions 2 5: 0
-see transactions 3 5: 2
+view transactions 1 5: 1
+view transactions 2 5: 0
+view transactions 3 5: 2
 commit 1: 0 0 1 0
 read 4 5: 0 51 0 1
-see transactions 1 5: 1
+view transactions 1 5: 1
 read 2 5: 0 51 0 1
 trial V: a circle that is there only through an earlier waiter
 update: 0 0 1 0
@@ -72,7 +72,7 @@ write 2 5 52: 1 0 0 0
 write 3 6 63: 0 0 0 0
 read 3 5: 1 0 0 0
 write 1 6 61: 2 0 0 0
-see transactions 0 5: 0
+view transactions 0 5: 0
 abort 2: 0 0 0 0
 read 3 5: 0 0 0 1
 write 1 6 61: 1 0 0 0
@@ -151,22 +151,22 @@ write 29 5 79: 1 0 0 0
 write 30 5 80: 1 0 0 0
 write 31 5 81: 1 0 0 0
 write 32 5 82: 1 0 0 0
-see transactions 1 5: 1
-see transactions 16 5: 16
-see transactions 31 5: 31
+view transactions 1 5: 1
+view transactions 16 5: 16
+view transactions 31 5: 31
 abort 1: 0 0 0 0
 update: 0 0 33 0
 read 33 5: 1 0 0 0
-see transactions 0 5: 32
+view transactions 0 5: 32
 write 32 5 82: 1 0 0 0
 abort 17: 0 0 0 0
-see transactions 15 5: 15
-see transactions 16 5: 0
-see transactions 17 5: 16
-see transactions 0 5: 31
+view transactions 15 5: 15
+view transactions 16 5: 0
+view transactions 17 5: 16
+view transactions 0 5: 31
 write 2 5 52: 0 0 0 0
-see transactions 0 5: 30
-see transactions 31 5: 29
+view transactions 0 5: 30
+view transactions 31 5: 29
 commit 2: 0 0 1 0
 read 33 5: 1 0 0 0
 write 3 5 53: 0 0 0 0

@@ -40,6 +40,12 @@ enum-known-call-4 c = search needs
 words-requires-6 : tie.Need-words-requires-6
 words-requires-6 c κs = search needs
 
+enum-known-call-5 : tie.Need-enum-known-call-5
+enum-known-call-5 c = search needs
+
+words-requires-7 : tie.Need-words-requires-7
+words-requires-7 c κs = search needs
+
 returns : tie.Need-returns
 unfolding fieldsOf
 returns c = rw (c .before .enum-told .given .1) (c .words .ensures)
@@ -64,6 +70,10 @@ returns-6 : tie.Need-returns-6
 unfolding fieldsOf
 returns-6 c = rw (c .before .before .call4 .given .1) (c .words6 .ensures)
 
+returns-7 : tie.Need-returns-7
+unfolding fieldsOf
+returns-7 c = rw (c .before .before .call5 .given .1) (c .words7 .ensures)
+
 pub fields-of-spec : {M : Type 1} → statement M
 fields-of-spec =
     tie.close
@@ -80,9 +90,12 @@ fields-of-spec =
     words-requires-5
     enum-known-call-4
     words-requires-6
+    enum-known-call-5
+    words-requires-7
     returns
     returns-2
     returns-3
     returns-4
     returns-5
-    returns-6)
+    returns-6
+    returns-7)

@@ -1,4 +1,4 @@
--- `spoken` asks for the six words in turn: past each, what is left of the list of words decides.
+-- `spoken` asks for the seven words in turn: past each, what is left of the list of words decides.
 use mathlib.Core.Path.{_≡_, sym, _∙_}
 use mathlib.Core.List.{List}
 use Prim.Native.Nat.{ℕ}
@@ -32,6 +32,9 @@ past-5 c = past-4 (c .before .before .before) ∙ first-passed _ _ _ (sym (c .be
 
 past-6 : (c : tie.Else6) → spoken (line (c .before .before .before .before .before .before .before .before .before .before .before .before .before .before .before .before .before .before)) ≡ firstOf (drop 6 spelled) (line (c .before .before .before .before .before .before .before .before .before .before .before .before .before .before .before .before .before .before))
 past-6 c = past-5 (c .before .before .before) ∙ first-passed _ _ _ (sym (c .before .starts-with6 .ensures) ∙ c .if6 .left)
+
+past-7 : (c : tie.Else7) → spoken (line (c .before .before .before .before .before .before .before .before .before .before .before .before .before .before .before .before .before .before .before .before .before)) ≡ firstOf (drop 7 spelled) (line (c .before .before .before .before .before .before .before .before .before .before .before .before .before .before .before .before .before .before .before .before .before))
+past-7 c = past-6 (c .before .before .before) ∙ first-passed _ _ _ (sym (c .before .starts-with7 .ensures) ∙ c .if7 .left)
 
 slice-aggregate-starts-with : tie.Need-slice-aggregate-starts-with
 slice-aggregate-starts-with c = search needs
@@ -111,9 +114,22 @@ returns-6 : tie.Need-returns-6
 unfolding callIn
 returns-6 c = c .one2 .ensures ∙ sym (past-5 (c .before .before .before .before) ∙ first-taken _ _ _ (sym (c .before .before .starts-with6 .ensures) ∙ c .before .if6 .taken))
 
+slice-aggregate-starts-with-7 : tie.Need-slice-aggregate-starts-with-7
+slice-aggregate-starts-with-7 c = search needs
+
+starts-with-requires-7 : tie.Need-starts-with-requires-7
+starts-with-requires-7 c κs = search needs
+
+one-requires-3 : tie.Need-one-requires-3
+one-requires-3 c κs = search needs
+
 returns-7 : tie.Need-returns-7
+unfolding callIn
+returns-7 c = c .one3 .ensures ∙ sym (past-6 (c .before .before .before .before) ∙ first-taken _ _ _ (sym (c .before .before .starts-with7 .ensures) ∙ c .before .if7 .taken))
+
+returns-8 : tie.Need-returns-8
 unfolding firstOf
-returns-7 c = sym (past-6 c)
+returns-8 c = sym (past-7 c)
 
 pub spoken-spec : {M : Type 1} → statement M
 spoken-spec =
@@ -143,4 +159,8 @@ spoken-spec =
     starts-with-requires-6
     one-requires-2
     returns-6
-    returns-7)
+    slice-aggregate-starts-with-7
+    starts-with-requires-7
+    one-requires-3
+    returns-7
+    returns-8)

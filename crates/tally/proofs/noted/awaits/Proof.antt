@@ -5,9 +5,8 @@ use mathlib.Core.List.{List}
 use borrow.Author.Tests.{lt-ltb, le-ltb}
 use Rattle.names.specs.Sizes.{base}
 use Rattle.rules.specs.Tables.{slotOf}
-use Rattle.rules.specs.Waits.{noted}
 use Rattle.callers.proofs.Founds.{FoundSlot, found-slot, found-nobody, slot-most}
-use Rattle.tally.specs.Noted.{awaited}
+use Rattle.tally.specs.Noted.{awaitedBy, awaited}
 use borrow.Author.Needs.{needs}
 use Rattle.tally.proofs.noted.awaits.Statement.{statement}
 use Rattle.tally.proofs.noted.awaits.Tie as tie
@@ -31,17 +30,17 @@ returns c =
     rw (found-nobody (slotOf base (a .txns .now) (a .number)) (sym (c .before .before .slot-of .ensures) ∙ c .enum-told .given .1))
 
 -- the slot that was found
-abbrev txns : tie.After-note-arg → List ℕ
+abbrev txns : tie.After-awaits-by-arg → List ℕ
 txns c = c .before .before .before .before .before .before .before .before .before .args .txns .now
 
-abbrev number : tie.After-note-arg → ℕ
+abbrev number : tie.After-awaits-by-arg → ℕ
 number c = c .before .before .before .before .before .before .before .before .before .args .number
 
-slot : (c : tie.After-note-arg) → FoundSlot (slotOf base (txns c) (number c)) (c .before .before .before .found .given .0 .0)
+slot : (c : tie.After-awaits-by-arg) → FoundSlot (slotOf base (txns c) (number c)) (c .before .before .before .found .given .0 .0)
 slot c = found-slot (slotOf base (txns c) (number c)) _ (sym (c .before .before .before .before .before .slot-of .ensures) ∙ c .before .before .before .found .given .1)
 
-note-requires : tie.Need-note-requires
-note-requires c κs =
+awaits-by-requires : tie.Need-awaits-by-requires
+awaits-by-requires c κs =
     let p = c .before .before .before .before .before .before .before .before .before .pre in
     (p .0, p .1, slot c .inside (slot-most (txns c) (number c)), c .before .if1 .taken, p .2)
 
@@ -53,7 +52,7 @@ unfolding awaited
 returns-2 c =
     let d = c .before .before .before in
     let a = d .before .before .before .before .before .before .before .before .before .args in
-    rw (slot d .some, lt-ltb _ _ (d .before .if1 .taken)) (c .before .before .note .ensures ∙ ap (λ (s : ℕ). noted base (a .txns .now) (a .locks .now) s (a .lock) (a .item)) (slot d .is))
+    rw (slot d .some, lt-ltb _ _ (d .before .if1 .taken)) (c .before .before .awaits-by .ensures ∙ ap (λ (s : ℕ). awaitedBy (a .txns .now) (a .locks .now) s (a .lock) (a .item)) (slot d .is))
 
 same-length-3 : tie.Need-same-length-3
 same-length-3 c = search needs
@@ -74,7 +73,7 @@ awaits-spec =
     enum-told
     same-length
     returns
-    note-requires
+    awaits-by-requires
     same-length-2
     returns-2
     same-length-3

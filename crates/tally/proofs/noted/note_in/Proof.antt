@@ -31,6 +31,9 @@ enum-told-3 c = search needs
 enum-told-4 : tie.Need-enum-told-4
 enum-told-4 c = search needs
 
+enum-told-5 : tie.Need-enum-told-5
+enum-told-5 c = search needs
+
 same-length : tie.Need-same-length
 same-length c = search needs
 
@@ -69,6 +72,10 @@ returns-6 : tie.Need-returns-6
 unfolding waitedIn
 returns-6 c = ap (λ (m : Call). waitedIn m (c .before .before .before .before .args .txns .now) (c .before .before .before .before .args .locks .now)) (sym (c .enum-told4 .given .1))
 
+returns-7 : tie.Need-returns-7
+unfolding waitedIn
+returns-7 c = ap (λ (m : Call). waitedIn m (c .before .before .before .before .args .txns .now) (c .before .before .before .before .args .locks .now)) (sym (c .enum-told5 .given .1))
+
 pub note-in-spec : {M : Type 1} → statement M
 note-in-spec =
     tie.close
@@ -81,6 +88,7 @@ note-in-spec =
     enum-told-2
     enum-told-3
     enum-told-4
+    enum-told-5
     same-length
     returns
     same-length-2
@@ -88,4 +96,5 @@ note-in-spec =
     returns-3
     returns-4
     returns-5
-    returns-6)
+    returns-6
+    returns-7)
