@@ -14,9 +14,10 @@ pub mod code {
     pub const CLOCK_SPENT: u64 = 9;
     pub const BAD_TABLES: u64 = 10;
     pub const QUOTA_SPENT: u64 = 11;
+    pub const PAST_WRITING: u64 = 12;
 
     /// The codes in words, by number.
-    pub const NAMES: [&str; 12] = [
+    pub const NAMES: [&str; 13] = [
         "granted",
         "wait",
         "deadlock",
@@ -29,6 +30,7 @@ pub mod code {
         "clock spent",
         "bad tables",
         "quota spent",
+        "past its writing",
     ];
 }
 
@@ -57,7 +59,7 @@ impl Answer {
         Answer::bare(code::GRANTED)
     }
 
-    /// A begin with its new number, or an update's commit with its stamp.
+    /// A begin with its new number, or an update's settle or commit with its stamp.
     pub(crate) const fn numbered(number: u64) -> Answer {
         Answer {
             number,

@@ -1,4 +1,4 @@
-//! The six calls. Each works on any three slices: tables that are not good are
+//! The seven calls. Each works on any three slices: tables that are not good are
 //! answered 10 and left alone.
 
 use crate::answer::{code, Answer};
@@ -59,7 +59,7 @@ pub fn write(
     })
 }
 
-/// Commits an update, or ends a query.
+/// Commits an update, past its writing or not, or ends a query.
 pub fn commit(txns: &mut [u64], locks: &mut [u64], versions: &mut [u64], number: u64) -> Answer {
     on_good(txns, locks, versions, |mut view| view.commit(number))
 }
@@ -67,6 +67,11 @@ pub fn commit(txns: &mut [u64], locks: &mut [u64], versions: &mut [u64], number:
 /// Aborts an update, or ends a query.
 pub fn abort(txns: &mut [u64], locks: &mut [u64], versions: &mut [u64], number: u64) -> Answer {
     on_good(txns, locks, versions, |mut view| view.abort(number))
+}
+
+/// Ends an update's writing.
+pub fn settle(txns: &mut [u64], locks: &mut [u64], versions: &mut [u64], number: u64) -> Answer {
+    on_good(txns, locks, versions, |mut view| view.settle(number))
 }
 
 fn on_good<F>(txns: &mut [u64], locks: &mut [u64], versions: &mut [u64], call: F) -> Answer
@@ -128,16 +133,12 @@ impl View<'_> {
             Some(item) => item,
             None => return Answer::bare(code::UNKNOWN_ITEM),
         };
-        match (self.is_query(slot), access) {
-            (true, Access::Read) => self.read_by_query(slot, item),
-            (true, Access::Write(_)) => Answer::bare(code::QUERY_MAY_NOT_WRITE),
-            (false, _) => self.access_by_update(slot, item, access),
+        match (self.txn(slot)[KIND], access) {
+            (UPDATE, _) => self.access_by_update(slot, item, access),
+            (_, Access::Read) => self.read_by_start(slot, item),
+            (QUERY, Access::Write(_)) => Answer::bare(code::QUERY_MAY_NOT_WRITE),
+            (_, Access::Write(value)) => self.write_by_settled(slot, item, value),
         }
-    }
-
-    fn read_by_query(&self, slot: Slot, item: Item) -> Answer {
-        let (value, place) = row::read_at(self.row(item), self.start(slot));
-        Answer::found(value, place)
     }
 
     fn access_by_update(&mut self, slot: Slot, item: Item, access: Access) -> Answer {
@@ -231,8 +232,11 @@ impl View<'_> {
             return Answer::bare(code::STILL_WAITING);
         }
         if self.is_query(slot) {
-            self.end_query(slot);
+            self.end_reader(slot);
             return Answer::granted();
+        }
+        if self.is_settled(slot) {
+            return self.commit_settled(slot);
         }
         let stamp = match self.clock().next() {
             Some(stamp) => stamp,
@@ -256,20 +260,21 @@ impl View<'_> {
             Some(slot) => slot,
             None => return Answer::bare(code::UNKNOWN_TRANSACTION),
         };
-        if self.is_query(slot) {
-            self.end_query(slot);
-        } else {
-            self.step_out(slot);
+        self.step_out(slot);
+        for lock in self.locks.chunks_exact_mut(LOCK_ROW) {
+            release(lock, slot);
+        }
+        if self.is_writing(slot) {
             self.txn_mut(slot).fill(0);
-            for lock in self.locks.chunks_exact_mut(LOCK_ROW) {
-                release(lock, slot);
-            }
+        } else {
+            self.end_reader(slot);
         }
         Answer::granted()
     }
 
-    /// A query's row goes, and so does every version that it alone read.
-    fn end_query(&mut self, slot: Slot) {
+    /// The row of one that read by its start goes, and so does every version that
+    /// it alone read, of whatever item.
+    pub(crate) fn end_reader(&mut self, slot: Slot) {
         let ended = self.start(slot);
         self.txn_mut(slot).fill(0);
         let starts = self.starts();
@@ -280,7 +285,7 @@ impl View<'_> {
 }
 
 /// Takes a slot's locks off one lock row, and its working value.
-fn release(lock: &mut [u64], slot: Slot) {
+pub(crate) fn release(lock: &mut [u64], slot: Slot) {
     if lock[EXCLUSIVE] == slot.as_holder() {
         lock[EXCLUSIVE] = 0;
         lock[WORKING] = 0;

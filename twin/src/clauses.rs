@@ -3,129 +3,11 @@
 //! A second reading beside [`good`](crate::good): it tells which clauses a
 //! table breaks, for tests, for the fuzzer's counts, and to check the fast test.
 
+pub use crate::clause::Clause;
 use crate::sizes::*;
 
 /// The most versions that a row has.
 const MOST: u64 = PLACES as u64;
-
-/// One clause of good tables.
-#[derive(Clone, Copy, Debug, PartialEq, Eq)]
-pub enum Clause {
-    Sizes,
-    LastNumber,
-    Clock,
-    FreeRow,
-    DistinctNumbers,
-    NumberGiven,
-    Kind,
-    AwaitedLock,
-    UpdateStart,
-    QueryStart,
-    QueryAwaits,
-    AwaitedItem,
-    NothingAwaited,
-    AwaitsSharedHeld,
-    AwaitsExclusiveHeld,
-    SharedHolders,
-    ExclusiveHolder,
-    BothHolders,
-    WorkingValue,
-    Quota,
-    FullAwaitsExclusive,
-    RankUnawaited,
-    RankMissing,
-    RankTwice,
-    RankGap,
-    ExchangerBehind,
-    Count,
-    UnusedPairs,
-    StampsFall,
-    FirstStamp,
-    LastStamp,
-    UnreadVersion,
-    Circle,
-}
-
-impl Clause {
-    pub const ALL: [Clause; 33] = [
-        Clause::Sizes,
-        Clause::LastNumber,
-        Clause::Clock,
-        Clause::FreeRow,
-        Clause::DistinctNumbers,
-        Clause::NumberGiven,
-        Clause::Kind,
-        Clause::AwaitedLock,
-        Clause::UpdateStart,
-        Clause::QueryStart,
-        Clause::QueryAwaits,
-        Clause::AwaitedItem,
-        Clause::NothingAwaited,
-        Clause::AwaitsSharedHeld,
-        Clause::AwaitsExclusiveHeld,
-        Clause::SharedHolders,
-        Clause::ExclusiveHolder,
-        Clause::BothHolders,
-        Clause::WorkingValue,
-        Clause::Quota,
-        Clause::FullAwaitsExclusive,
-        Clause::RankUnawaited,
-        Clause::RankMissing,
-        Clause::RankTwice,
-        Clause::RankGap,
-        Clause::ExchangerBehind,
-        Clause::Count,
-        Clause::UnusedPairs,
-        Clause::StampsFall,
-        Clause::FirstStamp,
-        Clause::LastStamp,
-        Clause::UnreadVersion,
-        Clause::Circle,
-    ];
-
-    /// The clause's name on command lines and in reports.
-    pub fn name(self) -> &'static str {
-        match self {
-            Clause::Sizes => "sizes",
-            Clause::LastNumber => "last-number",
-            Clause::Clock => "clock",
-            Clause::FreeRow => "free-row",
-            Clause::DistinctNumbers => "distinct-numbers",
-            Clause::NumberGiven => "number-given",
-            Clause::Kind => "kind",
-            Clause::AwaitedLock => "awaited-lock",
-            Clause::UpdateStart => "update-start",
-            Clause::QueryStart => "query-start",
-            Clause::QueryAwaits => "query-awaits",
-            Clause::AwaitedItem => "awaited-item",
-            Clause::NothingAwaited => "nothing-awaited",
-            Clause::AwaitsSharedHeld => "awaits-shared-held",
-            Clause::AwaitsExclusiveHeld => "awaits-exclusive-held",
-            Clause::SharedHolders => "shared-holders",
-            Clause::ExclusiveHolder => "exclusive-holder",
-            Clause::BothHolders => "both-holders",
-            Clause::WorkingValue => "working-value",
-            Clause::Quota => "quota",
-            Clause::FullAwaitsExclusive => "full-awaits-exclusive",
-            Clause::RankUnawaited => "rank-unawaited",
-            Clause::RankMissing => "rank-missing",
-            Clause::RankTwice => "rank-twice",
-            Clause::RankGap => "rank-gap",
-            Clause::ExchangerBehind => "exchanger-behind",
-            Clause::Count => "count",
-            Clause::UnusedPairs => "unused-pairs",
-            Clause::StampsFall => "stamps-fall",
-            Clause::FirstStamp => "first-stamp",
-            Clause::LastStamp => "last-stamp",
-            Clause::UnreadVersion => "unread-version",
-            Clause::Circle => "circle",
-        }
-    }
-
-    pub fn named(name: &str) -> Option<Clause> {
-        Clause::ALL.into_iter().find(|clause| clause.name() == name)
-    }
-}
 
 /// The clauses that these tables break, each once. With wrong sizes the others
 /// say nothing.
@@ -166,7 +48,7 @@ impl Tables<'_> {
                 self.txns.iter().filter(same).count() == 1
             }),
             Clause::NumberGiven => self.live(|row| row[NUMBER] <= self.last),
-            Clause::Kind => self.live(|row| row[KIND] == UPDATE || row[KIND] == QUERY),
+            Clause::Kind => self.live(|row| [UPDATE, QUERY, SETTLED].contains(&row[KIND])),
             Clause::AwaitedLock => self.live(|row| row[AWAITED_LOCK] <= AWAITS_EXCLUSIVE),
             Clause::UpdateStart => self.live(|row| row[KIND] != UPDATE || row[START] == 0),
             Clause::QueryStart => self.live(|row| row[KIND] != QUERY || row[START] <= self.clock),
@@ -235,6 +117,27 @@ impl Tables<'_> {
                 };
                 !self.holds_shared(slot, item) || !line.iter().any(passed)
             }),
+            // "Such a row holds no shared lock
+            Clause::SettledShares => self.settled(|slot, _| {
+                let mut items = 0..ITEMS;
+                !items.any(|item| self.holds_shared(slot, item))
+            }),
+            // and awaits nothing;
+            Clause::SettledAwaits => {
+                self.settled(|slot, _| self.txns[slot][AWAITED_LOCK] == AWAITS_NONE)
+            }
+            // its stamp is 1
+            Clause::SettledStampZero => self.settled(|_, stamp| stamp >= 1),
+            // to the clock,
+            Clause::SettledStampAbove => self.settled(|_, stamp| stamp <= self.clock),
+            // no other such row has it,
+            Clause::SettledStampTwice => self
+                .settled(|slot, stamp| self.settled(|other, same| other == slot || same != stamp)),
+            // and every version of an item it holds has a lower one."
+            Clause::SettledVersion => self.settled(|slot, stamp| {
+                let mut held = (0..ITEMS).filter(|&item| self.holds_exclusive(slot, item));
+                held.all(|item| self.stamps_of(item).iter().all(|&older| older < stamp))
+            }),
             Clause::Count => self
                 .versions
                 .iter()
@@ -275,12 +178,28 @@ impl Tables<'_> {
 
     /// Asks something of the stamps of every row with a count as it may be.
     fn stamps(&self, holds: impl Fn(&[u64]) -> bool) -> bool {
-        self.versions.iter().all(|row| match row[COUNT] {
+        (0..ITEMS).all(|item| {
+            let stamps = self.stamps_of(item);
+            stamps.is_empty() || holds(&stamps)
+        })
+    }
+
+    /// The stamps of an item's row; none where its count is not as it may be.
+    fn stamps_of(&self, item: usize) -> Vec<u64> {
+        let row = self.versions[item];
+        match row[COUNT] {
             count @ 1..=MOST => {
                 let pairs = row[1..].chunks(2).take(count as usize);
-                let stamps: Vec<u64> = pairs.map(|pair| pair[0]).collect();
-                holds(&stamps)
+                pairs.map(|pair| pair[0]).collect()
             }
+            _ => Vec::new(),
+        }
+    }
+
+    /// Asks something of the slot and the stamp of everyone past its writing.
+    fn settled(&self, holds: impl Fn(usize, u64) -> bool) -> bool {
+        (0..SLOTS).all(|slot| match self.txns[slot] {
+            row if row[NUMBER] != 0 && row[KIND] == SETTLED => holds(slot, row[START]),
             _ => true,
         })
     }
@@ -308,16 +227,17 @@ impl Tables<'_> {
         self.txns[slot][RANK]
     }
 
+    /// The starts of all who read by them, queries and those past their writing.
     fn starts(&self) -> Vec<u64> {
-        let queries = self
-            .txns
-            .iter()
-            .filter(|row| row[NUMBER] != 0 && row[KIND] == QUERY);
-        queries.map(|row| row[START]).collect()
+        let rows = self.txns.iter().filter(|row| row[NUMBER] != 0);
+        let readers = rows.filter(|row| row[KIND] == QUERY || row[KIND] == SETTLED);
+        readers.map(|row| row[START]).collect()
     }
 
+    /// Past its writing or not.
     fn is_live_update(&self, slot: usize) -> bool {
-        slot < SLOTS && self.txns[slot][NUMBER] != 0 && self.txns[slot][KIND] == UPDATE
+        let is_update = |kind: u64| kind == UPDATE || kind == SETTLED;
+        slot < SLOTS && self.txns[slot][NUMBER] != 0 && is_update(self.txns[slot][KIND])
     }
 
     /// The awaited lock and item of a live slot, where they are as listed.

@@ -23,7 +23,8 @@ pub(crate) fn holds(
 ) -> bool {
     match Crowd::of(txns) {
         Some(crowd) => {
-            locks_are_good(locks, crowd.updates)
+            locks_are_good(locks, crowd.updates, crowd.settled)
+                && crowd.stamps_are_ahead(locks, versions)
                 && crowd.quotas_are_kept(locks)
                 && crowd.waits_are_good(locks)
                 && versions_are_good(versions, txns[CLOCK], &crowd.starts)
@@ -35,6 +36,9 @@ pub(crate) fn holds(
 /// What the other tables are held against: who is live, and who waits.
 struct Crowd {
     updates: SlotSet,
+    /// Those past their writing, and their stamps.
+    settled: SlotSet,
+    stamps: [u64; SLOTS],
     starts: Starts,
     waiting: SlotSet,
     /// What each waiting slot awaits.
@@ -52,6 +56,8 @@ impl Crowd {
         }
         let mut crowd = Crowd {
             updates: SlotSet::EMPTY,
+            settled: SlotSet::EMPTY,
+            stamps: [0; SLOTS],
             starts: Starts::none(),
             waiting: SlotSet::EMPTY,
             awaited: [(Lock::Shared, 0); SLOTS],
@@ -77,6 +83,14 @@ impl Crowd {
             match kind {
                 UPDATE if start == 0 => crowd.updates = crowd.updates.with(slot),
                 QUERY if start <= clock && lock == AWAITS_NONE => {
+                    crowd.starts.insert(Stamp::of(start));
+                }
+                SETTLED if (1..=clock).contains(&start) && lock == AWAITS_NONE => {
+                    if crowd.stamps.contains(&start) {
+                        return None; // a stamp is taken once
+                    }
+                    crowd.stamps[slot.index()] = start;
+                    crowd.settled = crowd.settled.with(slot);
                     crowd.starts.insert(Stamp::of(start));
                 }
                 _ => return None,
@@ -105,6 +119,20 @@ impl Crowd {
             let awaits_further =
                 self.waiting.contains(slot) && self.awaited[slot.index()].0 == Lock::Exclusive;
             held[slot.as_holder() as usize] + usize::from(awaits_further) <= QUOTA
+        })
+    }
+
+    /// What one past its writing holds has only versions below its stamp: below the
+    /// first one all others are. Whom the holders' words name is known to live.
+    fn stamps_are_ahead(&self, locks: &[u64; LOCK_WORDS], versions: &[u64; VERSION_WORDS]) -> bool {
+        let rows = versions.chunks_exact(VERSION_ROW);
+        let mut held = locks.chunks_exact(LOCK_ROW).zip(rows);
+        held.all(|(lock, row)| match lock[EXCLUSIVE] {
+            0 => true,
+            holder => match self.stamps[holder as usize - 1] {
+                0 => true, // it is still writing
+                stamp => row::first_stamp(as_row(row)) < stamp,
+            },
         })
     }
 
@@ -177,8 +205,9 @@ impl Crowd {
     }
 }
 
-/// Holders are live updates, of one kind a row; no holder, no working value.
-fn locks_are_good(locks: &[u64; LOCK_WORDS], updates: SlotSet) -> bool {
+/// Holders are live updates, shared ones still writing, of one kind a row; no
+/// holder, no working value.
+fn locks_are_good(locks: &[u64; LOCK_WORDS], updates: SlotSet, settled: SlotSet) -> bool {
     locks.chunks_exact(LOCK_ROW).all(|row| {
         if row[SHARED] | row[EXCLUSIVE] | row[WORKING] == 0 {
             return true; // most rows: nobody holds it
@@ -186,7 +215,8 @@ fn locks_are_good(locks: &[u64; LOCK_WORDS], updates: SlotSet) -> bool {
         let Holders { shared, exclusive } = Holders::of(row);
         let one_kind = shared.is_empty() || exclusive.is_empty();
         let backed = row[WORKING] == 0 || !exclusive.is_empty();
-        shared.and(exclusive).is_within(updates) && one_kind && backed
+        let live = shared.is_within(updates) && exclusive.is_within(updates.and(settled));
+        live && one_kind && backed
     })
 }
 

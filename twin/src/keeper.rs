@@ -4,7 +4,7 @@ use crate::answer::Answer;
 use crate::calls;
 use crate::sizes::*;
 
-/// One of the six calls with its numbers.
+/// One of the seven calls with its numbers.
 #[derive(Clone, Copy, Debug, PartialEq, Eq)]
 pub enum Call {
     Update,
@@ -13,6 +13,7 @@ pub enum Call {
     Write { number: u64, item: u64, value: u64 },
     Commit { number: u64 },
     Abort { number: u64 },
+    Settle { number: u64 },
 }
 
 impl Call {
@@ -29,6 +30,7 @@ impl Call {
             } => calls::write(txns, locks, versions, number, item, value),
             Call::Commit { number } => calls::commit(txns, locks, versions, number),
             Call::Abort { number } => calls::abort(txns, locks, versions, number),
+            Call::Settle { number } => calls::settle(txns, locks, versions, number),
         }
     }
 
@@ -39,7 +41,8 @@ impl Call {
             Call::Read { number, .. }
             | Call::Write { number, .. }
             | Call::Commit { number }
-            | Call::Abort { number } => Some(number),
+            | Call::Abort { number }
+            | Call::Settle { number } => Some(number),
         }
     }
 
@@ -56,6 +59,7 @@ impl Call {
             } => [4, number, item, value],
             Call::Commit { number } => [5, number, 0, 0],
             Call::Abort { number } => [6, number, 0, 0],
+            Call::Settle { number } => [7, number, 0, 0],
         }
     }
 
@@ -66,8 +70,8 @@ impl Call {
         Call::each(number, item, value).get(at).copied()
     }
 
-    /// Each of the six calls with these numbers, in the order of their kinds.
-    pub fn each(number: u64, item: u64, value: u64) -> [Call; 6] {
+    /// Each of the seven calls with these numbers, in the order of their kinds.
+    pub fn each(number: u64, item: u64, value: u64) -> [Call; 7] {
         [
             Call::Update,
             Call::Query,
@@ -79,6 +83,7 @@ impl Call {
             },
             Call::Commit { number },
             Call::Abort { number },
+            Call::Settle { number },
         ]
     }
 
@@ -94,6 +99,7 @@ impl Call {
             },
             Call::Commit { .. } => Call::Commit { number },
             Call::Abort { .. } => Call::Abort { number },
+            Call::Settle { .. } => Call::Settle { number },
         }
     }
 }

@@ -1,18 +1,20 @@
 //! The twin: a second lock and version keeper, written in ordinary Rust from
 //! documents 01 and 02 alone, to be held against the proved keeper.
 //!
-//! The six calls work on three lent tables of 64-bit words, of any length and
+//! The seven calls work on three lent tables of 64-bit words, of any length and
 //! content. They need no heap.
 
 #![forbid(unsafe_code)]
 
 mod answer;
 mod calls;
+mod clause;
 mod good;
 mod ids;
 mod keeper;
 mod line;
 mod row;
+mod settled;
 mod view;
 
 pub mod clauses;
@@ -26,6 +28,6 @@ pub mod sizes;
 pub mod wrong;
 
 pub use answer::{code, Answer};
-pub use calls::{abort, begin_query, begin_update, commit, fresh, read, write};
+pub use calls::{abort, begin_query, begin_update, commit, fresh, read, settle, write};
 pub use good::good;
 pub use keeper::{Call, Keeper};

@@ -34,6 +34,7 @@ pub fn parse(line: &[u8]) -> Option<Call> {
         },
         b"commit" => Call::Commit { number: number()? },
         b"abort" => Call::Abort { number: number()? },
+        b"settle" => Call::Settle { number: number()? },
         _ => return None,
     };
     match parts.next() {
@@ -55,6 +56,7 @@ pub fn push_call(out: &mut Vec<u8>, call: Call) {
         } => push_words(out, b"write", &[number, item, value]),
         Call::Commit { number } => push_words(out, b"commit", &[number]),
         Call::Abort { number } => push_words(out, b"abort", &[number]),
+        Call::Settle { number } => push_words(out, b"settle", &[number]),
     }
 }
 

@@ -44,9 +44,11 @@ pub const AWAITED_LOCK: usize = 3;
 pub const AWAITED_ITEM: usize = 4;
 pub const RANK: usize = 5;
 
-/// Kinds of transaction.
+/// Kinds of transaction. One that is settled is an update past its writing
+/// (request E6); its start is its stamp.
 pub const UPDATE: u64 = 0;
 pub const QUERY: u64 = 1;
+pub const SETTLED: u64 = 2;
 
 /// Awaited locks.
 pub const AWAITS_NONE: u64 = 0;

@@ -140,6 +140,17 @@ impl<'a> View<'a> {
         self.txn(slot)[KIND] == QUERY
     }
 
+    /// Whether this slot has an update that has not ended its writing.
+    pub fn is_writing(&self, slot: Slot) -> bool {
+        self.txn(slot)[NUMBER] != 0 && self.txn(slot)[KIND] == UPDATE
+    }
+
+    /// Whether this slot has an update past its writing.
+    pub fn is_settled(&self, slot: Slot) -> bool {
+        self.txn(slot)[KIND] == SETTLED
+    }
+
+    /// The query's start, or the stamp of one past its writing.
     pub fn start(&self, slot: Slot) -> Stamp {
         Stamp::of(self.txn(slot)[START])
     }
@@ -150,11 +161,11 @@ impl<'a> View<'a> {
         self.locks.chunks_exact(LOCK_ROW).filter(is_held).count()
     }
 
-    /// The starts of the live queries.
+    /// The starts of all who read by them: queries, and those past their writing.
     pub fn starts(&self) -> Starts {
         let mut starts = Starts::none();
         for row in self.txns[TXN_HEAD..].chunks_exact(TXN_ROW) {
-            if row[NUMBER] != 0 && row[KIND] == QUERY {
+            if row[NUMBER] != 0 && (row[KIND] == QUERY || row[KIND] == SETTLED) {
                 starts.insert(Stamp::of(row[START]));
             }
         }

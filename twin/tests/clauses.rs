@@ -66,7 +66,7 @@ fn numbers() {
 
 #[test]
 fn kinds_and_starts() {
-    breaks(Clause::Kind, |k| *txn(k, LIVE_UPDATE, KIND) = 2);
+    breaks(Clause::Kind, |k| *txn(k, LIVE_UPDATE, KIND) = 3);
     breaks(Clause::Kind, |k| *txn(k, LIVE_UPDATE, KIND) = u64::MAX);
     breaks(Clause::UpdateStart, |k| *txn(k, LIVE_UPDATE, START) = 1);
     breaks(Clause::QueryStart, |k| *txn(k, NEW_QUERY, START) = 11);

@@ -103,6 +103,32 @@ fn the_thirty_third_write() {
     }
 }
 
+/// Kind 7 in a journal, and code 12.
+#[test]
+fn a_settle() {
+    let script = "update\nwrite 1 5 7\nsettle 1\nwrite 1 6 7\nsettle 1\ncommit 1";
+    let calls = script.lines().map(|line| script::parse(line.as_bytes()));
+    let right = Journal::of_run(calls.map(Option::unwrap));
+    assert_eq!(right.calls[2], [7, 1, 0, 0]);
+    assert_eq!(right.answers[2], [0, 0, 1, 0]);
+    assert_eq!(right.answers[3], [12, 0, 0, 0]);
+    assert_eq!(right.answers[4], [12, 0, 0, 0]);
+    assert_eq!(right.answers[5], [0, 0, 1, 0]);
+    assert_eq!(judge(&right.bytes()), Verdict::Accepted);
+    for field in [2, 3] {
+        let mut wrong = right.clone();
+        wrong.calls[2][field] = 1;
+        assert_eq!(judge(&wrong.bytes()), Verdict::Wrong(3));
+    }
+    // 8 is no kind, though its answer would be that of nothing at all.
+    let mut wrong = right.clone();
+    wrong.calls[4][0] = 8;
+    assert_eq!(judge(&wrong.bytes()), Verdict::Wrong(5));
+    let mut wrong = right;
+    wrong.answers[5][2] = 2;
+    assert_eq!(judge(&wrong.bytes()), Verdict::Wrong(6));
+}
+
 #[test]
 fn points_in_their_order() {
     let mut wrong = sample();

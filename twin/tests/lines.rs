@@ -59,11 +59,13 @@ fn calls() {
     );
     assert_eq!(script::parse(b"commit 3"), Some(Call::Commit { number }));
     assert_eq!(script::parse(b"abort 3"), Some(Call::Abort { number }));
+    assert_eq!(script::parse(b"settle 3"), Some(Call::Settle { number }));
+    assert_eq!(script::parse(b"settle 003"), Some(Call::Settle { number }));
 }
 
 #[test]
 fn bad_lines() {
-    let lines: [&[u8]; 50] = [
+    let lines: [&[u8]; 57] = [
         b"",
         b" ",
         b"\t",
@@ -114,6 +116,13 @@ fn bad_lines() {
         b"commit 1 2",
         b"abort",
         b"abort 1 ",
+        b"settle",
+        b"settle ",
+        b"settle 1 ",
+        b"settle 1 2",
+        b"settled 1",
+        b"Settle 1",
+        b"relaxed",
     ];
     for line in lines {
         assert_eq!(script::parse(line), None, "{}", line.escape_ascii());

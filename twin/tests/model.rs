@@ -10,7 +10,9 @@ use twin::{Call, Keeper};
 #[derive(Default)]
 struct Txn {
     slot: usize,
+    /// Of a query, and of one past its writing.
     start: Option<u64>,
+    is_settled: bool,
     shared: BTreeSet<u64>,
     written: BTreeMap<u64, u64>,
     awaits: Option<(bool, u64)>,
@@ -40,15 +42,25 @@ impl Model {
             Call::Commit { number } => match self.live.get(&number) {
                 None => [3, 0, 0, 0],
                 Some(txn) if txn.awaits.is_some() => [6, 0, 0, 0],
+                Some(txn) if txn.is_settled => self.put(number, txn.start.unwrap()),
                 Some(txn) if txn.start.is_some() => self.end(number),
+                Some(_) if self.clock == LAST => [9, 0, 0, 0],
+                Some(_) => {
+                    self.clock += 1;
+                    self.put(number, self.clock)
+                }
+            },
+            Call::Settle { number } => match self.live.get_mut(&number) {
+                None => [3, 0, 0, 0],
+                Some(txn) if txn.is_settled => [12, 0, 0, 0],
+                Some(txn) if txn.start.is_some() => [5, 0, 0, 0],
+                Some(txn) if txn.awaits.is_some() => [6, 0, 0, 0],
                 Some(_) if self.clock == LAST => [9, 0, 0, 0],
                 Some(txn) => {
                     self.clock += 1;
-                    for (&item, &value) in &txn.written {
-                        let history = self.history.entry(item).or_default();
-                        history.push((self.clock, value));
-                    }
-                    let _ = self.end(number);
+                    txn.start = Some(self.clock);
+                    txn.is_settled = true;
+                    txn.shared.clear();
                     [0, 0, self.clock, 0]
                 }
             },
@@ -57,6 +69,17 @@ impl Model {
                 true => self.end(number),
             },
         }
+    }
+
+    /// An update commits under this stamp, among the others where it belongs.
+    fn put(&mut self, number: u64, stamp: u64) -> [u64; 4] {
+        for (&item, &value) in &self.live[&number].written {
+            let history = self.history.entry(item).or_default();
+            history.push((stamp, value));
+            history.sort_unstable();
+        }
+        let _ = self.end(number);
+        [0, 0, stamp, 0]
     }
 
     fn begin(&mut self, start: Option<u64>) -> [u64; 4] {
@@ -90,8 +113,29 @@ impl Model {
             Some(txn) => txn,
         };
         match (txn.start, txn.awaits) {
-            (Some(_), _) if is_write => return [5, 0, 0, 0],
+            (Some(_), _) if is_write && !txn.is_settled => return [5, 0, 0, 0],
+            (Some(_), _) if txn.written.contains_key(&item) => {
+                let txn = self.live.get_mut(&number).unwrap();
+                let own = txn.written.get_mut(&item).unwrap();
+                return match value {
+                    Some(value) => {
+                        *own = value;
+                        [0, 0, 0, 0]
+                    }
+                    None => [0, *own, 0, 0],
+                };
+            }
+            (Some(_), _) if is_write => return [12, 0, 0, 0],
             (Some(start), _) => {
+                // A version is to come that belongs before this reader.
+                let comes = |other: &Txn| {
+                    other.is_settled
+                        && other.written.contains_key(&item)
+                        && other.start <= txn.start
+                };
+                if self.live.values().any(comes) {
+                    return [1, 0, 0, 0];
+                }
                 let (stamp, value) = self.at(item, start);
                 let kept = self.kept(item);
                 let place = kept.iter().position(|pair| pair.0 == stamp).unwrap();
@@ -188,7 +232,7 @@ impl Model {
         at.copied().unwrap_or((0, 0))
     }
 
-    /// The newest version and those that some live query reads, newest first.
+    /// The newest version and those that some live reader reads, newest first.
     fn kept(&self, item: u64) -> Vec<(u64, u64)> {
         let starts = self.live.values().filter_map(|txn| txn.start);
         let read = starts.map(|start| self.at(item, start));
@@ -212,7 +256,7 @@ impl Model {
                     (1 + u64::from(is_write), item, rank)
                 }
             };
-            let kind = u64::from(txn.start.is_some());
+            let kind = u64::from(txn.start.is_some()) + u64::from(txn.is_settled);
             let row = [number, kind, txn.start.unwrap_or(0), lock, item, rank];
             keeper.txns[2 + 6 * txn.slot..][..6].copy_from_slice(&row);
             for &item in &txn.shared {
@@ -276,15 +320,17 @@ fn random_call(rng: &mut Rng, model: &Model, items: u64, greedy: bool) -> Call {
             item,
             value,
         },
-        16..=18 => Call::Commit { number },
+        16..=17 => Call::Commit { number },
+        18 => Call::Settle { number },
         _ => Call::Abort { number },
     }
 }
 
 #[test]
 fn every_answer_and_every_word() {
-    let mut codes = [0; 12];
-    for seed in 0..40 {
+    let mut codes = [0; 13];
+    let mut silent = 0;
+    for seed in 0..50 {
         let mut rng = Rng::new(seed);
         let items = rng.one_of(&[1, 2, 4, 12, 64]);
         let greedy = items == 64 && rng.percent(70);
@@ -298,16 +344,18 @@ fn every_answer_and_every_word() {
             assert!(keeper == model.tables(), "seed {}, {:?}", seed, call);
             codes[answer.code as usize] += 1;
 
-            // Looked is at most 2 plus the live queries with a later start.
+            // Looked is at most 2 plus the live readers with a later start.
             let txn = call.number().and_then(|number| model.live.get(&number));
             if let (Call::Read { .. }, Some(Some(start))) = (call, txn.map(|txn| txn.start)) {
                 let starts = model.live.values().filter_map(|txn| txn.start);
                 let later = starts.filter(|other| *other > start).count() as u64;
                 assert!(answer.looked <= 2 + later);
+                silent += u64::from(answer.code == 1);
             }
         }
     }
     assert!(codes[..8].iter().all(|&count| count > 50), "{:?}", codes);
     assert_eq!(codes[8..11], [0, 0, 0]);
-    assert!(codes[11] > 50, "{:?}", codes);
+    assert!(codes[11] > 50 && codes[12] > 50, "{:?}", codes);
+    assert!(silent > 50, "{}", silent);
 }

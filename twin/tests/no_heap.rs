@@ -32,7 +32,7 @@ fn no_call_asks_for_heap() {
     let before = ASKED.with(Cell::get);
     for round in 0..100 {
         let (first, item) = (keeper.txns[0] + 1, round % 64);
-        let (second, query) = (first + 1, first + 2);
+        let (second, query, third, fourth) = (first + 1, first + 2, first + 3, first + 4);
         let value = round;
         let calls = [
             Call::Update,
@@ -68,8 +68,30 @@ fn no_call_asks_for_heap() {
                 item,
             },
             Call::Commit { number: query },
+            Call::Update,
+            Call::Update,
+            Call::Write {
+                number: third,
+                item,
+                value,
+            },
+            Call::Settle { number: third },
+            Call::Settle { number: fourth },
+            Call::Read {
+                number: fourth,
+                item,
+            },
+            Call::Write {
+                number: fourth,
+                item,
+                value,
+            },
+            Call::Commit { number: third },
+            Call::Abort { number: fourth },
         ];
-        let codes = [0, 0, 0, 0, 0, 1, 2, 0, 0, 0, 0, 0];
+        let codes = [
+            0, 0, 0, 0, 0, 1, 2, 0, 0, 0, 0, 0, 0, 0, 0, 0, 0, 1, 12, 0, 0,
+        ];
         for (call, code) in calls.into_iter().zip(codes) {
             assert_eq!(keeper.call(call).code, code);
         }

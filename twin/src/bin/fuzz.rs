@@ -39,9 +39,10 @@ fn main() {
         }
     };
     let quota = code::QUOTA_SPENT as usize;
+    let past = code::PAST_WRITING as usize;
     let summary = format!(
         "seed {}, {} rounds, {} lines, {} calls, {} cases, {} journals, \
-         code 11 in {} calls and {} cases, {:.1} seconds",
+         code 11 in {} calls and {} cases, code 12 in {} calls and {} cases, {:.1} seconds",
         options.seed,
         stats.rounds,
         stats.lines,
@@ -50,6 +51,8 @@ fn main() {
         stats.journals.judged(),
         stats.codes[quota],
         stats.case_codes[quota],
+        stats.codes[past],
+        stats.case_codes[past],
         begin.elapsed().as_secs_f64()
     );
     // Nobody may be left to read it; the status stays the same.

@@ -30,6 +30,7 @@ fn main() {
     measure(&full(), spend);
     println!("rows rewritten");
     rows(spend);
+    settles(spend);
 }
 
 /// One query is live, and nothing was ever written.
@@ -128,9 +129,50 @@ fn full_job(keeper: &mut Keeper) -> u64 {
     number
 }
 
-/// The commit of this transaction, each time on the same tables: only the call
-/// is timed, the mean and the best of short runs.
+/// A commit, a settle, and the commit past the writing, of the same update on
+/// the same tables.
+fn settles(spend: Duration) {
+    let settle = |on: &str, mut keeper: Keeper, number: u64| {
+        println!("settle beside commit: {}", on);
+        commit("commit", spend, &keeper, number);
+        once("settle", spend, &keeper, Call::Settle { number });
+        granted(&mut keeper, Call::Settle { number });
+        commit("commit past its writing", spend, &keeper, number);
+    };
+    let mut keeper = Keeper::fresh();
+    let number = small_job(&mut keeper, 0);
+    settle("one write, fresh tables", keeper, number);
+    let mut keeper = Keeper::fresh();
+    let number = small_job(&mut keeper, ITEMS as u64 - 1);
+    settle("one write and all other items shared", keeper, number);
+    let mut keeper = Keeper::fresh();
+    let number = full_job(&mut keeper);
+    settle("a full job, one version", keeper, number);
+    let mut keeper = full();
+    let number = small_job(&mut keeper, 0);
+    settle("one write, full tables", keeper, number);
+    let mut keeper = full();
+    let number = full_job(&mut keeper);
+    settle("a full job, full rows", keeper, number);
+}
+
+/// An update with one write, and so many items more that it shares.
+fn small_job(keeper: &mut Keeper, shares: u64) -> u64 {
+    let number = granted(keeper, Call::Update).number;
+    write(keeper, number, 0, 1);
+    for item in 1..=shares {
+        granted(keeper, Call::Read { number, item });
+    }
+    number
+}
+
 fn commit(name: &str, spend: Duration, start: &Keeper, number: u64) {
+    once(name, spend, start, Call::Commit { number });
+}
+
+/// A call each time on the same tables: only the call is timed, the mean and the
+/// best of short runs.
+fn once(name: &str, spend: Duration, start: &Keeper, the_call: Call) {
     const CALLS: u64 = 200;
     let mut keeper = start.clone();
     let begin = Instant::now();
@@ -139,7 +181,7 @@ fn commit(name: &str, spend: Duration, start: &Keeper, number: u64) {
         let mut run = Duration::ZERO;
         for _ in 0..CALLS {
             let call = Instant::now();
-            let answer = keeper.call(Call::Commit { number });
+            let answer = keeper.call(the_call);
             run += call.elapsed();
             assert_eq!(answer.code, code::GRANTED);
             keeper.clone_from(start);

@@ -1,20 +1,25 @@
 //! What to call next, so that much happens: moods that change, and in each the
-//! actions that lead to waits, long lines, circles, full slots, full rows and full
-//! jobs.
+//! actions that lead to waits, long lines, circles, full slots, full rows, full
+//! jobs and updates past their writing.
 
 use super::moods::Action::{self, *};
 use super::moods::{Mood, MIXED, MOODS};
 use super::scene::{Held, Scene, Txn};
-use super::{jobs, rings, waiters};
+use super::{jobs, rings, settling, waiters};
 use crate::keeper::{Call, Keeper};
 use crate::rng::Rng;
 use crate::sizes::*;
+
+/// How many calls are kept in mind.
+const ASKED: usize = 12;
 
 /// Chooses calls for the tables it is shown.
 pub struct Director {
     mood: Mood,
     left: u64,
     hot: Vec<u64>,
+    /// What readers by start asked for last.
+    asked: Vec<Call>,
 }
 
 impl Director {
@@ -23,6 +28,7 @@ impl Director {
             mood: MIXED,
             left: 0,
             hot: Vec::new(),
+            asked: Vec::new(),
         }
     }
 
@@ -39,6 +45,10 @@ impl Director {
         for _ in 0..20 {
             let action = self.choose(rng);
             if let Some(call) = self.realise(rng, &scene, action) {
+                if let QueryMeets | SettledReads = action {
+                    self.asked.truncate(ASKED - 1);
+                    self.asked.insert(0, call);
+                }
                 return call;
             }
         }
@@ -94,14 +104,26 @@ impl Director {
             Stray => {
                 let txn = scene.pick(rng, |txn| txn.awaits.is_some())?;
                 let (is_write, awaited) = txn.awaits?;
-                match (rng.below(4), is_write) {
+                match (rng.below(5), is_write) {
                     (0, _) => Some(commit(txn)),
+                    (4, _) => Some(settle(txn)),
                     (1, true) => Some(read(txn, awaited)),
                     (1, false) => Some(write(rng, txn, awaited)),
                     (2, _) => Some(read(txn, item)),
                     _ => Some(write(rng, txn, item)),
                 }
             }
+            Settle => settling::settle_some(rng, scene),
+            SettleRefused => settling::refused(rng, scene),
+            SettledReads => settling::read_by_settled(rng, scene, item),
+            SettledWrites => settling::write_by_settled(rng, scene, item),
+            SettledEnds => settling::end(rng, scene),
+            QueryMeets => settling::read_by_query(rng, scene),
+            UpdateMeets => settling::meet(rng, scene),
+            ReadAgain => settling::again(rng, scene, &self.asked),
+            Several => settling::several(rng, scene),
+            All => settling::all(rng, scene),
+            SettledRows => settling::rows(rng, scene, &self.hot),
             CommitUpdate => Some(commit(scene.pick(rng, Txn::is_idle)?)),
             AbortUpdate => Some(abort(scene.pick(rng, |txn| !txn.is_query)?)),
             QueryRead => Some(read(scene.pick(rng, |txn| txn.is_query)?, item)),
@@ -167,7 +189,7 @@ impl Director {
         }
         let clock = scene.clock();
         let room = SLOTS - scene.live().len();
-        let at_clock = scene.count(|txn| txn.start == clock) > 0;
+        let at_clock = scene.count(|txn| txn.is_query && txn.start == clock) > 0;
         match (room, at_clock) {
             (0, _) => self.realise(rng, scene, EndQuery),
             (1, _) => match rng.below(12) {
@@ -218,6 +240,11 @@ pub fn abort(txn: Txn) -> Call {
     Call::Abort { number }
 }
 
+pub fn settle(txn: Txn) -> Call {
+    let number = txn.number;
+    Call::Settle { number }
+}
+
 /// A number that was never given, is not live any more, or is a live one with
 /// something on top.
 fn unknown_number(rng: &mut Rng, scene: &Scene, item: u64) -> Call {
@@ -230,7 +257,7 @@ fn unknown_number(rng: &mut Rng, scene: &Scene, item: u64) -> Call {
         _ => rng.within(0, scene.last()),
     };
     let value = rng.odd_word();
-    match rng.below(4) {
+    match rng.below(5) {
         0 => Call::Read { number, item },
         1 => Call::Write {
             number,
@@ -238,6 +265,7 @@ fn unknown_number(rng: &mut Rng, scene: &Scene, item: u64) -> Call {
             value,
         },
         2 => Call::Commit { number },
+        3 => Call::Settle { number },
         _ => Call::Abort { number },
     }
 }

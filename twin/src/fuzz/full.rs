@@ -108,23 +108,33 @@ fn chain(rng: &mut Rng, keeper: &mut Keeper, slots: &[usize]) -> Call {
     asks(rng, keeper, chain[count - 1], lock, item(asked) as u64)
 }
 
-/// Queries in all slots, or in all but that of an update, each with a version of
-/// its own in most rows. The update commits, or a query reads or ends.
+/// Readers in all slots, or in all but that of an update, each with a version of
+/// its own in most rows. Some of them, or all, are past their writing, and so may
+/// the update be. The update commits, or a reader reads or ends.
 fn rows(rng: &mut Rng, keeper: &mut Keeper, slots: &[usize]) -> Call {
     let clock = keeper.txns[CLOCK];
     let (updates, queries) = slots.split_at(rng.index(2));
     // Two stamps for each query: its start, and one that is between two starts.
     let start = |place: usize| clock - 3 * place as u64 - 1;
+    let settled = rng.one_of(&[0, 0, 50, 100]);
     for (place, &slot) in queries.iter().enumerate() {
         let row = row_of(&mut keeper.txns, slot);
-        row[KIND] = QUERY;
+        row[KIND] = match rng.percent(settled) {
+            true => SETTLED,
+            false => QUERY,
+        };
         row[START] = start(place);
+    }
+    // Its stamp is above all that is there, so nothing newer is.
+    let is_past = rng.percent(40);
+    if let (Some(&slot), true) = (updates.first(), is_past) {
+        row_of(&mut keeper.txns, slot)[KIND..=START].copy_from_slice(&[SETTLED, clock]);
     }
     for row in keeper.versions.chunks_mut(VERSION_ROW) {
         if rng.percent(20) {
             continue;
         }
-        let has_newer = queries.len() < PLACES && rng.percent(50);
+        let has_newer = queries.len() < PLACES && !is_past && rng.percent(50);
         let newer = Some(clock).filter(|_| has_newer);
         let older = (0..queries.len()).map(|place| start(place) - rng.below(3));
         let stamps: Vec<u64> = newer.into_iter().chain(older).collect();
@@ -146,7 +156,10 @@ fn rows(rng: &mut Rng, keeper: &mut Keeper, slots: &[usize]) -> Call {
             }
         }
         (None, 0) => rng.one_of(&[Call::Update, Call::Query]),
-        (_, 1) => Call::Commit { number: query },
+        (_, 1) => rng.one_of(&[
+            Call::Commit { number: query },
+            Call::Abort { number: query },
+        ]),
         _ => Call::Read {
             number: query,
             item,

@@ -4,7 +4,7 @@ use crate::protocol::Tables;
 use crate::sizes::*;
 
 /// What is counted, and whether tables are so.
-const KINDS: [(&str, fn(&Tables) -> bool); 8] = [
+const KINDS: [(&str, fn(&Tables) -> bool); 14] = [
     ("every slot live", |t| rows(t).all(|row| row[NUMBER] != 0)),
     ("every slot a query", |t| {
         rows(t).all(|row| row[NUMBER] != 0 && row[KIND] == QUERY)
@@ -28,7 +28,41 @@ const KINDS: [(&str, fn(&Tables) -> bool); 8] = [
     ("an item of the last slot alone", |t| {
         locks(t).any(|row| row[EXCLUSIVE] == SLOTS as u64)
     }),
+    ("one past its writing", |t| settled(t) == 1),
+    ("more than one past its writing", |t| settled(t) > 1),
+    ("every slot past its writing", |t| settled(t) == SLOTS),
+    ("an item of one past its writing", |t| {
+        locks(t).any(|row| row[EXCLUSIVE] != 0 && is_settled(holder(t, row)))
+    }),
+    ("32 items of one past its writing", |t| {
+        let held = |slot: usize| {
+            let holds = |row: &&[u64]| row[EXCLUSIVE] == slot as u64 + 1;
+            locks(t).filter(holds).count()
+        };
+        let mut slots = rows(t).enumerate();
+        slots.any(|(slot, row)| is_settled(row) && held(slot) == QUOTA)
+    }),
+    ("a query's start one's stamp", |t| {
+        let is_start = |stamp: u64| {
+            let same = |row: &[u64]| row[NUMBER] != 0 && row[KIND] == QUERY && row[START] == stamp;
+            rows(t).any(same)
+        };
+        rows(t).any(|row| is_settled(row) && is_start(row[START]))
+    }),
 ];
+
+fn is_settled(row: &[u64]) -> bool {
+    row[NUMBER] != 0 && row[KIND] == SETTLED
+}
+
+fn settled(t: &Tables) -> usize {
+    rows(t).filter(|row| is_settled(row)).count()
+}
+
+/// The row of who holds an item exclusively.
+fn holder<'a>(t: &'a Tables, lock: &[u64]) -> &'a [u64] {
+    &t.txns[TXN_HEAD + (lock[EXCLUSIVE] as usize - 1) * TXN_ROW..][..TXN_ROW]
+}
 
 fn rows(t: &Tables) -> impl Iterator<Item = &[u64]> {
     t.txns[TXN_HEAD..].chunks(TXN_ROW)

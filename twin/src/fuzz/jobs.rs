@@ -1,7 +1,7 @@
 //! Jobs at the limit: updates that hold 31 or 32 items exclusively, how they
 //! come to that, and what they and others do then.
 
-use super::director::{abort, commit, read, write};
+use super::director::{abort, commit, read, settle, write};
 use super::scene::{Held, Scene, Txn};
 use crate::keeper::Call;
 use crate::rng::Rng;
@@ -60,6 +60,7 @@ pub fn at_limit(rng: &mut Rng, scene: &Scene) -> Option<Call> {
         9..=11 => rewrite(rng, scene, job),
         12..=16 => Some(read(job, rng.below(ITEMS as u64))),
         17 => Some(write(rng, job, ITEMS as u64)),
+        18 if rng.percent(50) => Some(settle(job)),
         18 => Some(commit(job)),
         _ => Some(abort(job)),
     }

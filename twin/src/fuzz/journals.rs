@@ -157,7 +157,7 @@ fn unused(rng: &mut Rng, file: &mut Damaged) {
     let is_unused = |words: &[u64; 4], field: usize| match words[0] {
         1 | 2 => field > 0,
         3 => field == 3,
-        5 | 6 => field > 1,
+        5..=7 => field > 1,
         _ => false,
     };
     let calls = file.journal.calls.iter().enumerate();

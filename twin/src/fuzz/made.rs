@@ -11,8 +11,15 @@ use crate::sizes::*;
 pub fn made(rng: &mut Rng) -> Keeper {
     let mut keeper = Keeper::fresh();
     transactions(rng, &mut keeper);
+    starts_at_stamps(rng, &mut keeper);
+    let settled = slots(&keeper, SETTLED);
+    let theirs = rng.one_of(&[0, 10, 40, 90]);
     for item in 0..ITEMS {
-        versions(rng, &mut keeper, item);
+        let owner = rng.pick(&settled).filter(|_| rng.percent(theirs));
+        versions(rng, &mut keeper, item, owner);
+        if let Some(slot) = owner {
+            take(rng, &mut keeper, item, slot);
+        }
     }
     let updates: Vec<usize> = slots(&keeper, UPDATE);
     if !updates.is_empty() {
@@ -25,6 +32,7 @@ pub fn made(rng: &mut Rng) -> Keeper {
         };
         for item in 0..ITEMS {
             match rng.pick(&greedy) {
+                _ if keeper.locks[item * LOCK_ROW + EXCLUSIVE] != 0 => {}
                 Some(slot) if rng.percent(90) => take(rng, &mut keeper, item, slot),
                 _ if rng.percent(busy) => lock(rng, &mut keeper, item, &updates),
                 _ => {}
@@ -81,6 +89,7 @@ fn transactions(rng: &mut Rng, keeper: &mut Keeper) {
     let live = rng.one_of(&[0, 20, 50, 80, 95, 100]);
     let queries = rng.one_of(&[0, 10, 50, 90, 100]);
     let near = rng.one_of(&[0, 3, 20, 200, LAST]);
+    let settled = rng.one_of(&[0, 0, 10, 40, 100]);
     for slot in 0..SLOTS {
         if !rng.percent(live) {
             continue;
@@ -98,32 +107,58 @@ fn transactions(rng: &mut Rng, keeper: &mut Keeper) {
             row[KIND] = QUERY;
             row[START] = clock - rng.within(0, clock.min(near));
         }
+        let stamp = clock - rng.within(0, clock.min(near.max(40)));
+        if stamp > 0 && rng.percent(settled) && !is_taken(keeper, stamp) {
+            let row = &mut keeper.txns[TXN_HEAD + slot * TXN_ROW..][..TXN_ROW];
+            row[KIND] = SETTLED;
+            row[START] = stamp;
+        }
     }
 }
 
-/// Stamps at, before and after the starts, and of these what is to be kept.
-fn versions(rng: &mut Rng, keeper: &mut Keeper, item: usize) {
-    let clock = keeper.txns[CLOCK];
-    let queries = slots(keeper, QUERY);
-    let starts: Vec<u64> = queries
-        .iter()
+/// Some queries begin right at the stamp of one past its writing.
+fn starts_at_stamps(rng: &mut Rng, keeper: &mut Keeper) {
+    let stamps: Vec<u64> = slots(keeper, SETTLED)
+        .into_iter()
         .map(|slot| keeper.txns[TXN_HEAD + slot * TXN_ROW + START])
         .collect();
-    let earliest = starts.iter().copied().min().unwrap_or(clock);
+    let chance = rng.one_of(&[0, 30, 80]);
+    for slot in slots(keeper, QUERY) {
+        if let (Some(stamp), true) = (rng.pick(&stamps), rng.percent(chance)) {
+            keeper.txns[TXN_HEAD + slot * TXN_ROW + START] = stamp;
+        }
+    }
+}
+
+/// Whether one past its writing has this stamp.
+fn is_taken(keeper: &Keeper, stamp: u64) -> bool {
+    let mut rows = keeper.txns[TXN_HEAD..].chunks(TXN_ROW);
+    rows.any(|row| row[KIND] == SETTLED && row[START] == stamp)
+}
+
+/// Stamps at, before and after the starts, and of these what is to be kept. Where
+/// one past its writing owns the item all are below its stamp.
+fn versions(rng: &mut Rng, keeper: &mut Keeper, item: usize, owner: Option<usize>) {
+    let start = |slot: usize| keeper.txns[TXN_HEAD + slot * TXN_ROW + START];
+    let last = owner.map_or(keeper.txns[CLOCK], |slot| start(slot) - 1);
+    let readers = [slots(keeper, QUERY), slots(keeper, SETTLED)].concat();
+    let starts: Vec<u64> = readers.into_iter().map(start).collect();
+    let earliest = starts.iter().copied().min().unwrap_or(last).min(last);
     let oldest = earliest - rng.one_of(&[0, 1, 5, earliest]).min(earliest);
     let mut stamps = vec![oldest];
     if rng.percent(20) {
-        stamps.extend(&starts); // each query has a version of its own
+        // each reader has a version of its own
+        stamps.extend(starts.iter().filter(|start| **start <= last));
     }
     for _ in 0..rng.one_of(&[0, 1, 4, 20, 60]) {
-        let near = rng.pick(&starts).unwrap_or(clock);
+        let near = rng.pick(&starts).unwrap_or(last);
         let stamp = match rng.below(4) {
             0 => near,
             1 => near + 1,
             2 => near.saturating_sub(rng.below(4)),
-            _ => rng.within(oldest, clock),
+            _ => rng.within(oldest, last),
         };
-        stamps.push(stamp.max(oldest).min(clock));
+        stamps.push(stamp.max(oldest).min(last));
     }
     stamps.sort_unstable_by(|one, other| other.cmp(one));
     stamps.dedup();
@@ -133,7 +168,7 @@ fn versions(rng: &mut Rng, keeper: &mut Keeper, item: usize) {
     let mut kept = stamps.clone();
     kept.retain(|stamp| *stamp == newest || read.contains(stamp));
     if kept.len() > PLACES {
-        kept.remove(0); // the queries read as many, so the newest is in excess
+        kept.remove(0); // the readers read as many, so the newest is in excess
     }
     let row = &mut keeper.versions[item * VERSION_ROW..][..VERSION_ROW];
     row.fill(0);

@@ -43,6 +43,25 @@ pub enum Action {
     InLine,
     /// The next step towards an exchanger that passes waiters.
     Pass,
+    /// An update ends its writing.
+    Settle,
+    /// One that may not asks to.
+    SettleRefused,
+    /// One past its writing reads, writes or ends.
+    SettledReads,
+    SettledWrites,
+    SettledEnds,
+    /// A query, or an update, asks for what one past its writing holds.
+    QueryMeets,
+    UpdateMeets,
+    /// A query, or one past its writing, reads what it read not long ago.
+    ReadAgain,
+    /// The next step towards several past their writing, with items of their own.
+    Several,
+    /// The next step towards as many as there are slots.
+    All,
+    /// The next step towards rows with many versions that such readers read.
+    SettledRows,
 }
 
 use Action::*;
@@ -69,6 +88,11 @@ pub const MIXED: Mood = (
         (UnknownNumber, 2),
         (Chain, 3),
         (Close, 4),
+        (Settle, 3),
+        (SettledReads, 3),
+        (SettledWrites, 1),
+        (SettledEnds, 2),
+        (QueryMeets, 2),
     ],
 );
 const HOT: Mood = (
@@ -85,6 +109,9 @@ const HOT: Mood = (
         (AbortUpdate, 2),
         (QueryRead, 3),
         (EndQuery, 1),
+        (Settle, 1),
+        (SettledReads, 1),
+        (SettledEnds, 1),
         (Close, 4),
     ],
 );
@@ -100,6 +127,7 @@ const CIRCLES: Mood = (
         (CommitUpdate, 1),
         (AbortUpdate, 1),
         (EndQuery, 4),
+        (SettledEnds, 3),
     ],
 );
 const RINGS: Mood = (
@@ -135,6 +163,7 @@ const JOBS: Mood = (
         (Close, 2),
         (QueryRead, 3),
         (EndQuery, 3),
+        (SettledEnds, 3),
     ],
 );
 /// Two full jobs leave nothing to others, so both have to be quick.
@@ -146,6 +175,7 @@ const TWO_JOBS: Mood = (
         (BesideFull, 2),
         (Retry, 2),
         (EndQuery, 2),
+        (SettledEnds, 2),
     ],
 );
 const LINES: Mood = (
@@ -158,6 +188,7 @@ const LINES: Mood = (
         (Close, 4),
         (Upgrade, 2),
         (EndQuery, 10),
+        (SettledEnds, 8),
     ],
 );
 const PASSES: Mood = (
@@ -169,6 +200,50 @@ const PASSES: Mood = (
         (CommitUpdate, 2),
         (Close, 2),
         (EndQuery, 6),
+        (SettledEnds, 5),
+    ],
+);
+const SETTLED: Mood = (
+    6,
+    &[
+        (Several, 40),
+        (SettledReads, 20),
+        (SettledWrites, 10),
+        (SettledEnds, 8),
+        (QueryMeets, 16),
+        (ReadAgain, 10),
+        (UpdateMeets, 6),
+        (SettleRefused, 4),
+        (Read, 6),
+        (Write, 4),
+        (Retry, 6),
+        (Query, 4),
+        (EndQuery, 6),
+        (CommitUpdate, 4),
+        (AbortUpdate, 1),
+    ],
+);
+const ALL_SETTLED: Mood = (
+    8,
+    &[
+        (All, 60),
+        (SettledReads, 8),
+        (SettledWrites, 4),
+        (ReadAgain, 2),
+        (SettleRefused, 1),
+        (SettledEnds, 1),
+    ],
+);
+const SETTLED_ROWS: Mood = (
+    3,
+    &[
+        (SettledRows, 60),
+        (SettledReads, 12),
+        (QueryRead, 4),
+        (SettledWrites, 1),
+        (SettledEnds, 1),
+        (EndQuery, 1),
+        (QueryMeets, 2),
     ],
 );
 const CROWD: Mood = (
@@ -197,6 +272,10 @@ const REFUSED: Mood = (
         (QueryWrite, 12),
         (HighItem, 12),
         (UnknownNumber, 16),
+        (Settle, 2),
+        (SettleRefused, 8),
+        (SettledWrites, 6),
+        (SettledEnds, 2),
         (CommitUpdate, 2),
         (EndQuery, 2),
     ],
@@ -209,11 +288,32 @@ const DRAIN: Mood = (
         (AbortUpdate, 6),
         (EndQuery, 10),
         (QueryRead, 4),
+        (SettledEnds, 8),
+        (SettledReads, 3),
     ],
 );
 
 /// Some moods are more fruitful than others.
-pub const MOODS: [Mood; 16] = [
-    MIXED, MIXED, HOT, HOT, CIRCLES, CIRCLES, RINGS, LINES, LINES, PASSES, ROWS, JOBS, TWO_JOBS,
-    CROWD, REFUSED, DRAIN,
+pub const MOODS: [Mood; 21] = [
+    MIXED,
+    MIXED,
+    HOT,
+    HOT,
+    CIRCLES,
+    CIRCLES,
+    RINGS,
+    RINGS,
+    LINES,
+    LINES,
+    PASSES,
+    ROWS,
+    JOBS,
+    TWO_JOBS,
+    SETTLED,
+    SETTLED,
+    ALL_SETTLED,
+    SETTLED_ROWS,
+    CROWD,
+    REFUSED,
+    DRAIN,
 ];

@@ -60,8 +60,8 @@ fn numbers(line: &[u8]) -> Vec<&[u8]> {
 fn another_kind(rng: &mut Rng, line: &[u8]) -> Vec<u8> {
     let kind = match rng.below(3) {
         0 => 0,
-        1 => 7,
-        _ => rng.odd_word().max(7),
+        1 => 8,
+        _ => rng.odd_word().max(8),
     };
     let kind = kind.to_string();
     let mut numbers = numbers(line);

@@ -12,7 +12,7 @@ use crate::sizes::*;
 /// of waits grows over all of them, and its end asks for what its first one holds.
 pub fn ring(rng: &mut Rng, scene: &Scene) -> Option<Call> {
     // Who waits and holds nothing is never waited for.
-    let useless = |txn: &Txn| txn.is_query || txn.awaits.is_some() && !scene.holds_any(txn);
+    let useless = |txn: &Txn| !txn.is_writing() || txn.awaits.is_some() && !scene.holds_any(txn);
     if let Some(txn) = scene.pick(rng, useless) {
         return Some(abort(txn));
     }

@@ -10,6 +10,8 @@ pub struct Txn {
     pub slot: usize,
     pub number: u64,
     pub is_query: bool,
+    /// Whether it is an update past its writing.
+    pub is_settled: bool,
     pub start: u64,
     /// Whether an exclusive lock is awaited, and on which item.
     pub awaits: Option<(bool, u64)>,
@@ -18,9 +20,14 @@ pub struct Txn {
 }
 
 impl Txn {
-    /// An update that may make any call.
+    /// An update that has not ended its writing.
+    pub fn is_writing(&self) -> bool {
+        !self.is_query && !self.is_settled
+    }
+
+    /// Such an update that may make any call.
     pub fn is_idle(&self) -> bool {
-        !self.is_query && self.awaits.is_none()
+        self.is_writing() && self.awaits.is_none()
     }
 
     pub fn bit(&self) -> u64 {
@@ -48,6 +55,7 @@ impl<'a> Scene<'a> {
             slot: 0,
             number: 0,
             is_query: false,
+            is_settled: false,
             start: 0,
             awaits: None,
             rank: 0,
@@ -63,6 +71,7 @@ impl<'a> Scene<'a> {
                 slot,
                 number: row[NUMBER],
                 is_query: row[KIND] == QUERY,
+                is_settled: row[KIND] == SETTLED,
                 start: row[START],
                 awaits: match row[AWAITED_LOCK] {
                     AWAITS_NONE => None,
@@ -148,6 +157,13 @@ impl<'a> Scene<'a> {
 
     pub fn holds_any(&self, txn: &Txn) -> bool {
         (0..ITEMS as u64).any(|item| self.held(txn, item) != Held::Nothing)
+    }
+
+    /// The live transaction that holds an item exclusively.
+    pub fn exclusive_holder(&self, item: u64) -> Option<Txn> {
+        let (_, exclusive) = self.holders(item);
+        let holds = |txn: &&Txn| exclusive & txn.bit() != 0;
+        self.live().iter().find(holds).copied()
     }
 
     pub fn version_count(&self, item: usize) -> u64 {

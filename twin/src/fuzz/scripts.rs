@@ -323,12 +323,12 @@ mod tests {
     #[test]
     fn the_steered_answers_are_the_runners() {
         let mut stats = Stats::new();
-        for seed in 0..30 {
+        for seed in 0..40 {
             let script = make(&mut Rng::new(seed), &mut stats, 0);
             assert!(script.own_mistake.is_none());
             assert!(answers(&script.input) == script.expected, "seed {}", seed);
         }
-        for code in (0..8).chain([code::QUOTA_SPENT as usize]) {
+        for code in (0..8).chain([code::QUOTA_SPENT as usize, code::PAST_WRITING as usize]) {
             assert!(stats.codes[code] > 100, "code {}", code);
         }
         // Every place in a row, every length of a line and of a circle.
@@ -336,6 +336,11 @@ mod tests {
         assert!(stats.in_line.lengths().all(|(_, count)| count > 10));
         assert!(stats.circles[2..].iter().all(|&count| count > 0));
         assert!(stats.circles[SLOTS] > 10);
+        // All that those past their writing can do while the clock is not spent.
+        for (name, count) in stats.settled.in_scripts() {
+            assert!(count > 20, "{}: {}", name, count);
+        }
+        assert!(stats.settled.crowds().all(|(_, count)| count > 5));
     }
 
     #[test]

@@ -239,12 +239,14 @@ fn word_with_suffix(rng: &mut Rng, line: &[u8]) -> Vec<u8> {
 }
 
 fn another_word(rng: &mut Rng, line: &[u8]) -> Vec<u8> {
-    let words: [&[u8]; 10] = [
+    let words: [&[u8]; 12] = [
         b"begin",
         b"get",
         b"put",
         b"end",
         b"rollback",
+        b"relaxed",
+        b"lockpoint",
         b"bad",
         b"0",
         b"",

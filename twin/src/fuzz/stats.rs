@@ -1,9 +1,7 @@
 //! What occurred, counted.
 
-use std::fmt;
-
 use super::scene::{Held, Scene, Txn};
-use super::{damage, fullness, in_line, journals, limit, odd_cases, spoil};
+use super::{damage, fullness, in_line, journals, limit, odd_cases, settled, spoil};
 use crate::answer::{code, Answer};
 use crate::clauses::Clause;
 use crate::keeper::{Call, Keeper};
@@ -35,7 +33,7 @@ enum Event {
 }
 
 /// What the events are printed as, in their order.
-const EVENTS: [&str; 20] = [
+pub(super) const EVENTS: [&str; 20] = [
     "waits begun",
     "waits repeated",
     "grants after a wait",
@@ -69,6 +67,7 @@ pub struct Before {
     value: Option<u64>,
     at_limit: Option<limit::Standing>,
     in_line: Option<in_line::Standing>,
+    settled: Option<settled::Standing>,
 }
 
 impl Before {
@@ -85,6 +84,7 @@ impl Before {
             value: caller.map(|txn| waited_value[txn.slot]),
             at_limit: None,
             in_line: None,
+            settled: caller.map(|txn| settled::Standing::of(&scene, &txn, call)),
         };
         let item = match call {
             Call::Read { item, .. } | Call::Write { item, .. } => item,
@@ -100,7 +100,7 @@ impl Before {
             before.written = scene.exclusives(&txn);
             before.versions = (0..ITEMS).map(|item| scene.version_count(item)).sum();
         }
-        if let Some(txn) = caller.filter(|txn| !txn.is_query) {
+        if let Some(txn) = caller.filter(Txn::is_writing) {
             before.at_limit = Some(limit::Standing::of(&scene, &txn, call, before.held));
             before.in_line = in_line::Standing::of(&scene, &txn, call);
         }
@@ -114,21 +114,23 @@ pub struct Stats {
     pub lines: u64,
     pub calls: u64,
     pub codes: [u64; code::NAMES.len()],
-    events: [u64; EVENTS.len()],
-    at_limit: limit::Counts,
+    pub(super) events: [u64; EVENTS.len()],
+    pub(super) at_limit: limit::Counts,
     pub in_line: in_line::Counts,
+    pub settled: settled::Counts,
     pub looked: [u64; PLACES + 1],
     pub circles: [u64; SLOTS + 1],
-    full_rows: u64,
+    pub(super) full_rows: u64,
     /// For each kind of odd line: how many, and how many of them bad.
-    odd_lines: [(u64, u64); spoil::KINDS.len()],
+    pub(super) odd_lines: [(u64, u64); spoil::KINDS.len()],
     pub unended_scripts: u64,
     pub empty_scripts: u64,
     pub cases: u64,
     pub case_codes: [u64; code::NAMES.len()],
     pub fullness: fullness::Counts,
+    pub case_settled: settled::Counts,
     /// For each kind of odd case line: how many, and how many of them bad.
-    odd_cases: [(u64, u64); odd_cases::KINDS.len()],
+    pub(super) odd_cases: [(u64, u64); odd_cases::KINDS.len()],
     /// For each kind of damage: how many, and how many of them answered 10.
     pub damages: [(u64, u64); damage::KINDS.len()],
     /// For each clause: in how many cases broken, and broken alone.
@@ -147,6 +149,7 @@ impl Stats {
             events: [0; EVENTS.len()],
             at_limit: limit::Counts::default(),
             in_line: in_line::Counts::default(),
+            settled: settled::Counts::default(),
             looked: [0; PLACES + 1],
             circles: [0; SLOTS + 1],
             full_rows: 0,
@@ -156,6 +159,7 @@ impl Stats {
             cases: 0,
             case_codes: [0; code::NAMES.len()],
             fullness: fullness::Counts::default(),
+            case_settled: settled::Counts::default(),
             odd_cases: [(0, 0); odd_cases::KINDS.len()],
             damages: [(0, 0); damage::KINDS.len()],
             clauses: [(0, 0); Clause::ALL.len()],
@@ -168,6 +172,7 @@ impl Stats {
     pub fn new_script(&mut self) {
         self.waited_value = [0; SLOTS];
         self.at_limit.new_script();
+        self.settled.begin_anew();
     }
 
     pub fn before(&self, keeper: &Keeper, call: Call) -> Before {
@@ -202,9 +207,15 @@ impl Stats {
         if let Some(standing) = before.in_line {
             self.in_line.see(call, standing, answer);
         }
+        if let Some(standing) = &before.settled {
+            self.settled.see(call, standing, answer, after);
+        }
         match (call, answer.code) {
             (Call::Read { .. }, code::GRANTED) => self.see_read(&txn, before, answer),
+            // Of those past their writing the counts above tell.
+            _ if txn.is_settled => {}
             (Call::Write { value, .. }, code::GRANTED) => self.see_write(&txn, before, value),
+            (Call::Read { .. }, code::WAIT) if txn.is_query => {}
             (Call::Read { item, .. }, code::WAIT | code::DEADLOCK) => {
                 self.see_conflict(&txn, before, answer, Scene::of(after), (false, item));
             }
@@ -250,7 +261,7 @@ impl Stats {
 
     fn see_read(&mut self, txn: &Txn, before: &Before, answer: Answer) {
         self.looked[answer.looked as usize] += 1;
-        if txn.is_query {
+        if !txn.is_writing() {
             return;
         }
         if txn.awaits.is_some() {
@@ -305,94 +316,4 @@ impl Default for Stats {
     fn default() -> Stats {
         Stats::new()
     }
-}
-
-impl fmt::Display for Stats {
-    fn fmt(&self, out: &mut fmt::Formatter) -> fmt::Result {
-        if self.lines > 0 || self.cases == 0 {
-            self.show_scripts(out)?;
-        }
-        if self.cases > 0 {
-            self.show_cases(out)?;
-        }
-        write!(out, "{}", self.journals)
-    }
-}
-
-impl Stats {
-    fn show_scripts(&self, out: &mut fmt::Formatter) -> fmt::Result {
-        writeln!(out, "scripts")?;
-        show(out, "lines", self.lines)?;
-        show(out, "calls", self.calls)?;
-        show(out, "empty scripts", self.empty_scripts)?;
-        show(out, "scripts without a last line end", self.unended_scripts)?;
-        show_codes(out, &self.codes)?;
-        writeln!(out, "  events")?;
-        for (name, &count) in EVENTS.iter().zip(&self.events) {
-            show(out, &format!("  {}", name), count)?;
-        }
-        show(out, "  commits with a full row of versions", self.full_rows)?;
-        writeln!(out, "  updates with as many items as they may write")?;
-        for (name, count) in self.at_limit.each() {
-            show(out, &format!("  {}", name), count)?;
-        }
-        writeln!(out, "  waiters in line")?;
-        for (name, count) in self.in_line.each() {
-            show(out, &format!("  {}", name), count)?;
-        }
-        writeln!(out, "  new waits by length of the line")?;
-        for (length, count) in self.in_line.lengths() {
-            show(out, &format!("  {}", length), count)?;
-        }
-        writeln!(out, "  deadlocks by length of the circle")?;
-        for (length, &count) in self.circles.iter().enumerate() {
-            if length >= 2 || count > 0 {
-                show(out, &format!("  {}", length), count)?;
-            }
-        }
-        writeln!(out, "  looked")?;
-        for (looked, &count) in self.looked.iter().enumerate() {
-            show(out, &format!("  {}", looked), count)?;
-        }
-        writeln!(out, "  odd lines, and those of them answered bad")?;
-        for ((name, _), &(count, bad)) in spoil::KINDS.iter().zip(&self.odd_lines) {
-            writeln!(out, "    {:<40} {:>10} {:>10}", name, count, bad)?;
-        }
-        Ok(())
-    }
-
-    fn show_cases(&self, out: &mut fmt::Formatter) -> fmt::Result {
-        writeln!(out, "tables set beforehand")?;
-        show(out, "cases", self.cases)?;
-        show_codes(out, &self.case_codes)?;
-        writeln!(out, "  good tables with")?;
-        for (name, count) in self.fullness.each() {
-            show(out, &format!("  {}", name), count)?;
-        }
-        writeln!(out, "  damages, and those of them answered 10")?;
-        for ((name, _), &(count, bad)) in damage::KINDS.iter().zip(&self.damages) {
-            writeln!(out, "    {:<40} {:>10} {:>10}", name, count, bad)?;
-        }
-        writeln!(out, "  odd lines, and those of them answered bad")?;
-        for ((name, _), &(count, bad)) in odd_cases::KINDS.iter().zip(&self.odd_cases) {
-            writeln!(out, "    {:<40} {:>10} {:>10}", name, count, bad)?;
-        }
-        writeln!(out, "  clauses broken, and broken alone")?;
-        for (clause, &(count, alone)) in Clause::ALL.iter().zip(&self.clauses) {
-            writeln!(out, "    {:<40} {:>10} {:>10}", clause.name(), count, alone)?;
-        }
-        Ok(())
-    }
-}
-
-fn show(out: &mut fmt::Formatter, name: &str, count: u64) -> fmt::Result {
-    writeln!(out, "  {:<42} {:>10}", name, count)
-}
-
-fn show_codes(out: &mut fmt::Formatter, codes: &[u64]) -> fmt::Result {
-    writeln!(out, "  codes")?;
-    for (code, (name, &count)) in code::NAMES.iter().zip(codes).enumerate() {
-        show(out, &format!("  {:>2} {}", code, name), count)?;
-    }
-    Ok(())
 }

@@ -205,7 +205,7 @@ impl WrongKeeper {
                 .locks
                 .chunks(LOCK_ROW)
                 .any(|row| row[EXCLUSIVE] == holder);
-            if !view.is_query(slot) && view.awaited(slot).is_none() && !wrote {
+            if view.is_writing(slot) && view.awaited(slot).is_none() && !wrote {
                 let _ = view.abort(number);
                 return Answer::numbered(view.clock().word());
             }
@@ -252,7 +252,7 @@ impl WrongKeeper {
         let caller = self.caller(call);
         if let (Call::Write { item, .. }, Some(slot)) = (call, caller) {
             let view = self.view();
-            let is_idle = !view.is_query(slot) && view.awaited(slot).is_none();
+            let is_idle = view.is_writing(slot) && view.awaited(slot).is_none();
             if is_idle && item < ITEMS as u64 && self.writes[slot.index()] >= QUOTA {
                 return Answer::bare(code::QUOTA_SPENT);
             }
@@ -273,8 +273,8 @@ impl WrongKeeper {
 
 fn starts(keeper: &Keeper) -> Vec<u64> {
     let rows = keeper.txns[TXN_HEAD..].chunks(TXN_ROW);
-    let queries = rows.filter(|row| row[NUMBER] != 0 && row[KIND] == QUERY);
-    queries.map(|row| row[START]).collect()
+    let readers = rows.filter(|row| row[NUMBER] != 0 && row[KIND] != UPDATE);
+    readers.map(|row| row[START]).collect()
 }
 
 fn pairs(keeper: &Keeper, item: usize) -> Vec<Pair> {
@@ -294,7 +294,7 @@ fn set_pairs(keeper: &mut Keeper, item: usize, pairs: &[Pair]) {
     }
 }
 
-/// The newest, and those that some query reads.
+/// The newest, and those that some reader reads.
 fn trimmed(row: &[Pair], starts: &[u64]) -> Vec<Pair> {
     let read_by = |start: &u64| row.iter().find(|pair| pair.0 <= *start);
     let is_read = |pair: &Pair| starts.iter().any(|start| read_by(start) == Some(pair));

@@ -7,6 +7,8 @@ mod calls;
 mod judges;
 mod lines;
 mod quota;
+mod settled;
+mod settled_ends;
 mod sizes;
 mod tables;
 mod tests_of_few;
@@ -16,6 +18,7 @@ pub use calls::{WrongCall, WrongKeeper};
 pub use judges::WrongJudge;
 pub use lines::{run, WrongLine};
 pub use quota::WrongQuota;
+pub use settled::WrongSettled;
 pub use sizes::WrongSize;
 pub use tables::WrongTables;
 pub use tests_of_few::WrongTest;
@@ -62,6 +65,7 @@ fn right(view: &mut View, call: Call) -> Answer {
         } => view.access(number, item, Access::Write(value)),
         Call::Commit { number } => view.commit(number),
         Call::Abort { number } => view.abort(number),
+        Call::Settle { number } => view.settle(number),
     }
 }
 
@@ -71,6 +75,7 @@ pub enum WrongRunner {
     Call(WrongCall),
     Quota(WrongQuota),
     Wait(WrongWait),
+    Settled(WrongSettled),
     Size(WrongSize),
     Line(WrongLine),
 }
@@ -81,6 +86,7 @@ impl WrongRunner {
             .map(WrongRunner::Call)
             .or_else(|| named(&WrongQuota::ALL, name).map(WrongRunner::Quota))
             .or_else(|| named(&WrongWait::ALL, name).map(WrongRunner::Wait))
+            .or_else(|| WrongSettled::shown(name).map(WrongRunner::Settled))
             .or_else(|| named(&WrongSize::ALL, name).map(WrongRunner::Size))
             .or_else(|| named(&WrongLine::ALL, name).map(WrongRunner::Line))
     }
@@ -90,6 +96,7 @@ impl WrongRunner {
             names(&WrongCall::ALL),
             names(&WrongQuota::ALL),
             names(&WrongWait::ALL),
+            WrongSettled::names_shown(),
             names(&WrongSize::ALL),
             names(&WrongLine::ALL),
         ]
@@ -110,6 +117,12 @@ impl WrongRunner {
                 })
             }
             WrongRunner::Wait(kind) => {
+                let mut keeper = Keeper::fresh();
+                script::run(input, output, |call| {
+                    kind.call(&mut view(&mut keeper), call)
+                })
+            }
+            WrongRunner::Settled(kind) => {
                 let mut keeper = Keeper::fresh();
                 script::run(input, output, |call| {
                     kind.call(&mut view(&mut keeper), call)

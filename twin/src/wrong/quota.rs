@@ -56,7 +56,7 @@ impl WrongQuota {
             _ => return right(view, call),
         };
         let slot = match view.find(number) {
-            Some(slot) if !view.is_query(slot) => slot,
+            Some(slot) if view.is_writing(slot) => slot,
             _ => return right(view, call),
         };
         let lock = access.wants();

@@ -2,6 +2,8 @@
 //! E5), and right as long as there are few.
 
 use super::right;
+use super::settled::WrongSettled;
+use super::settled_ends::end;
 use crate::answer::{code, Answer};
 use crate::ids::{Item, Slot, SlotSet};
 use crate::keeper::Call;
@@ -18,7 +20,7 @@ pub enum WrongSize {
     Slots(usize),
     /// A row keeps so many versions at most, the newest ones.
     Places(usize),
-    /// Queries in slots from 16 on keep no version.
+    /// Readers in slots from 16 on keep no version.
     Readers,
     /// Shared locks of slots from this one on are not noted.
     Shared(usize),
@@ -114,7 +116,7 @@ impl WrongSize {
     }
 }
 
-/// After an end each row keeps its newest version and those that a query in one
+/// After an end each row keeps its newest version and those that a reader in one
 /// of the first slots reads, and of these so many.
 fn trimmed(view: &mut View, call: Call, readers: usize, places: usize) -> Answer {
     let number = match call {
@@ -126,12 +128,15 @@ fn trimmed(view: &mut View, call: Call, readers: usize, places: usize) -> Answer
             view.txn_mut(slot).fill(0);
             Answer::granted()
         }
+        Some(slot) if view.is_settled(slot) => {
+            let commits = matches!(call, Call::Commit { .. });
+            end(WrongSettled::TrimsHeld, view, slot, commits)
+        }
         _ => right(view, call),
     };
-    let queries = Slot::all()
-        .take(readers)
-        .filter(|slot| view.is_query(*slot));
-    let starts: Vec<u64> = queries.map(|slot| view.start(slot).word()).collect();
+    let reads = |slot: &Slot| view.is_query(*slot) || view.is_settled(*slot);
+    let readers = Slot::all().take(readers).filter(reads);
+    let starts: Vec<u64> = readers.map(|slot| view.start(slot).word()).collect();
     for row in view.rows_mut() {
         let used = row[1..].chunks(2).take(row[COUNT] as usize);
         let pairs: Vec<(u64, u64)> = used.map(|pair| (pair[0], pair[1])).collect();

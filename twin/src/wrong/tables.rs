@@ -7,7 +7,8 @@ use crate::protocol::Tables;
 use crate::sizes::*;
 use crate::view::View;
 
-use super::{WrongQuota, WrongSize, WrongTest, WrongWait};
+use super::settled_ends::WrongSettledTest;
+use super::{WrongQuota, WrongSettled, WrongSize, WrongTest, WrongWait};
 
 /// A wrong treatment of tables.
 #[derive(Clone, Copy, Debug, PartialEq, Eq)]
@@ -28,6 +29,10 @@ pub enum WrongTables {
     Quota(WrongQuota),
     /// A wrong rule of lines.
     Wait(WrongWait),
+    /// A wrong rule of settling.
+    Settled(WrongSettled),
+    /// A wrong test of those past their writing.
+    SettledTest(WrongSettledTest),
     /// A wrong size.
     Size(WrongSize),
     /// A test of the tables for fewer slots or versions.
@@ -75,6 +80,8 @@ impl WrongTables {
             .or_else(|| Clause::named(name).map(WrongTables::Blind))
             .or_else(|| super::named(&WrongQuota::ALL, name).map(WrongTables::Quota))
             .or_else(|| super::named(&WrongWait::ALL, name).map(WrongTables::Wait))
+            .or_else(|| super::named(&WrongSettled::ALL, name).map(WrongTables::Settled))
+            .or_else(|| super::named(&WrongSettledTest::ALL, name).map(WrongTables::SettledTest))
             .or_else(|| super::named(&WrongSize::ALL, name).map(WrongTables::Size))
             .or_else(|| super::named(&WrongTest::ALL, name).map(WrongTables::Test))
     }
@@ -85,6 +92,8 @@ impl WrongTables {
             super::names(&WrongTables::OTHERS),
             super::names(&WrongQuota::ALL),
             super::names(&WrongWait::ALL),
+            super::names(&WrongSettled::ALL),
+            super::names(&WrongSettledTest::ALL),
             super::names(&WrongSize::ALL),
             super::names(&WrongTest::ALL),
         ]
@@ -118,9 +127,19 @@ impl WrongTables {
                 *tables = before;
                 return on_view(tables, |view| kind.call(view, call));
             }
+            (WrongTables::Settled(kind), code) if code != code::BAD_TABLES => {
+                *tables = before;
+                return on_view(tables, |view| kind.call(view, call));
+            }
             (WrongTables::Size(kind), code) if code != code::BAD_TABLES => {
                 *tables = before;
                 return on_view(tables, |view| kind.call(view, call));
+            }
+            (WrongTables::SettledTest(kind), _) => {
+                if let Some(wrong) = kind.call(&before, answer) {
+                    *tables = before;
+                    return wrong;
+                }
             }
             (WrongTables::Test(kind), _) => {
                 if let Some(wrong) = kind.call(&before, answer) {

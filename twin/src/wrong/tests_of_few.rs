@@ -29,7 +29,7 @@ pub enum WrongTest {
 use WrongTest::*;
 
 impl WrongTest {
-    pub const ALL: [(&'static str, WrongTest); 37] = [
+    pub const ALL: [(&'static str, WrongTest); 43] = [
         ("forgets-free-row", Forgets(Clause::FreeRow)),
         ("forgets-distinct-numbers", Forgets(Clause::DistinctNumbers)),
         ("forgets-number-given", Forgets(Clause::NumberGiven)),
@@ -54,6 +54,12 @@ impl WrongTest {
         ("forgets-rank-twice", Forgets(Clause::RankTwice)),
         ("forgets-rank-gap", Forgets(Clause::RankGap)),
         ("forgets-exchanger", Forgets(Clause::ExchangerBehind)),
+        ("forgets-settled-awaits", Forgets(Clause::SettledAwaits)),
+        ("forgets-settled-zero", Forgets(Clause::SettledStampZero)),
+        ("forgets-settled-above", Forgets(Clause::SettledStampAbove)),
+        ("forgets-settled-twice", Forgets(Clause::SettledStampTwice)),
+        ("forgets-settled-shares", Forgets(Clause::SettledShares)),
+        ("forgets-settled-version", Forgets(Clause::SettledVersion)),
         ("forgets-unused-pairs", Forgets(Clause::UnusedPairs)),
         ("forgets-stamps-fall", Forgets(Clause::StampsFall)),
         ("forgets-last-stamp", Forgets(Clause::LastStamp)),

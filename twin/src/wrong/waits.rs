@@ -166,7 +166,7 @@ fn asked(view: &View, call: Call) -> Option<(Slot, Item, Access)> {
     let lock = access.wants();
     let may_ask = match view.awaited(slot) {
         Some(awaited) => awaited == (lock, item),
-        None => !view.is_query(slot),
+        None => view.is_writing(slot),
     };
     let is_further = lock == Lock::Exclusive && view.is_further(slot, item);
     let is_refused = is_further && view.exclusives(slot) >= QUOTA;

@@ -16,6 +16,7 @@ pub const NUMBERS_SPENT: [u64; 4] = [8, 0, 0, 0];
 pub const CLOCK_SPENT: [u64; 4] = [9, 0, 0, 0];
 pub const BAD_TABLES: [u64; 4] = [10, 0, 0, 0];
 pub const QUOTA_SPENT: [u64; 4] = [11, 0, 0, 0];
+pub const PAST_WRITING: [u64; 4] = [12, 0, 0, 0];
 
 /// The newest value, 0 because nobody committed another.
 pub const FOUND_0: [u64; 4] = [0, 0, 0, 1];
@@ -76,6 +77,38 @@ impl Trial {
 
     pub fn abort(&mut self, number: u64) -> [u64; 4] {
         self.call(Call::Abort { number })
+    }
+
+    pub fn settle(&mut self, number: u64) -> [u64; 4] {
+        self.call(Call::Settle { number })
+    }
+
+    /// A read that waits, and no word tells of it.
+    pub fn waits_silently(&mut self, number: u64, item: u64) {
+        let before = self.0.clone();
+        assert_eq!(self.read(number, item), WAIT);
+        assert_eq!(self.0, before, "the wait of {} is noted", number);
+    }
+
+    /// The six words of a slot.
+    pub fn row(&self, slot: usize) -> &[u64] {
+        &self.0.txns[TXN_HEAD + slot * TXN_ROW..][..TXN_ROW]
+    }
+
+    /// The three words of an item's locks.
+    pub fn lock(&self, item: u64) -> &[u64] {
+        &self.0.locks[item as usize * LOCK_ROW..][..LOCK_ROW]
+    }
+
+    /// An item's versions, newest first.
+    pub fn versions(&self, item: u64) -> Vec<(u64, u64)> {
+        let row = &self.0.versions[item as usize * VERSION_ROW..][..VERSION_ROW];
+        let used = row[1..].chunks(2).take(row[COUNT] as usize);
+        used.map(|pair| (pair[0], pair[1])).collect()
+    }
+
+    pub fn clock(&self) -> u64 {
+        self.0.txns[CLOCK]
     }
 
     /// The ranks of the first so many slots.

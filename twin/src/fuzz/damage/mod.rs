@@ -3,6 +3,7 @@
 mod locks;
 mod quota;
 mod ranks;
+mod settled;
 mod txns;
 mod versions;
 
@@ -14,6 +15,7 @@ use crate::sizes::*;
 use locks::*;
 use quota::*;
 use ranks::*;
+use settled::*;
 use txns::*;
 use versions::*;
 
@@ -21,7 +23,7 @@ use versions::*;
 pub type Damage = fn(&mut Rng, &mut Tables) -> bool;
 
 /// The kinds of damage by name. The first ones leave good tables good.
-pub const KINDS: [(&str, Damage); 54] = [
+pub const KINDS: [(&str, Damage); 66] = [
     ("none", |_, _| true),
     ("numbers or clock nearly spent", nearly_spent),
     ("32 held exclusively", |rng, t| holds(rng, t, QUOTA)),
@@ -33,6 +35,12 @@ pub const KINDS: [(&str, Damage); 54] = [
     }),
     ("a line of waiters", |rng, t| long_line(rng, t).is_some()),
     ("an exchange would close a circle", exchange_closes),
+    ("one more past its writing", |rng, t| {
+        made_settled(rng, t).is_some()
+    }),
+    ("past its writing, 32 held", |rng, t| {
+        settled_holds(rng, t, QUOTA)
+    }),
     ("one word", one_word),
     ("some words", some_words),
     ("one size off by one", size_off_by_one),
@@ -47,9 +55,10 @@ pub const KINDS: [(&str, Damage); 54] = [
     ("free row not zero", free_row),
     ("equal live numbers", equal_numbers),
     ("number above the last given", number_above_last),
-    ("kind 2", |rng, t| {
-        on_txn(rng, t, live, KIND, |rng, _| rng.odd_word().max(2))
+    ("kind 3", |rng, t| {
+        on_txn(rng, t, live, KIND, |rng, _| rng.odd_word().max(3))
     }),
+    ("another kind", another_kind),
     ("awaited lock 3", |rng, t| {
         on_txn(rng, t, update, AWAITED_LOCK, |rng, _| rng.odd_word().max(3))
     }),
@@ -107,6 +116,19 @@ pub const KINDS: [(&str, Damage); 54] = [
     ("a gap between ranks", rank_gap),
     ("a rank far above", rank_far_above),
     ("an exchanger behind a reader", exchanger_behind),
+    ("past its writing, awaits", settled_awaits),
+    ("past its writing, stamp 0", stamp_zero),
+    ("past its writing, stamp above the clock", stamp_above),
+    ("two past their writing, one stamp", stamp_twice),
+    ("past its writing, shares", settled_shares),
+    ("past its writing, version not below", held_version),
+    ("past its writing, last stamp above", last_above),
+    ("past its writing, 33 held", |rng, t| {
+        settled_holds(rng, t, QUOTA + 1)
+    }),
+    ("past its writing, kind 0", |rng, t| {
+        on_txn(rng, t, settled, KIND, |_, _| UPDATE)
+    }),
     ("count 0", |rng, t| count(rng, t, |_| 0)),
     ("count 33 and above", |rng, t| {
         count(rng, t, |rng| rng.odd_word().max(PLACES as u64 + 1))
@@ -128,9 +150,9 @@ pub const KINDS: [(&str, Damage); 54] = [
 ];
 
 /// How many of the kinds leave the tables good.
-pub const HARMLESS: usize = 7;
+pub const HARMLESS: usize = 9;
 /// How many come before the kinds that break one clause on purpose.
-pub const UNAIMED: usize = 9;
+pub const UNAIMED: usize = 11;
 
 fn set(word: &mut u64, value: u64) -> bool {
     *word = value;

@@ -187,7 +187,7 @@ pub fn circle_in_line(rng: &mut Rng, t: &mut Tables) -> bool {
 }
 
 /// An item that nobody awaits.
-fn without_line(rng: &mut Rng, t: &Tables) -> Option<usize> {
+pub fn without_line(rng: &mut Rng, t: &Tables) -> Option<usize> {
     let rows = || t.txns[TXN_HEAD..].chunks(TXN_ROW);
     let is_awaited =
         |item: usize| rows().any(|row| row[AWAITED_LOCK] != 0 && row[AWAITED_ITEM] == item as u64);

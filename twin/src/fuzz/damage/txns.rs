@@ -21,6 +21,10 @@ pub fn query(row: &[u64]) -> bool {
     live(row) && row[KIND] == QUERY
 }
 
+pub fn settled(row: &[u64]) -> bool {
+    live(row) && row[KIND] == SETTLED
+}
+
 pub fn waiting(row: &[u64]) -> bool {
     live(row) && row[AWAITED_LOCK] != AWAITS_NONE
 }

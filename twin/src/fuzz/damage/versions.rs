@@ -1,7 +1,7 @@
 //! Damage to rows of versions.
 
 use super::set;
-use super::txns::query;
+use super::txns::{query, settled};
 use crate::protocol::Tables;
 use crate::rng::Rng;
 use crate::sizes::*;
@@ -18,6 +18,20 @@ pub fn pick_row<'a>(
         .collect();
     let item = rng.pick(&items)?;
     Some(&mut t.versions[item * VERSION_ROW..][..VERSION_ROW])
+}
+
+/// The same, but half the time a long row, if there is one.
+fn pick_long<'a>(
+    rng: &mut Rng,
+    t: &'a mut Tables,
+    like: impl Fn(&[u64]) -> bool,
+) -> Option<&'a mut [u64]> {
+    let is_long = |row: &[u64]| like(row) && row[COUNT] > PLACES as u64 / 2;
+    let has_long = t.versions.chunks(VERSION_ROW).any(is_long);
+    match has_long && rng.percent(50) {
+        true => pick_row(rng, t, is_long),
+        false => pick_row(rng, t, like),
+    }
 }
 
 pub fn count(rng: &mut Rng, t: &mut Tables, value: fn(&mut Rng) -> u64) -> bool {
@@ -47,7 +61,7 @@ pub fn unused_pair(rng: &mut Rng, t: &mut Tables) -> bool {
 }
 
 pub fn stamps(rng: &mut Rng, t: &mut Tables, change: fn(&mut Rng, &mut [u64]) -> bool) -> bool {
-    match pick_row(rng, t, |row| row[COUNT] >= 2) {
+    match pick_long(rng, t, |row| row[COUNT] >= 2) {
         Some(row) => change(rng, row),
         None => false,
     }
@@ -82,7 +96,8 @@ pub fn first_stamp(rng: &mut Rng, t: &mut Tables) -> bool {
 pub fn last_stamp(rng: &mut Rng, t: &mut Tables) -> bool {
     let clock = t.txns[CLOCK];
     let rows = t.txns[TXN_HEAD..].chunks(TXN_ROW);
-    let earliest = match rows.filter(|row| query(row)).map(|row| row[START]).min() {
+    let readers = rows.filter(|row| query(row) || settled(row));
+    let earliest = match readers.map(|row| row[START]).min() {
         Some(start) if start < clock => start,
         _ => return false,
     };
@@ -100,10 +115,15 @@ pub fn last_stamp(rng: &mut Rng, t: &mut Tables) -> bool {
 pub fn unread_version(rng: &mut Rng, t: &mut Tables) -> bool {
     let last = |row: &[u64]| row[2 * row[COUNT] as usize - 1];
     let roomy = |row: &[u64]| row[COUNT] < PLACES as u64 && last(row) > 0;
-    match pick_row(rng, t, roomy) {
+    match pick_long(rng, t, roomy) {
         Some(row) => {
             let count = row[COUNT] as usize;
-            let at = 1 + 2 * rng.within(1, count as u64) as usize;
+            // Late in the row, often.
+            let first = match rng.percent(50) {
+                true => 1,
+                false => 1 + count / 2,
+            };
+            let at = 1 + 2 * rng.within(first.min(count) as u64, count as u64) as usize;
             row.copy_within(at..1 + 2 * count, at + 2);
             row[at] = row[at - 2] - 1;
             row[at + 1] = rng.odd_word();

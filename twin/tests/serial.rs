@@ -1,0 +1,166 @@
+//! Demand 3 with those past their writing (request E6): updates in the order of
+//! their stamps, each query behind the stamps up to its start; and what others do
+//! does not alter what a query is granted.
+
+use std::collections::BTreeMap;
+
+use twin::fuzz::director::Director;
+use twin::rng::Rng;
+use twin::sizes::*;
+use twin::{code, Call, Keeper};
+
+/// A granted read with what it gave, or a granted write.
+#[derive(Clone, Copy)]
+enum Deed {
+    Read(usize, u64),
+    Write(usize, u64),
+}
+
+type Log = Vec<Deed>;
+
+/// What was granted to whom, and where each one stands.
+#[derive(Default)]
+struct Run {
+    logs: BTreeMap<u64, Log>,
+    /// By stamp, what a committed update did.
+    updates: BTreeMap<u64, Log>,
+    /// By start, what each query read.
+    queries: BTreeMap<u64, u64>,
+    out_of_order: u64,
+}
+
+impl Run {
+    fn see(&mut self, call: Call, keeper: &mut Keeper) {
+        let clock = keeper.txns[CLOCK];
+        let answer = keeper.call(call);
+        if answer.code != code::GRANTED {
+            return;
+        }
+        let mut add = |number: u64, deed: Deed| self.logs.entry(number).or_default().push(deed);
+        match call {
+            Call::Query => drop(self.queries.insert(answer.number, clock)),
+            Call::Read { number, item } => add(number, Deed::Read(item as usize, answer.value)),
+            Call::Write {
+                number,
+                item,
+                value,
+            } => add(number, Deed::Write(item as usize, value)),
+            Call::Commit { number } if !self.queries.contains_key(&number) => {
+                let log = self.logs.remove(&number).unwrap_or_default();
+                let later = self.updates.range(answer.number..).next();
+                self.out_of_order += u64::from(later.is_some());
+                let twice = self.updates.insert(answer.number, log);
+                assert!(twice.is_none(), "stamp {} twice", answer.number);
+            }
+            Call::Abort { number } if !self.queries.contains_key(&number) => {
+                self.logs.remove(&number);
+            }
+            _ => {}
+        }
+    }
+
+    /// Everything once more, one after another, on an array.
+    fn check(&self, keeper: &Keeper) {
+        let mut array = [0; ITEMS];
+        let mut queries: Vec<(u64, u64)> = self.queries.iter().map(|(n, s)| (*s, *n)).collect();
+        queries.sort_unstable();
+        let mut queries = queries.into_iter().peekable();
+        let ends = [(u64::MAX, Log::new())];
+        let all = self.updates.iter().map(|(stamp, log)| (*stamp, log));
+        for (stamp, log) in all.chain(ends.iter().map(|(stamp, log)| (*stamp, log))) {
+            while let Some((_, number)) = queries.next_if(|(start, _)| *start < stamp) {
+                let log = self.logs.get(&number).map_or(&[][..], |log| log);
+                replay(log, &mut array, number);
+            }
+            replay(log, &mut array, stamp);
+        }
+        for (item, row) in keeper.versions.chunks(VERSION_ROW).enumerate() {
+            assert_eq!(row[2], array[item], "newest value of {}", item);
+        }
+    }
+}
+
+fn replay(log: &[Deed], array: &mut [u64; ITEMS], whose: u64) {
+    for deed in log {
+        match *deed {
+            Deed::Read(item, value) => assert_eq!(array[item], value, "read by {}", whose),
+            Deed::Write(item, value) => array[item] = value,
+        }
+    }
+}
+
+#[test]
+fn by_stamp_every_granted_read_is_right() {
+    let mut out_of_order = 0;
+    for seed in 0..60 {
+        let mut rng = Rng::new(seed);
+        let mut director = Director::new();
+        let (mut keeper, mut run) = (Keeper::fresh(), Run::default());
+        for _ in 0..4_000 {
+            let call = director.next(&mut rng, &keeper);
+            run.see(call, &mut keeper);
+        }
+        run.check(&keeper);
+        out_of_order += run.out_of_order;
+    }
+    // In the order of the commits it would be wrong.
+    assert!(out_of_order > 200, "{}", out_of_order);
+}
+
+/// The numbers of those past their writing.
+fn settled(keeper: &Keeper) -> Vec<u64> {
+    let rows = keeper.txns[TXN_HEAD..].chunks(TXN_ROW);
+    let settled = rows.filter(|row| row[NUMBER] != 0 && row[KIND] == SETTLED);
+    settled.map(|row| row[NUMBER]).collect()
+}
+
+/// What a query is granted of each item while others go on. Those past their
+/// writing when it began may read and commit, and do nothing else.
+fn granted(mut keeper: Keeper, number: u64, seed: u64) -> [Option<u64>; ITEMS] {
+    let (mut rng, mut director) = (Rng::new(seed), Director::new());
+    let past = settled(&keeper);
+    let mut found = [None; ITEMS];
+    for _ in 0..1_500 {
+        let item = rng.below(ITEMS as u64);
+        let answer = keeper.call(Call::Read { number, item });
+        if answer.code == code::GRANTED {
+            let before = found[item as usize].replace(answer.value);
+            assert!(before.is_none() || before == Some(answer.value));
+        } else {
+            assert_eq!(answer.words(), [1, 0, 0, 0]);
+        }
+        let call = director.next(&mut rng, &keeper);
+        let is_past = call.number().map_or(false, |number| past.contains(&number));
+        let alters = matches!(call, Call::Write { .. } | Call::Abort { .. });
+        if call.number() != Some(number) && !(is_past && alters) {
+            let _ = keeper.call(call);
+        }
+    }
+    found
+}
+
+#[test]
+fn others_do_not_alter_what_a_query_is_granted() {
+    let (mut both, mut waited) = (0, 0);
+    for seed in 0..60 {
+        let mut rng = Rng::new(1000 + seed);
+        let (mut keeper, mut director) = (Keeper::fresh(), Director::new());
+        for _ in 0..rng.within(100, 3_000) {
+            let _ = keeper.call(director.next(&mut rng, &keeper));
+        }
+        let number = match keeper.call(Call::Query) {
+            answer if answer.code == code::GRANTED => answer.number,
+            _ => continue,
+        };
+        waited += settled(&keeper).len();
+        let one = granted(keeper.clone(), number, 2 * seed);
+        let other = granted(keeper, number, 2 * seed + 1);
+        for (one, other) in one.into_iter().zip(other) {
+            if let (Some(one), Some(other)) = (one, other) {
+                assert_eq!(one, other, "seed {}", seed);
+                both += 1;
+            }
+        }
+    }
+    assert!(both > 1_000 && waited > 20, "{} {}", both, waited);
+}
