@@ -5,7 +5,11 @@
  * full ones: a live query in every slot but one, and as many versions of each item as there is room
  * for. Then the test and a write are timed where two updates hold all items, then calls where others
  * wait for an item, and then the calls that rewrite rows: the end of a query, and the commit of an
- * update with as many items as one may have.
+ * update with as many items as one may have. Then a settle, the commit of an update past its writing
+ * and the plain commit beside each other, each of the same update on the same tables: with one write
+ * on fresh and on full tables, with as many items as one may hold, and with many shared locks. A
+ * library of six calls, whose header does not say how many there are, has no settle: there that part
+ * is left out.
  *
  * The sizes of the tables are those of the header alone, and no line that is timed names one: so this
  * can be built for libraries of other sizes too, each with its own header, and its lines compared. */
@@ -185,9 +189,9 @@ static void measure_waiters(const char *on, int waiters)
     measure_call("an awaited write, asked again", write_0, last, KEEPER_WAIT);
 }
 
-/* The commit of this transaction on the tables as they are, which are put back after each: the
- * best of many short runs, as the twin's program times it. */
-static void measure_commit(const char *what, uint64_t number)
+/* A call of this transaction on the tables as they are, which are put back after each: the best of
+ * many short runs, as the twin's program times it. */
+static void measure_once(const char *what, struct keeper_answer (*call)(uint64_t), uint64_t number)
 {
     static uint64_t t[KEEPER_TXN_WORDS], l[KEEPER_LOCK_WORDS], v[KEEPER_VERSION_WORDS];
     memcpy(t, txns, sizeof t);
@@ -198,7 +202,7 @@ static void measure_commit(const char *what, uint64_t number)
         double sum = 0;
         for (int i = 0; i < SHORT_CALLS; i++) {
             double t0 = now();
-            struct keeper_answer a = keeper_commit(TABLES, number);
+            struct keeper_answer a = call(number);
             double t1 = now();
             granted(a);
             sum += t1 - t0;
@@ -211,6 +215,10 @@ static void measure_commit(const char *what, uint64_t number)
     }
     printf("  %-36s %6.0f ns\n", what, best);
 }
+
+static struct keeper_answer commit_of(uint64_t number) { return keeper_commit(TABLES, number); }
+
+static void measure_commit(const char *what, uint64_t number) { measure_once(what, commit_of, number); }
 
 /* Ends of queries and commits of full jobs, which rewrite rows. */
 static void measure_rows(void)
@@ -234,6 +242,54 @@ static void measure_rows(void)
     granted(keeper_begin_query(TABLES));
     measure_commit("commit of a full job, rows get full", full_job(0, 1));
 }
+
+#if defined KEEPER_CALLS && KEEPER_CALLS >= 7
+static struct keeper_answer settle_of(uint64_t number) { return keeper_settle(TABLES, number); }
+
+/* Of an update that still writes: its commit, its settle, and then its commit past its writing, which
+ * takes no stamp and trims every row. */
+static void measure_settle(const char *on, uint64_t number)
+{
+    printf("settle beside commit: %s\n", on);
+    measure_once("commit", commit_of, number);
+    measure_once("settle", settle_of, number);
+    granted(settle_of(number));
+    measure_once("commit past its writing", commit_of, number);
+}
+
+/* An update with one write, and so many items more that it shares. */
+static uint64_t small_job(uint64_t shares)
+{
+    uint64_t n = granted(keeper_begin_update(TABLES)).number;
+    granted(keeper_write(TABLES, n, 0, 1));
+    for (uint64_t x = 1; x <= shares; x++)
+        granted(keeper_read(TABLES, n, x));
+    return n;
+}
+
+static void measure_settles(void)
+{
+    keeper_fresh(TABLES);
+    measure_settle("one write, fresh tables", small_job(0));
+    keeper_fresh(TABLES);
+    measure_settle("one write and all other items shared", small_job(KEEPER_ITEMS - 1));
+    keeper_fresh(TABLES);
+    measure_settle("a full job, one version", full_job(0, 1));
+    keeper_fresh(TABLES);
+    fill(SOME);
+    measure_settle("one write, 16 versions of each item", small_job(0));
+    keeper_fresh(TABLES);
+    fill(QUERIES);
+    measure_settle("one write, full tables", small_job(0));
+    keeper_fresh(TABLES);
+    fill(QUERIES);
+    measure_settle("a full job, full rows", full_job(0, 1));
+    /* another update holds the other half of the items, so that every lock is held */
+    keeper_fresh(TABLES);
+    full_job(KEEPER_QUOTA, 0);
+    measure_settle("two updates with all items between them", full_job(0, 1));
+}
+#endif
 
 int main(void)
 {
@@ -261,5 +317,8 @@ int main(void)
     measure_waiters("15 waiting for one item", SOME);
     measure_waiters("all slots but one waiting for one item", KEEPER_SLOTS - 1);
     measure_rows();
+#if defined KEEPER_CALLS && KEEPER_CALLS >= 7
+    measure_settles();
+#endif
     return 0;
 }

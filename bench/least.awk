@@ -27,6 +27,11 @@ END {
     printf "%-92s %8s %8s %6s\n", "nanoseconds a call, the least of all turns", "before", "after", "ratio"
     for (i = 1; i <= count; i++) {
         key = keys[i]
+        # a call that the one before does not have
+        if (!(("before", key) in least)) {
+            printf "%-92s %8s %8d\n", key, "", least["after", key]
+            continue
+        }
         printf "%-92s %8d %8d %6.2f\n", key, least["before", key], least["after", key], least["after", key] / least["before", key]
     }
 }

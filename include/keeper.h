@@ -1,4 +1,4 @@
-/* The keeper for C: six calls over three lent tables, and a function that fills the tables.
+/* The keeper for C: seven calls over three lent tables, and a function that fills the tables.
  *
  * The functions are those of crates/keeper_c, which `rt staticlib keeper_c` builds into
  * target/staticlib/libkeeper_c.a, for x86-64 Linux. Each is proved there against its contract.
@@ -10,6 +10,21 @@
  *  - The four numbers of the answer, and every word of the three tables afterwards, are what the
  *    rules say (`step` in crates/rules/specs/Step.antt). Good tables stay good.
  *  - The keeper holds nothing of its own: the tables are its whole state.
+ *
+ * Who calls. A transaction is an update, which locks what it touches, or a query, which only reads,
+ * by its start. keeper_settle ends an update's writing: past its writing it still holds what it
+ * wrote, and reads by its stamp as a query does by its start. In its row of the transactions the
+ * kind is 0 for an update, 1 for a query, 2 for an update past its writing, whose start is its
+ * stamp. The clock, the second word of that table, is the stamp that was given last, by the commit
+ * of an update or by a settle. A query's start is the clock when it begins.
+ *
+ * Two kinds of waits, both answered KEEPER_WAIT.
+ *  - An update's wait is noted: it has a place in the item's line, and until the same call is made
+ *    again and granted every other call of its own but keeper_abort is refused, KEEPER_STILL_WAITING.
+ *  - A wait of a query, or of an update past its writing, is not noted and changes no word. It says
+ *    that another past its writing, with a stamp up to the reader's, holds the item and has not
+ *    ended. The caller may call anything else meanwhile, and read the item again later. Such a wait
+ *    is never a deadlock: it leads to a smaller stamp, or from a query to one past its writing.
  *
  * What a caller must see to, since no proof can:
  *  - The pointers and lengths are those of three distinct tables that do not overlap. No pointer
@@ -28,6 +43,9 @@
 extern "C" {
 #endif
 
+/* How many calls there are. A header of before keeper_settle, with six, does not say. */
+#define KEEPER_CALLS 7
+
 /* Items 0 to 63, live transactions at most, items that one update may hold exclusively at most, and
  * the lengths of the tables in words. */
 #define KEEPER_ITEMS 64
@@ -40,24 +58,26 @@ extern "C" {
 /* The codes of an answer. */
 enum keeper_code {
     KEEPER_GRANTED = 0,
-    KEEPER_WAIT = 1,                /* a conflict, or others wait ahead: make the same call again later, or abort */
+    KEEPER_WAIT = 1,                /* an update: a conflict, or others wait ahead; a reader by a start: one past its
+                                     * writing holds the item. Make the same call again later, or abort */
     KEEPER_DEADLOCK = 2,            /* waiting would close a circle: nothing changed; abort one */
     KEEPER_UNKNOWN_TRANSACTION = 3, /* no live transaction has that number */
     KEEPER_UNKNOWN_ITEM = 4,        /* an item above 63 */
-    KEEPER_QUERY_MAY_NOT_WRITE = 5,
-    KEEPER_STILL_WAITING = 6,       /* it awaits another call's grant */
+    KEEPER_QUERY_MAY_NOT_WRITE = 5, /* nor settle */
+    KEEPER_STILL_WAITING = 6,       /* an update that awaits another call's grant */
     KEEPER_NO_SLOT = 7,             /* 32 transactions are live */
     KEEPER_NUMBERS_SPENT = 8,       /* the last transaction number is given */
     KEEPER_CLOCK_SPENT = 9,         /* the last stamp is given */
     KEEPER_BAD_TABLES = 10,
-    KEEPER_QUOTA_SPENT = 11         /* an update that holds 32 items exclusively writes a further one */
+    KEEPER_QUOTA_SPENT = 11,        /* an update that holds 32 items exclusively writes a further one */
+    KEEPER_PAST_WRITING = 12        /* an update past its writing writes what it does not hold, or settles again */
 };
 
 /* The four numbers of an answer; what a call does not name is 0. */
 struct keeper_answer {
     uint64_t code;   /* one of enum keeper_code */
     uint64_t value;  /* what a granted read read */
-    uint64_t number; /* a begin's transaction number; an update commit's stamp */
+    uint64_t number; /* a begin's transaction number; the stamp of an update's commit, or of a settle */
     uint64_t looked; /* the place of the version read, from 1; 0 for the own working value */
 };
 
@@ -72,37 +92,48 @@ struct keeper_answer keeper_begin_update(uint64_t *txns, size_t txns_len, uint64
                                          size_t locks_len, uint64_t *versions,
                                          size_t versions_len);
 
-/* Begins a query, which reads what is committed now until it ends. The answer's number is its
- * number. Codes 0, 7, 8, 10; all but 0 change no word. */
+/* Begins a query. Until it ends it reads of each item the newest version with a stamp up to the
+ * clock of now: what is committed now, and what those past their writing now commit later. The
+ * answer's number is its number. Codes 0, 7, 8, 10; all but 0 change no word. */
 struct keeper_answer keeper_begin_query(uint64_t *txns, size_t txns_len, uint64_t *locks,
                                         size_t locks_len, uint64_t *versions,
                                         size_t versions_len);
 
-/* Reads an item; the answer's value is what it holds for this transaction. A query never waits.
- * Codes 0, 1, 2, 3, 4, 6, 10; 1 changes the caller's awaited words and the
- * ranks behind it alone, the others but 0 none. */
+/* Reads an item; the answer's value is what it holds for this transaction. Codes 0, 1, 2, 3, 4, 6,
+ * 10, of which a query and an update past its writing never get 2 and 6. To an update 1 changes its
+ * awaited words and the ranks behind it alone, to the others no word; the codes but 0 and 1 change
+ * none. */
 struct keeper_answer keeper_read(uint64_t *txns, size_t txns_len, uint64_t *locks,
                                  size_t locks_len, uint64_t *versions, size_t versions_len,
                                  uint64_t number, uint64_t item);
 
-/* Writes an item; others read the value once the update has committed. Codes 0, 1, 2, 3, 4, 5, 6,
- * 10, 11; 1 changes the caller's awaited words and the
- * ranks behind it alone, the others but 0 none. */
+/* Writes an item; others read the value once the update has committed. Past its writing an update
+ * may still change what it holds exclusively, and any other write is answered 12. Codes 0, 1, 2, 3,
+ * 4, 5, 6, 10, 11, 12; 1 changes the caller's awaited words and the ranks behind it alone, the
+ * others but 0 none. */
 struct keeper_answer keeper_write(uint64_t *txns, size_t txns_len, uint64_t *locks,
                                   size_t locks_len, uint64_t *versions, size_t versions_len,
                                   uint64_t number, uint64_t item, uint64_t value);
 
-/* Commits an update: all that it wrote, under one stamp, which is the answer's number. Ends a
- * query. Codes 0, 3, 6, 9, 10; all but 0 change no word. */
+/* Commits an update: all that it wrote, under one stamp, which is the answer's number. That is a new
+ * stamp; past its writing it is the one that its settle answered, and 9 never comes. Ends a query.
+ * Codes 0, 3, 6, 9, 10; all but 0 change no word. */
 struct keeper_answer keeper_commit(uint64_t *txns, size_t txns_len, uint64_t *locks,
                                    size_t locks_len, uint64_t *versions, size_t versions_len,
                                    uint64_t number);
 
-/* Aborts an update, waiting or not: nothing that it wrote is ever read. Ends a query. Codes 0, 3,
- * 10; all but 0 change no word. */
+/* Aborts an update, waiting or not, past its writing or not: nothing that it wrote is ever read.
+ * Ends a query. Codes 0, 3, 10; all but 0 change no word. */
 struct keeper_answer keeper_abort(uint64_t *txns, size_t txns_len, uint64_t *locks,
                                   size_t locks_len, uint64_t *versions, size_t versions_len,
                                   uint64_t number);
+
+/* Settles an update: ends its writing. It takes a stamp, which is the answer's number, lets go of
+ * what it only shares and keeps what it holds exclusively; from then on it reads by that stamp, and
+ * its commit puts its versions under it. Codes 0, 3, 5, 6, 9, 10, 12; all but 0 change no word. */
+struct keeper_answer keeper_settle(uint64_t *txns, size_t txns_len, uint64_t *locks,
+                                   size_t locks_len, uint64_t *versions, size_t versions_len,
+                                   uint64_t number);
 
 #ifdef __cplusplus
 }
