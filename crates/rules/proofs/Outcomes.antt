@@ -60,7 +60,7 @@ module _ (S : Sizes) (enough : S .slots ≤ S .places) (G : Tables) (g : Good S 
   way-shown c d (readSettled n s x C p i h) z =
       subst (λ (H : Tables). Granted S G (Read n x) (says granted ((lock (G .locks) x) .working) 0 0 H)) (sym (past-unchanged S G g s (C .inside) p))
       (settledOwnRead n x s C p i h)
-  way-shown c d (readByStart n s x C q i o b) z = startReads n x s C q i
+  way-shown c d (readByStart n s x C q i o b) z = startReads n x s C q i o b
   way-shown c d (wroteOwn n s x v U h) z =
       subst (λ (H : Tables). Granted S G (Write n x v) (says granted 0 0 0 H))
       (sym (replace-unchanged S G g s (U .caller .inside) x (U .known) v h (U .free)))

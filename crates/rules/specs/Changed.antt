@@ -3,7 +3,7 @@
 use Prim.Native.Nat.{ℕ, suc, _+_, _*_, _≤_, _<_}
 use mathlib.Core.Path.{_≡_}
 use mathlib.Core.Logic.{_≢_, _⊎_}
-use mathlib.Core.Bool.{cond}
+use mathlib.Core.Bool.{false, cond}
 use mathlib.Core.List.{List, _∷_}
 use lib.ListN.{length, getD}
 use lib.Dec.{T}
@@ -15,7 +15,7 @@ use Rattle.rules.specs.Tables.{sharedLock, exclusiveLock, liveUpdate, li
 use Rattle.rules.specs.Waits.{awaits, lowered}
 use Rattle.rules.specs.Versions.{Version, versionsOf, newest, place, choice, rowOf, kept}
 use Rattle.rules.specs.Answers.{Call, BeginUpdate, BeginQuery, Read, Write, Commit, Abort, Settle, Outcome, says, granted}
-use Rattle.rules.specs.Step.{begun, locked, replaced, sharedToo, taken, withLocks, withNew, committed, settledCommitted, ended, aborted, settledAborted, settled}
+use Rattle.rules.specs.Step.{heldBack, begun, locked, replaced, sharedToo, taken, withLocks, withNew, committed, settledCommitted, ended, aborted, settledAborted, settled}
 use Rattle.rules.specs.Conditions.{Caller, Free, Updater}
 
 -- ---- what is said of two lists of words, t before and t′ after
@@ -174,6 +174,7 @@ pub data Granted (S : Sizes) (G : Tables) : Call → Outcome → Type 0 where
   -- "the newest version whose stamp is at most its start", by a query or by one past its writing: no word changes
   startReads :
       (n x s : ℕ) → Caller S G n s → T (byStart (txn (G .txns) s)) → x < S .items
+      → (T (holdsExclusive (lock (G .locks) x) s) → ⊥) → heldBack S (G .txns) (G .locks) x s ≡ false
       → Granted S G (Read n x)
       (says granted
       ((choice ((txn (G .txns) s) .start) (versionsOf S (G .versions) x)) .value)
