@@ -3,7 +3,7 @@
 
 use crate::answer::{code, Answer};
 use crate::good;
-use crate::ids::{Item, Slot, SlotSet};
+use crate::ids::{Item, Slot, SlotSet, Stamp};
 use crate::row;
 use crate::sizes::*;
 use crate::view::{as_row_mut, Holders, Lock, View};
@@ -236,19 +236,29 @@ impl View<'_> {
             return Answer::granted();
         }
         if self.is_settled(slot) {
-            return self.commit_settled(slot);
+            // The stamp was taken at the settle, so there is none to take now.
+            return self.put(slot, self.start(slot));
         }
         let stamp = match self.clock().next() {
             Some(stamp) => stamp,
             None => return Answer::bare(code::CLOCK_SPENT),
         };
         self.txns[CLOCK] = stamp.word();
+        self.put(slot, stamp)
+    }
+
+    /// An update ends, and its versions get this stamp. Past its writing it was a
+    /// reader of all the other rows too.
+    fn put(&mut self, slot: Slot, stamp: Stamp) -> Answer {
+        let was_reader = self.is_settled(slot);
         self.txn_mut(slot).fill(0);
         let starts = self.starts();
         let rows = self.versions.chunks_exact_mut(VERSION_ROW).map(as_row_mut);
         for (lock, versions) in self.locks.chunks_exact_mut(LOCK_ROW).zip(rows) {
             if lock[EXCLUSIVE] == slot.as_holder() {
                 row::push(versions, stamp, lock[WORKING], &starts);
+            } else if was_reader {
+                row::forget(versions, stamp, &starts);
             }
             release(lock, slot);
         }

@@ -150,17 +150,23 @@ impl Tables<'_> {
                 self.stamps(|stamps| stamps.windows(2).all(|pair| pair[0] > pair[1]))
             }
             Clause::FirstStamp => self.stamps(|stamps| stamps[0] <= self.clock),
-            Clause::LastStamp => self.stamps(|stamps| {
-                let last = stamps[stamps.len() - 1];
-                self.starts().iter().all(|&start| last <= start)
-            }),
-            Clause::UnreadVersion => self.stamps(|stamps| {
-                let is_read = |stamp: &u64| {
-                    let reads = |&start: &u64| newest_at(stamps, start) == Some(*stamp);
-                    self.starts().iter().any(reads)
-                };
-                stamps[1..].iter().all(is_read)
-            }),
+            Clause::LastStamp => {
+                let starts = self.starts();
+                self.stamps(|stamps| {
+                    let last = stamps[stamps.len() - 1];
+                    starts.iter().all(|&start| last <= start)
+                })
+            }
+            Clause::UnreadVersion => {
+                let starts = self.starts();
+                self.stamps(|stamps| {
+                    let is_read = |stamp: &u64| {
+                        let reads = |&start: &u64| newest_at(stamps, start) == Some(*stamp);
+                        starts.iter().any(reads)
+                    };
+                    stamps[1..].iter().all(is_read)
+                })
+            }
             Clause::Circle => {
                 let waits = |slot: &usize| self.awaited(*slot).is_some();
                 !(0..SLOTS).filter(waits).any(|slot| self.on_circle(slot))

@@ -2,11 +2,10 @@
 //! on reads by its stamp.
 
 use crate::answer::{code, Answer};
-use crate::calls::release;
 use crate::ids::{Item, Slot, SlotSet};
 use crate::row;
 use crate::sizes::*;
-use crate::view::{as_row_mut, View};
+use crate::view::View;
 
 impl View<'_> {
     /// The update takes its stamp now, not at its commit, and lets go of what it
@@ -71,23 +70,5 @@ impl View<'_> {
         }
         self.lock_mut(item)[WORKING] = value;
         Answer::granted()
-    }
-
-    /// The versions get the stamp that was taken at the settle, so there is none to
-    /// take now. It was a reader of all the other rows.
-    pub(crate) fn commit_settled(&mut self, slot: Slot) -> Answer {
-        let stamp = self.start(slot);
-        self.txn_mut(slot).fill(0);
-        let starts = self.starts();
-        let rows = self.versions.chunks_exact_mut(VERSION_ROW).map(as_row_mut);
-        for (lock, versions) in self.locks.chunks_exact_mut(LOCK_ROW).zip(rows) {
-            if lock[EXCLUSIVE] == slot.as_holder() {
-                row::push(versions, stamp, lock[WORKING], &starts);
-            } else {
-                row::forget(versions, stamp, &starts);
-            }
-            release(lock, slot);
-        }
-        Answer::numbered(stamp.word())
     }
 }

@@ -1,9 +1,18 @@
 //! The fuzzer catches every keeper that is wrong on purpose, within the fixed
 //! rounds of `./keeper test`, and leaves the right one alone.
+//!
+//! Each round is made once and held against all programs that are not caught yet:
+//! making it takes far longer than a run of a program. Nor does one have to be
+//! started for every try to make a difference small: its keeper is called instead.
 
+use std::io;
 use std::process::{Command, Output};
-use std::time::Instant;
 
+use twin::fuzz::cases::Batch;
+use twin::fuzz::process::{Other, Program, Run};
+use twin::fuzz::stats::Stats;
+use twin::fuzz::{begin, scripts};
+use twin::protocol;
 use twin::wrong::{WrongJudge, WrongRunner, WrongSize, WrongTables};
 
 const FUZZ: &str = env!("CARGO_BIN_EXE_fuzz");
@@ -30,69 +39,137 @@ fn smallest(report: &str) -> usize {
     word.parse().expect("the number of its lines")
 }
 
-/// What the fuzzer reports of a program that is wrong in one way: seed 1, and as
-/// many rounds as `./keeper test` has for such a program.
-fn report_of([option, path, next]: [&str; 3], kind: &str) -> String {
-    let rounds = match option {
-        "--runner" => "250",
-        "--tables" => "50",
-        _ => "60",
-    };
-    let output = fuzz(&[
-        option, path, next, "--wrong", next, kind, "--seed", "1", "--rounds", rounds,
-    ]);
-    assert_eq!(output.status.code(), Some(1), "{} is not caught", kind);
-    text(&output)
+/// The rounds of `./keeper test` for a program: seed 1, and so many.
+const SEED: u64 = 1;
+const OF_SCRIPTS: u64 = 250;
+const OF_TABLES: u64 = 50;
+const OF_JOURNALS: u64 = 60;
+
+/// A program that is wrong in one way, and the same keeper in this process.
+struct Wrong<F> {
+    program: Program,
+    inside: F,
+}
+
+impl<F: Fn(&[u8], &mut Vec<u8>) -> io::Result<()>> Wrong<F> {
+    fn new(path: &str, kind: &str, inside: F) -> Wrong<F> {
+        let path = path.to_string();
+        let arguments = vec!["--wrong".to_string(), kind.to_string()];
+        let program = Program { path, arguments };
+        Wrong { program, inside }
+    }
+}
+
+impl<F: Fn(&[u8], &mut Vec<u8>) -> io::Result<()>> Other for Wrong<F> {
+    fn run(&self, input: &[u8], is_try: bool) -> Result<Run, String> {
+        if !is_try {
+            return self.program.run(input, is_try);
+        }
+        let mut output = Vec::new();
+        (self.inside)(input, &mut output).expect("memory does not fail");
+        let failure = None;
+        Ok(Run { output, failure })
+    }
 }
 
 #[test]
 fn wrong_runners_are_caught() {
-    for kind in WrongRunner::names() {
-        let begin = Instant::now();
-        let report = report_of(["--runner", RUNNER, "--runner-arg"], kind);
-        assert!(report.contains("difference at seed 1 round "), "{}", kind);
-        assert!(report.contains("first differing line: "), "{}", kind);
-        let lines = smallest(&report);
-        println!("{}: {} lines, {:?}", kind, lines, begin.elapsed());
-        // A row of all versions takes four lines for each, or five where one past
-        // its writing reads it.
-        let needs_many = WrongSize::ALL.iter().any(|(name, _)| *name == kind);
-        let most = if needs_many { 5 * 32 + 10 } else { 40 };
-        assert!(lines <= most, "{}: {} lines are many", kind, lines);
+    let mut stats = Stats::new();
+    let mut left = WrongRunner::names();
+    for round in 0..OF_SCRIPTS {
+        if left.is_empty() {
+            break;
+        }
+        let (script, _) = begin(SEED, round, false, &mut stats);
+        assert_eq!(script.own_mistake, None);
+        left.retain(|name| {
+            let kind = WrongRunner::named(name).expect("a name from the list");
+            let runner = Wrong::new(RUNNER, name, |input, output| kind.run(input, output));
+            let run = runner.run(&script.input, false).expect("it can be started");
+            let is_caught = scripts::differs(&script.expected, &run);
+            if is_caught {
+                let report = scripts::report(&runner, &script.input, &run);
+                println!("{}: round {}, {} lines", name, round, smallest(&report));
+                is_small(name, &report);
+            }
+            !is_caught
+        });
     }
+    assert!(left.is_empty(), "not caught: {:?}", left);
 }
 
-/// Every program that is wrong in one of these ways is caught, and said to be so.
-fn all_caught(program: [&str; 3], kinds: Vec<&str>, said: &str) {
-    for kind in kinds {
-        let begin = Instant::now();
-        let report = report_of(program, kind);
-        assert!(report.contains(said), "{}", kind);
-        println!("{}: {:?}", kind, begin.elapsed());
-    }
-}
-
-/// Every second kind from this one on: there are many, so two tests share them.
-fn wrong_tables_from(first: usize) {
-    let program = ["--tables", TABLES, "--tables-arg"];
-    let kinds = WrongTables::names().into_iter().skip(first).step_by(2);
-    all_caught(program, kinds.collect(), "smallest case found");
+fn is_small(name: &str, report: &str) {
+    assert!(report.contains("first differing line: "), "{}", name);
+    // A row of all versions takes four lines for each, or five where one past its
+    // writing reads it.
+    let needs_many = WrongSize::ALL.iter().any(|(size, _)| *size == name);
+    let most = if needs_many { 5 * 32 + 10 } else { 40 };
+    let lines = smallest(report);
+    assert!(lines <= most, "{}: {} lines are many", name, lines);
 }
 
 #[test]
 fn wrong_tables_are_caught() {
-    wrong_tables_from(0);
+    let mut stats = Stats::new();
+    let mut left = WrongTables::names();
+    for round in 0..OF_TABLES {
+        if left.is_empty() {
+            break;
+        }
+        let (script, mut rng) = begin(SEED, round, true, &mut stats);
+        let batch = Batch::make(&mut rng, &script.samples, &mut stats).unwrap();
+        left.retain(|name| {
+            let kind = WrongTables::named(name).expect("a name from the list");
+            let tables = Wrong::new(TABLES, name, |input, output| {
+                protocol::run(input, output, |call, tables| kind.call(call, tables))
+            });
+            let report = batch.held_against(&tables).expect("it can be started");
+            if let Some(report) = &report {
+                println!("{}: round {}", name, round);
+                assert!(report.contains("smallest case found"), "{}", name);
+            }
+            report.is_none()
+        });
+    }
+    assert!(left.is_empty(), "not caught: {:?}", left);
+}
+
+/// What the fuzzer itself reports of a program that is wrong in one way.
+fn report_of(option: &str, path: &str, kind: &str, rounds: u64) -> String {
+    let (next, rounds) = (format!("{}-arg", option), rounds.to_string());
+    let output = fuzz(&[
+        option, path, &next, "--wrong", &next, kind, "--seed", "1", "--rounds", &rounds,
+    ]);
+    assert_eq!(output.status.code(), Some(1), "{} is not caught", kind);
+    let report = text(&output);
+    assert!(report.contains("difference at seed 1 round "), "{}", kind);
+    report
 }
 
 #[test]
-fn the_other_wrong_tables_are_caught() {
-    wrong_tables_from(1);
+fn the_fuzzer_itself_tells() {
+    for kind in [
+        "no-trim",
+        "quota-33",
+        "overtake",
+        "settled-no-wait",
+        "slots-16",
+    ] {
+        let report = report_of("--runner", RUNNER, kind, OF_SCRIPTS);
+        is_small(kind, &report);
+    }
+    for kind in ["circle", "stale-rank", "settle-clock-first", "places-31"] {
+        let report = report_of("--tables", TABLES, kind, OF_TABLES);
+        assert!(report.contains("smallest case found"), "{}", kind);
+    }
 }
 
 #[test]
 fn wrong_judges_are_caught() {
-    let program = ["--verdict", VERDICT, "--verdict-arg"];
-    all_caught(program, WrongJudge::names(), "the twin says ");
+    for kind in WrongJudge::names() {
+        let report = report_of("--verdict", VERDICT, kind, OF_JOURNALS);
+        assert!(report.contains("the twin says "), "{}", kind);
+    }
 }
 
 #[test]

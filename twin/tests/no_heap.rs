@@ -34,58 +34,32 @@ fn no_call_asks_for_heap() {
         let (first, item) = (keeper.txns[0] + 1, round % 64);
         let (second, query, third, fourth) = (first + 1, first + 2, first + 3, first + 4);
         let value = round;
+        let read = |number| Call::Read { number, item };
+        let write = |number| Call::Write {
+            number,
+            item,
+            value,
+        };
         let calls = [
             Call::Update,
             Call::Update,
             Call::Query,
-            Call::Read {
-                number: first,
-                item,
-            },
-            Call::Read {
-                number: second,
-                item,
-            },
-            Call::Write {
-                number: first,
-                item,
-                value,
-            },
-            Call::Write {
-                number: second,
-                item,
-                value,
-            },
+            read(first),
+            read(second),
+            write(first),
+            write(second),
             Call::Abort { number: second },
-            Call::Write {
-                number: first,
-                item,
-                value,
-            },
+            write(first),
             Call::Commit { number: first },
-            Call::Read {
-                number: query,
-                item,
-            },
+            read(query),
             Call::Commit { number: query },
             Call::Update,
             Call::Update,
-            Call::Write {
-                number: third,
-                item,
-                value,
-            },
+            write(third),
             Call::Settle { number: third },
             Call::Settle { number: fourth },
-            Call::Read {
-                number: fourth,
-                item,
-            },
-            Call::Write {
-                number: fourth,
-                item,
-                value,
-            },
+            read(fourth),
+            write(fourth),
             Call::Commit { number: third },
             Call::Abort { number: fourth },
         ];

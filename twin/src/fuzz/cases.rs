@@ -5,7 +5,7 @@ use super::director::Director;
 use super::full::full;
 use super::made::made;
 use super::odd_cases::{self, odd_case};
-use super::process::Program;
+use super::process::Other;
 use super::scene::Scene;
 use super::settled::Standing;
 use super::small_case::{described, report};
@@ -40,54 +40,59 @@ enum Sent {
     },
 }
 
-/// Makes one batch, has it answered and compares. Ok(None) if all is the same,
-/// else a description; an error if the program cannot be started.
-pub fn round(
-    rng: &mut Rng,
-    samples: &[Keeper],
-    program: &Program,
-    stats: &mut Stats,
-) -> Result<Option<String>, String> {
-    let mut director = Director::new();
-    let mut batch = Vec::with_capacity(BATCH);
-    let mut input = Vec::new();
-    for _ in 0..BATCH {
-        let prepared = prepare(rng, samples, &mut director);
-        if let Some(mistake) = count(stats, &prepared) {
-            return Ok(Some(mistake));
-        }
-        if rng.percent(ODD) {
-            let odd = odd(rng, &prepared.case, stats, &mut input);
-            batch.push(odd);
-        }
-        prepared.case.push(&mut input);
-        batch.push(Sent::Case(prepared));
-    }
-    if rng.percent(20) {
-        input.pop(); // the end of input ends the last line too
-    }
-    let run = program.run(&input, true)?;
-    let mut outcomes = run.output.split(|&byte| byte == b'\n');
-    for (at, sent) in batch.iter().enumerate() {
-        let outcome = outcomes.next().unwrap_or_default();
-        let expected = match sent {
-            Sent::Case(prepared) => &prepared.expected,
-            Sent::Odd { expected, .. } => expected,
-        };
-        if outcome != &expected[..] {
-            let mut text = format!("line {} of its batch\n", at + 1);
-            if let Some(failure) = &run.failure {
-                text += &format!("the program failed: {}\n", failure);
+/// The cases of one round, and the lines that they are sent as.
+pub struct Batch {
+    sent: Vec<Sent>,
+    input: Vec<u8>,
+}
+
+impl Batch {
+    /// Makes one. An error tells what the twin finds wrong with itself.
+    pub fn make(rng: &mut Rng, samples: &[Keeper], stats: &mut Stats) -> Result<Batch, String> {
+        let mut director = Director::new();
+        let mut sent = Vec::with_capacity(BATCH);
+        let mut input = Vec::new();
+        for _ in 0..BATCH {
+            let prepared = prepare(rng, samples, &mut director);
+            count(stats, &prepared)?;
+            if rng.percent(ODD) {
+                sent.push(odd(rng, &prepared.case, stats, &mut input));
             }
-            return Ok(Some(text + &told(program, sent, outcome)));
+            prepared.case.push(&mut input);
+            sent.push(Sent::Case(prepared));
         }
+        if rng.percent(20) {
+            input.pop(); // the end of input ends the last line too
+        }
+        Ok(Batch { sent, input })
     }
-    let rest: Vec<u8> = outcomes.flatten().copied().collect();
-    Ok(match (run.failure, rest.is_empty()) {
-        (Some(failure), _) => Some(format!("the program failed at its end: {}\n", failure)),
-        (None, false) => Some("more outcomes than cases\n".to_string()),
-        (None, true) => None,
-    })
+
+    /// Has it answered and compares. Ok(None) if all is the same, else a
+    /// description; an error if the other cannot be tried.
+    pub fn held_against(&self, other: &dyn Other) -> Result<Option<String>, String> {
+        let run = other.run(&self.input, false)?;
+        let mut outcomes = run.output.split(|&byte| byte == b'\n');
+        for (at, sent) in self.sent.iter().enumerate() {
+            let outcome = outcomes.next().unwrap_or_default();
+            let expected = match sent {
+                Sent::Case(prepared) => &prepared.expected,
+                Sent::Odd { expected, .. } => expected,
+            };
+            if outcome != &expected[..] {
+                let mut text = format!("line {} of its batch\n", at + 1);
+                if let Some(failure) = &run.failure {
+                    text += &format!("the program failed: {}\n", failure);
+                }
+                return Ok(Some(text + &told(other, sent, outcome)));
+            }
+        }
+        let rest: Vec<u8> = outcomes.flatten().copied().collect();
+        Ok(match (run.failure, rest.is_empty()) {
+            (Some(failure), _) => Some(format!("the program failed at its end: {}\n", failure)),
+            (None, false) => Some("more outcomes than cases\n".to_string()),
+            (None, true) => None,
+        })
+    }
 }
 
 /// Sends an odd line made from a case.
@@ -108,11 +113,11 @@ fn odd(rng: &mut Rng, case: &Case, stats: &mut Stats, input: &mut Vec<u8>) -> Se
 }
 
 /// What differs.
-fn told(program: &Program, sent: &Sent, outcome: &[u8]) -> String {
+fn told(other: &dyn Other, sent: &Sent, outcome: &[u8]) -> String {
     match sent {
         Sent::Case(prepared) => {
             let damage = damage::KINDS[prepared.damage].0;
-            format!("damage: {}\n", damage) + &report(program, &prepared.case)
+            format!("damage: {}\n", damage) + &report(other, &prepared.case)
         }
         Sent::Odd {
             kind,
@@ -195,7 +200,7 @@ pub fn outcome(case: &Case) -> Vec<u8> {
 }
 
 /// Counts a case. The twin's own two tests of the tables must agree.
-fn count(stats: &mut Stats, prepared: &Prepared) -> Option<String> {
+fn count(stats: &mut Stats, prepared: &Prepared) -> Result<(), String> {
     let Tables {
         txns,
         locks,
@@ -223,9 +228,9 @@ fn count(stats: &mut Stats, prepared: &Prepared) -> Option<String> {
             "the twin disagrees with itself; clauses broken: {:?}\n",
             broken
         );
-        return Some(text + &described(&prepared.case));
+        return Err(text + &described(&prepared.case));
     }
-    None
+    Ok(())
 }
 
 /// Counts what a case on good tables has to do with those past their writing.
@@ -251,7 +256,7 @@ mod tests {
         let mut rng = Rng::new(1);
         for _ in 0..15_000 {
             let prepared = prepare(&mut rng, &[], &mut director);
-            assert_eq!(count(&mut stats, &prepared), None);
+            assert_eq!(count(&mut stats, &prepared), Ok(()));
         }
         for (clause, (_, alone)) in Clause::ALL.into_iter().zip(stats.clauses) {
             assert!(alone > 5, "{}: {}", clause.name(), alone);

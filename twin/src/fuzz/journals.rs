@@ -5,7 +5,7 @@ use std::fmt;
 use std::fs;
 use std::path::PathBuf;
 
-use super::process::{Program, Run};
+use super::process::{Other, Program, Run};
 use super::stats::Stats;
 use crate::journal::{judge, Journal, Verdict};
 use crate::keeper::Call;
@@ -297,7 +297,7 @@ pub fn round(
         stats.journals.recorded += 1;
         // What an earlier journal leaves behind must not show.
         fs::write(&place.0, b"not a journal").map_err(|error| error.to_string())?;
-        let run = record.with(&path).run(input, true)?;
+        let run = record.with(&path).run(input, false)?;
         let said = format!("{}\n", calls.len());
         let found = fs::read(&place.0).unwrap_or_default();
         if found != bytes || run.output != said.as_bytes() || run.failure.is_some() {
@@ -339,7 +339,7 @@ pub fn round(
 /// Whether the program says of the bytes what the twin says.
 fn judged(verdict: &Program, place: &Place, bytes: &[u8]) -> Result<Option<String>, String> {
     fs::write(&place.0, bytes).map_err(|error| error.to_string())?;
-    let run = verdict.run(b"", true)?;
+    let run = verdict.run(b"", false)?;
     let expected = judge(bytes);
     if run.failure.is_none() && run.output == format!("{}\n", expected).as_bytes() {
         return Ok(None);

@@ -29,7 +29,9 @@ pub mod waiters;
 
 use std::time::{Duration, Instant};
 
-use self::process::Program;
+use self::cases::Batch;
+use self::process::{Other, Program};
+use self::scripts::Script;
 use self::stats::Stats;
 use crate::rng::Rng;
 
@@ -90,21 +92,29 @@ pub fn run(options: &Options, stats: &mut Stats) -> Result<Ending, String> {
     }
 }
 
+/// The script that a round begins with, and the numbers for what follows it.
+pub fn begin(seed: u64, round: u64, with_tables: bool, stats: &mut Stats) -> (Script, Rng) {
+    let mut rng = Rng::for_round(seed, round);
+    let samples = if with_tables { SAMPLES } else { 0 };
+    (scripts::make(&mut rng, stats, samples), rng)
+}
+
 fn one_round(options: &Options, round: u64, stats: &mut Stats) -> Result<Option<String>, String> {
-    let mut rng = Rng::for_round(options.seed, round);
-    let samples = if options.tables.is_some() { SAMPLES } else { 0 };
-    let script = scripts::make(&mut rng, stats, samples);
+    let (script, mut rng) = begin(options.seed, round, options.tables.is_some(), stats);
     if let Some(mistake) = script.own_mistake {
         return Ok(Some(format!("the twin's own mistake: {}\n", mistake)));
     }
     if let Some(runner) = &options.runner {
-        let run = runner.run(&script.input, true)?;
+        let run = runner.run(&script.input, false)?;
         if scripts::differs(&script.expected, &run) {
             return Ok(Some(scripts::report(runner, &script.input, &run)));
         }
     }
     if let Some(tables) = &options.tables {
-        let difference = cases::round(&mut rng, &script.samples, tables, stats)?;
+        let difference = match Batch::make(&mut rng, &script.samples, stats) {
+            Ok(batch) => batch.held_against(tables)?,
+            Err(mistake) => Some(mistake),
+        };
         if difference.is_some() {
             return Ok(difference);
         }

@@ -1,10 +1,17 @@
-//! Another program: input in, output out.
+//! What the twin is held against: input in, output out.
 
 use std::io::{Read, Write};
 use std::process::{Command, Stdio};
 use std::sync::mpsc;
 use std::thread;
 use std::time::Duration;
+
+/// Something that answers a whole input.
+pub trait Other {
+    /// Answers it, or one more of the many tries that make a difference small. An
+    /// error means that it cannot be tried.
+    fn run(&self, input: &[u8], is_try: bool) -> Result<Run, String>;
+}
 
 /// A program and its arguments.
 #[derive(Clone, Debug)]
@@ -31,15 +38,16 @@ impl Program {
         program.arguments.push(argument.to_string());
         program
     }
+}
 
-    /// Runs the program on an input. Both pipes are served by threads of their
-    /// own, so neither side ever waits for the other. An error means that the
-    /// program cannot be started.
-    pub fn run(&self, input: &[u8], show_errors: bool) -> Result<Run, String> {
+impl Other for Program {
+    /// Both pipes are served by threads of their own, so neither side ever waits
+    /// for the other. An error means that the program cannot be started.
+    fn run(&self, input: &[u8], is_try: bool) -> Result<Run, String> {
         let mut command = Command::new(&self.path);
         command.args(&self.arguments);
         command.stdin(Stdio::piped()).stdout(Stdio::piped());
-        if !show_errors {
+        if is_try {
             command.stderr(Stdio::null());
         }
         let mut child = command

@@ -4,7 +4,7 @@ use std::collections::{BTreeMap, BTreeSet};
 use std::time::Duration;
 
 use super::director::Director;
-use super::process::{Program, Run};
+use super::process::{Other, Run};
 use super::shrink::{smallest, Budget};
 use super::spoil::spoil;
 use super::stats::Stats;
@@ -225,7 +225,7 @@ fn renumbered(line: &[u8], number: u64) -> Vec<u8> {
 }
 
 /// Describes a difference: where it is, and a small script that shows it.
-pub fn report(program: &Program, input: &[u8], run: &Run) -> String {
+pub fn report(other: &dyn Other, input: &[u8], run: &Run) -> String {
     let expected = answers(input);
     let at = first_difference(&expected, &run.output);
     let mut text = format!("first differing line: {}\n", at);
@@ -264,7 +264,7 @@ pub fn report(program: &Program, input: &[u8], run: &Run) -> String {
         .collect();
     let stays = |some: &[Line]| {
         let input = put_together(some, &all, ends);
-        match program.run(&input, false) {
+        match other.run(&input, true) {
             Ok(run) => differs(&answers(&input), &run),
             Err(_) => false,
         }
@@ -285,7 +285,7 @@ pub fn report(program: &Program, input: &[u8], run: &Run) -> String {
     let left = smallest(&numbers, &mut budget, |some| stays(&of_these(&list, some)));
     let small = smallest(&of_these(&list, &left), &mut budget, stays);
     let input = put_together(&small, &all, ends);
-    let output = match program.run(&input, false) {
+    let output = match other.run(&input, true) {
         Ok(run) => run.output,
         Err(_) => Vec::new(),
     };

@@ -1,10 +1,11 @@
 //! A case that differs, made small, and what differs in it.
 
 use std::collections::BTreeMap;
+use std::iter::repeat;
 use std::time::Duration;
 
 use super::cases::outcome;
-use super::process::Program;
+use super::process::Other;
 use super::scene::Scene;
 use super::shrink::{smallest, Budget};
 use crate::keeper::{Call, Keeper};
@@ -15,11 +16,11 @@ use crate::sizes::*;
 /// Makes a differing case small while the difference stays: other transactions
 /// are aborted, then rows and at last words go back to what they are in fresh
 /// tables.
-pub fn report(program: &Program, case: &Case) -> String {
+pub fn report(other: &dyn Other, case: &Case) -> String {
     let output_of = |case: &Case| {
         let mut input = Vec::new();
         case.push(&mut input);
-        program.run(&input, false).map(|run| run.output)
+        other.run(&input, true).map(|run| run.output)
     };
     let differs = |case: &Case| {
         let expected = [&outcome(case)[..], b"\n"].concat();
@@ -100,18 +101,20 @@ fn tables_of(tables: &Tables) -> [&Vec<u64>; 3] {
     [&tables.txns, &tables.locks, &tables.versions]
 }
 
-fn fresh_word(table: usize, at: usize) -> u64 {
-    let fresh = Keeper::fresh();
-    let words = [&fresh.txns[..], &fresh.locks, &fresh.versions][table];
-    words.get(at).copied().unwrap_or(0)
+/// The words of fresh tables, and 0 behind their ends.
+fn fresh_words(fresh: &Keeper) -> [impl Iterator<Item = u64> + '_; 3] {
+    let tables = [&fresh.txns[..], &fresh.locks, &fresh.versions];
+    tables.map(|words| words.iter().copied().chain(repeat(0)))
 }
 
 /// The words that are not as in fresh tables.
 fn odd_words(tables: &Tables) -> Vec<Word> {
+    let fresh = Keeper::fresh();
     let mut odd = Vec::new();
-    for (table, words) in tables_of(tables).into_iter().enumerate() {
-        for (at, &word) in words.iter().enumerate() {
-            if word != fresh_word(table, at) {
+    let both = tables_of(tables).into_iter().zip(fresh_words(&fresh));
+    for (table, (words, fresh)) in both.enumerate() {
+        for (at, (&word, fresh)) in words.iter().zip(fresh).enumerate() {
+            if word != fresh {
                 odd.push((table, at, word));
             }
         }
@@ -124,9 +127,10 @@ fn with_words(case: &Case, odd: &[Word]) -> Case {
     let mut case = case.clone();
     let tables = &mut case.tables;
     let tables = [&mut tables.txns, &mut tables.locks, &mut tables.versions];
-    for (table, words) in tables.into_iter().enumerate() {
-        for (at, word) in words.iter_mut().enumerate() {
-            *word = fresh_word(table, at);
+    let fresh = Keeper::fresh();
+    for (table, (words, fresh)) in tables.into_iter().zip(fresh_words(&fresh)).enumerate() {
+        for (word, fresh) in words.iter_mut().zip(fresh) {
+            *word = fresh;
         }
         for &(_, at, word) in odd.iter().filter(|(owner, _, _)| *owner == table) {
             words[at] = word;

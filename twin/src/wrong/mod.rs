@@ -30,7 +30,7 @@ use crate::answer::Answer;
 use crate::calls::Access;
 use crate::keeper::{Call, Keeper};
 use crate::script;
-use crate::sizes::{QUERY, UPDATE};
+use crate::sizes::{EXCLUSIVE, LOCK_ROW, QUERY, UPDATE};
 use crate::view::View;
 
 /// The one of this name.
@@ -67,6 +67,25 @@ fn right(view: &mut View, call: Call) -> Answer {
         Call::Abort { number } => view.abort(number),
         Call::Settle { number } => view.settle(number),
     }
+}
+
+/// The right call as if these held nothing exclusively; what nobody takes meanwhile
+/// is theirs again.
+fn without_locks(view: &mut View, call: Call, is_unseen: impl Fn(u64) -> bool) -> Answer {
+    let before = *view.locks;
+    for row in view.locks.chunks_exact_mut(LOCK_ROW) {
+        if is_unseen(row[EXCLUSIVE]) {
+            row.fill(0);
+        }
+    }
+    let answer = right(view, call);
+    let rows = view.locks.chunks_exact_mut(LOCK_ROW);
+    for (row, old) in rows.zip(before.chunks_exact(LOCK_ROW)) {
+        if is_unseen(old[EXCLUSIVE]) && row[EXCLUSIVE] == 0 {
+            row[EXCLUSIVE..].copy_from_slice(&old[EXCLUSIVE..]);
+        }
+    }
+    answer
 }
 
 /// A way for a runner to be wrong.

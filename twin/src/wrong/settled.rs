@@ -1,7 +1,7 @@
 //! Wrong rules of those past their writing (request E6).
 
-use super::right;
 use super::settled_ends::{end, forgetful};
+use super::{right, without_locks};
 use crate::answer::{code, Answer};
 use crate::ids::{Item, Slot, SlotSet};
 use crate::keeper::Call;
@@ -254,27 +254,10 @@ fn begins_below(view: &mut View) -> Answer {
 
 /// The call of an update as if nobody past its writing held anything.
 fn unseen(view: &mut View, call: Call) -> Answer {
-    let before = *view.locks;
-    let settled = |view: &View| {
-        let settled = Slot::all().filter(|slot| view.is_settled(*slot));
-        settled.fold(SlotSet::EMPTY, SlotSet::with)
-    };
-    let settled = settled(view);
-    let is_held = |row: &[u64]| {
-        let holder = SlotSet::of_holder(row[EXCLUSIVE]);
+    let settled = Slot::all().filter(|slot| view.is_settled(*slot));
+    let settled = settled.fold(SlotSet::EMPTY, SlotSet::with);
+    without_locks(view, call, |holder| {
+        let holder = SlotSet::of_holder(holder);
         !holder.is_empty() && holder.is_within(settled)
-    };
-    for row in view.locks.chunks_exact_mut(LOCK_ROW) {
-        if is_held(row) {
-            row.fill(0);
-        }
-    }
-    let answer = right(view, call);
-    let rows = view.locks.chunks_exact_mut(LOCK_ROW);
-    for (row, old) in rows.zip(before.chunks_exact(LOCK_ROW)) {
-        if is_held(old) && row[EXCLUSIVE] == 0 {
-            row[EXCLUSIVE..].copy_from_slice(&old[EXCLUSIVE..]);
-        }
-    }
-    answer
+    })
 }

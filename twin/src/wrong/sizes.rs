@@ -1,9 +1,9 @@
 //! Keepers that are wrong about how many slots and versions there are (request
 //! E5), and right as long as there are few.
 
-use super::right;
 use super::settled::WrongSettled;
 use super::settled_ends::end;
+use super::{right, without_locks};
 use crate::answer::{code, Answer};
 use crate::ids::{Item, Slot, SlotSet};
 use crate::keeper::Call;
@@ -162,23 +162,7 @@ fn unseen(view: &mut View, call: Call) -> Answer {
         Some(slot) if slot.as_holder() == last => return right(view, call),
         _ => {}
     }
-    let before = *view.locks;
-    let held = |row: &[u64]| row[EXCLUSIVE] == last;
-    for row in view
-        .locks
-        .chunks_exact_mut(LOCK_ROW)
-        .filter(|row| held(row))
-    {
-        row.fill(0);
-    }
-    let answer = right(view, call);
-    let rows = view.locks.chunks_exact_mut(LOCK_ROW);
-    for (row, old) in rows.zip(before.chunks_exact(LOCK_ROW)) {
-        if held(old) && row[EXCLUSIVE] == 0 {
-            row[EXCLUSIVE..].copy_from_slice(&old[EXCLUSIVE..]);
-        }
-    }
-    answer
+    without_locks(view, call, |holder| holder == last)
 }
 
 /// The right call, but of the circles only these are found; else the caller waits.

@@ -246,3 +246,30 @@ fn empty_tables(rng: &mut Rng, t: &mut Tables) -> bool {
     }
     true
 }
+
+#[cfg(test)]
+mod tests {
+    use super::*;
+    use crate::clauses::{broken, Clause};
+    use crate::fuzz::made::made;
+
+    /// How often, of a hundred times, a damage breaks just these clauses.
+    pub fn share(damage: impl Fn(&mut Rng, &mut Tables) -> bool, expected: &[Clause]) -> usize {
+        let (mut done, mut alone) = (0, 0);
+        for seed in 0..4000 {
+            let mut rng = Rng::new(seed);
+            let mut t = Tables::from(&made(&mut rng));
+            if damage(&mut rng, &mut t) {
+                let list = broken(&t.txns, &t.locks, &t.versions);
+                assert_eq!(t.good(), list.is_empty(), "seed {}: {:?}", seed, list);
+                alone += usize::from(list == expected);
+                done += 1;
+            }
+            if done == 500 {
+                break;
+            }
+        }
+        assert!(done > 300, "{} times", done);
+        100 * alone / done
+    }
+}

@@ -68,24 +68,12 @@ fn held_by(rng: &mut Rng, t: &mut Tables, count: usize) -> Option<usize> {
 
 #[cfg(test)]
 mod tests {
+    use super::super::tests::share;
     use super::*;
-    use crate::clauses::{broken, Clause};
-    use crate::fuzz::made::made;
+    use crate::clauses::Clause;
 
-    /// What these damages break, over many tables.
     fn breaks(damage: impl Fn(&mut Rng, &mut Tables) -> bool, expected: &[Clause]) {
-        let mut done = 0;
-        for seed in 0..3000 {
-            let mut rng = Rng::new(seed);
-            let mut t = Tables::from(&made(&mut rng));
-            if damage(&mut rng, &mut t) {
-                let list = broken(&t.txns, &t.locks, &t.versions);
-                assert_eq!(list, expected, "seed {}", seed);
-                assert_eq!(t.good(), expected.is_empty(), "seed {}", seed);
-                done += 1;
-            }
-        }
-        assert!(done > 500, "{} times", done);
+        assert_eq!(share(damage, expected), 100);
     }
 
     #[test]

@@ -205,26 +205,9 @@ pub fn query_awaits(rng: &mut Rng, t: &mut Tables) -> bool {
 
 #[cfg(test)]
 mod tests {
+    use super::super::tests::share;
     use super::*;
-    use crate::clauses::{broken, Clause};
-    use crate::fuzz::made::made;
-
-    /// How often, of a hundred times, this breaks just this.
-    fn share(damage: impl Fn(&mut Rng, &mut Tables) -> bool, expected: &[Clause]) -> usize {
-        let (mut done, mut alone) = (0, 0);
-        for seed in 0..2000 {
-            let mut rng = Rng::new(seed);
-            let mut t = Tables::from(&made(&mut rng));
-            if damage(&mut rng, &mut t) {
-                let list = broken(&t.txns, &t.locks, &t.versions);
-                assert_eq!(t.good(), list.is_empty(), "seed {}", seed);
-                alone += usize::from(list == expected);
-                done += 1;
-            }
-        }
-        assert!(done > 300, "{} times", done);
-        100 * alone / done
-    }
+    use crate::clauses::Clause;
 
     #[test]
     fn each_clause_alone() {
