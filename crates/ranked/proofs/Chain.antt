@@ -1,25 +1,13 @@
 -- Those who pass p bear numbers f. Where each number above 1 has the one before it borne too, no number is above how many pass.
 use Prim.Native.Nat.{ℕ, zero, suc, _≤_, _<_}
-use mathlib.Core.Path.{_≡_, refl, sym, subst}
-use mathlib.Core.Bool.{Bool, _&&_, not}
+use mathlib.Core.Path.{_≡_, refl}
+use mathlib.Core.Bool.{Bool, _&&_}
 use native.Mathlib.Omega.{arith}
-use lib.Dec.{T, eqb, leb, leb→le, le→leb}
+use lib.Dec.{T, leb, leb→le, le→leb}
 use Rattle.rules.specs.Words.{countBelow}
-use Rattle.rules.proofs.Tests.{and-left, and-right, and-both, and-also, not-use, ne-make, eq-make}
+use Rattle.rules.proofs.Tests.{and-left, and-right, and-both}
 use Rattle.rules.proofs.Counts.{count-fewer}
-use Rattle.rules.proofs.Lines.{count-one-less}
-
--- more pass where one passes besides
-count-more :
-    (n : ℕ) (p q : ℕ → Bool) (s : ℕ) → s < n → T (p s) → (T (q s) → ⊥) → ((i : ℕ) → i < n → T (q i) → T (p i))
-    → suc (countBelow n q) ≤ countBelow n p
-count-more n p q s h a b f =
-    let few = count-fewer n q others (λ i l u. and-both (p i) _ (f i l u) (ne-make i s (λ e. b (subst (λ (m : ℕ). T (q m)) e u)))) in
-    let one = count-one-less n p others s h a (λ u. not-use (eqb s s) (and-right (p s) _ u) (eq-make s s refl)) (λ i l d. sym (and-also (p i) (not (eqb i s)) (ne-make i s d))) in
-    omega arith
-  where
-    others : ℕ → Bool
-    others i = p i && not (eqb i s)
+use Rattle.rules.proofs.Lines.{count-more}
 
 module _
     (n : ℕ) (p : ℕ → Bool) (f : ℕ → ℕ)
@@ -29,7 +17,7 @@ module _
     abbrev upTo : ℕ → ℕ → Bool
     upTo m i = p i && leb (f i) m
 
-    one-more : (m i : ℕ) → i < n → T (p i) → f i ≡ suc m → suc (countBelow n (upTo m)) ≤ countBelow n (upTo (suc m))
+    one-more : (m i : ℕ) → i < n → T (p i) → f i ≡ suc m → countBelow n (upTo m) < countBelow n (upTo (suc m))
     one-more m i h a e =
         count-more n (upTo (suc m)) (upTo m) i h
         (and-both (p i) _ a (le→leb (f i) (suc m) (omega arith)))
