@@ -5,11 +5,11 @@
  * full ones: a live query in every slot but one, and as many versions of each item as there is room
  * for. Then the test and a write are timed where two updates hold all items, then calls where others
  * wait for an item, and then the calls that rewrite rows: the end of a query, and the commit of an
- * update with as many items as one may have. Then a settle, the commit of an update past its writing
- * and the plain commit beside each other, each of the same update on the same tables: with one write
- * on fresh and on full tables, with as many items as one may hold, and with many shared locks. A
- * library of six calls, whose header does not say how many there are, has no settle: there that part
- * is left out.
+ * update with as many items as one may have. Then commits that write nothing, and of the last item
+ * alone. Then a settle, the commit of an update past its writing and the plain commit beside each
+ * other, each of the same update on the same tables: with one write on fresh and on full tables, with
+ * as many items as one may hold, and with many shared locks. A library of six calls, whose header
+ * does not say how many there are, has no settle: there that part is left out.
  *
  * The sizes of the tables are those of the header alone, and no line that is timed names one: so this
  * can be built for libraries of other sizes too, each with its own header, and its lines compared. */
@@ -243,6 +243,31 @@ static void measure_rows(void)
     measure_commit("commit of a full job, rows get full", full_job(0, 1));
 }
 
+/* An update that has read so many items. */
+static uint64_t reader(uint64_t shares)
+{
+    uint64_t n = granted(keeper_begin_update(TABLES)).number;
+    for (uint64_t x = 0; x < shares; x++)
+        granted(keeper_read(TABLES, n, x));
+    return n;
+}
+
+/* Commits that write nothing, and beside them one of the last item alone: whether anything is held
+ * exclusively is found out item by item. */
+static void measure_empty(const char *on, int queries)
+{
+    printf("commits of little: %s\n", on);
+    keeper_fresh(TABLES);
+    fill(queries);
+    measure_commit("nothing read, nothing written", reader(0));
+    measure_commit("all items read, nothing written", reader(KEEPER_ITEMS));
+    keeper_fresh(TABLES);
+    fill(queries);
+    uint64_t n = reader(0);
+    granted(keeper_write(TABLES, n, KEEPER_ITEMS - 1, 1));
+    measure_commit("the last item written", n);
+}
+
 #if defined KEEPER_CALLS && KEEPER_CALLS >= 7
 static struct keeper_answer settle_of(uint64_t number) { return keeper_settle(TABLES, number); }
 
@@ -317,6 +342,8 @@ int main(void)
     measure_waiters("15 waiting for one item", SOME);
     measure_waiters("all slots but one waiting for one item", KEEPER_SLOTS - 1);
     measure_rows();
+    measure_empty("fresh tables", 0);
+    measure_empty("live queries in all slots but two", QUERIES - 1);
 #if defined KEEPER_CALLS && KEEPER_CALLS >= 7
     measure_settles();
 #endif

@@ -67,7 +67,7 @@ enum keeper_code {
     KEEPER_STILL_WAITING = 6,       /* an update that awaits another call's grant */
     KEEPER_NO_SLOT = 7,             /* 32 transactions are live */
     KEEPER_NUMBERS_SPENT = 8,       /* the last transaction number is given */
-    KEEPER_CLOCK_SPENT = 9,         /* the last stamp is given */
+    KEEPER_CLOCK_SPENT = 9,         /* the last stamp is given; who has written nothing commits still */
     KEEPER_BAD_TABLES = 10,
     KEEPER_QUOTA_SPENT = 11,        /* an update that holds 32 items exclusively writes a further one */
     KEEPER_PAST_WRITING = 12        /* an update past its writing writes what it does not hold, or settles again */
@@ -77,7 +77,8 @@ enum keeper_code {
 struct keeper_answer {
     uint64_t code;   /* one of enum keeper_code */
     uint64_t value;  /* what a granted read read */
-    uint64_t number; /* a begin's transaction number; the stamp of an update's commit, or of a settle */
+    uint64_t number; /* a begin's transaction number; the stamp of an update's commit, or of a settle; the
+                      * clock at the commit of an update that wrote nothing */
     uint64_t looked; /* the place of the version read, from 1; 0 for the own working value */
 };
 
@@ -116,8 +117,10 @@ struct keeper_answer keeper_write(uint64_t *txns, size_t txns_len, uint64_t *loc
                                   uint64_t number, uint64_t item, uint64_t value);
 
 /* Commits an update: all that it wrote, under one stamp, which is the answer's number. That is a new
- * stamp; past its writing it is the one that its settle answered, and 9 never comes. Ends a query.
- * Codes 0, 3, 6, 9, 10; all but 0 change no word. */
+ * stamp; past its writing it is the one that its settle answered, and 9 never comes. An update that
+ * has not settled and holds nothing exclusively takes no stamp and never gets 9: the answer's number
+ * is the clock, 0 as long as no stamp was given. Ends a query; the number is 0. Codes 0, 3, 6, 9, 10;
+ * all but 0 change no word. */
 struct keeper_answer keeper_commit(uint64_t *txns, size_t txns_len, uint64_t *locks,
                                    size_t locks_len, uint64_t *versions, size_t versions_len,
                                    uint64_t number);

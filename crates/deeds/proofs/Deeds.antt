@@ -14,7 +14,7 @@ use Rattle.rules.specs.Tables.{Tables, tables, lastNumber, clock, txn, setTxn, 
 use Rattle.rules.specs.Waits.{noted, closedUp}
 use Rattle.rules.specs.Versions.{versionsOf, newest, place, choice, rewritten}
 use Rattle.rules.specs.Good.{Good}
-use Rattle.rules.specs.Answers.{Outcome, outcome, Wait, Deed, Waits, Begins, ReadsByStart, ReadsOwn, ReadsNewest, TakesShared, Replaces, TakesExclusive, Commits, Ends, Aborts, Settles, CommitsSettled, AbortsSettled}
+use Rattle.rules.specs.Answers.{Outcome, outcome, Wait, Deed, Waits, Begins, ReadsByStart, ReadsOwn, ReadsNewest, TakesShared, Replaces, TakesExclusive, Commits, CommitsEmpty, Ends, Aborts, Settles, CommitsSettled, AbortsSettled}
 use Rattle.rules.specs.Step.{done, begun, cleared, locked, replaced, sharedToo, taken, queryRead, withNew, committed, committedUnder, ended, aborted, settled, settledCommitted, settledAborted}
 use Rattle.ranks.specs.Lines.{RanksSmall}
 use Rattle.ranks.proofs.Ranks.{ranks-small}
@@ -102,6 +102,13 @@ module _ (t l v : List ℕ) where
       → outcome r t′ l′ v ≡ done base (Aborts s) (tables t l v)
   unfolding done aborted
   aborts-done s et el er = rw (er, et, el)
+
+  -- request E7: what an abort leaves, and the clock is answered
+  pub empty-done :
+      (s : Slot) {n : ℕ} {r a : Answer} {t′ l′ : List ℕ} → n ≡ clock t → outcome a t′ l′ v ≡ done base (Aborts s) (tables t l v) → r ≡ numbered n
+      → outcome r t′ l′ v ≡ done base (CommitsEmpty s) (tables t l v)
+  unfolding done
+  empty-done s en e er = rw (er, en) (ap (λ (o : Outcome). record { answer = numbered (clock t); after = o .after }) e)
 
   pub settles-done :
       (s : Slot) {c : ℕ} {r : Answer} {t′ l′ : List ℕ} → c ≡ clock t + 1

@@ -5,7 +5,7 @@ use lib.Dec.{T}
 use Rattle.names.specs.Sizes.{base}
 use Rattle.rules.specs.Tables.{Tables, txn, liveUpdate, liveQuery, liveSettled, byStart}
 use Rattle.rules.specs.Answers.{Deed, Refused, Waits, Begins, ReadsByStart, ReadsOwn, ReadsNewest, TakesShared}
-use Rattle.rules.specs.Answers.{Replaces, TakesExclusive, Commits, Ends, Aborts, Settles, CommitsSettled, AbortsSettled}
+use Rattle.rules.specs.Answers.{Replaces, TakesExclusive, Commits, CommitsEmpty, Ends, Aborts, Settles, CommitsSettled, AbortsSettled}
 
 abbrev pub Able : Tables → Deed → Type 0
 Able G (Refused r) = T true
@@ -18,6 +18,7 @@ Able G (TakesShared s x) = (s .0 < base .slots) × (x .0 < base .items)
 Able G (Replaces s x v) = (s .0 < base .slots) × (x .0 < base .items)
 Able G (TakesExclusive s x v) = (s .0 < base .slots) × (x .0 < base .items)
 Able G (Commits s) = (s .0 < base .slots) × T (liveUpdate (txn (G .txns) (s .0)))
+Able G (CommitsEmpty s) = s .0 < base .slots
 Able G (Ends s) = (s .0 < base .slots) × T (liveQuery (txn (G .txns) (s .0)))
 Able G (Aborts s) = s .0 < base .slots
 Able G (Settles s) = s .0 < base .slots

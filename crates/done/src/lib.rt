@@ -36,6 +36,7 @@ pub fn done(deed: Deed, txns: &mut [u64], locks: &mut [u64], versions: &mut [u64
             grants::takes_exclusive(txns, locks, slot, item, value)
         }
         Deed::Commits(slot) => ends::commits(txns, locks, versions, slot),
+        Deed::CommitsEmpty(slot) => aborts::commits_empty(txns, locks, slot),
         Deed::Ends(slot) => ends::ends(txns, versions, slot),
         Deed::Aborts(slot) => aborts::aborts(txns, locks, slot),
         Deed::Settles(slot) => settles::settles(txns, locks, slot),

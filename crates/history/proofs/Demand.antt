@@ -14,7 +14,6 @@ use Rattle.history.proofs.Query.{reads-as-begun, undisturbed}
 use Rattle.history.proofs.Happens.{run-good}
 use Rattle.history.proofs.Ended.{run-never-bad, ended-for-ever}
 use Rattle.history.proofs.Numbers.{upward}
-use Rattle.history.proofs.ByAnswers.{told-by-answers}
 
 -- ---- of all sizes
 module _ (S : Sizes) (enough : S .slots ≤ S .places) (room : 1 ≤ S .places) where
@@ -31,7 +30,6 @@ module _ (S : Sizes) (enough : S .slots ≤ S .places) (room : 1 ≤ S .places) 
           stayGood = run-good S enough room cs;
           neverBad = run-never-bad S enough room cs;
           rising = upward S enough room cs;
-          byAnswers = told-by-answers S enough room cs;
         },
     ended-for-ever S enough room,
   )

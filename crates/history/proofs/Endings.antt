@@ -17,8 +17,8 @@ use Rattle.rules.specs.Step.{committedUnder, committed, settledCommitted, ended
 use Rattle.rules.proofs.Views.{lock-unshare}
 use Rattle.rules.proofs.EqualRows.{live-number, number-live, update-live, settled-live}
 use Rattle.rules.proofs.Callers.{Caller}
-use Rattle.history.specs.Happened.{Happening, updateCommitted, settledUnder, onlyEnded, names}
-use Rattle.history.proofs.Turns.{Left, Turn, commits, settles, commitsSettled, ends}
+use Rattle.history.specs.Happened.{Happening, updateCommitted, emptyCommitted, settledUnder, onlyEnded, names}
+use Rattle.history.proofs.Turns.{Left, Turn, commits, commitsEmpty, settles, commitsSettled, ends}
 use Rattle.history.proofs.Tables.{SameRow, same-row, SameHold, same-hold, release-hold, unshared-hold}
 use Rattle.history.proofs.Leaving.{readAt, reads-newest, under-here, under-there, under-newest, under-reads}
 use Rattle.history.proofs.Leaving.{aborted-here, aborted-there, aborted-last, aborted-clock, ended-here, ended-there, ended-last, ended-clock}
@@ -56,10 +56,22 @@ module _ (S : Sizes) (G : Tables) (g : Good S G) (enough : S .slots ≤ S .place
         last = last;
       }
 
+  aborted-left : Left (S .items) (seen S G) (seen S (aborted S s G)) s
+  aborted-left =
+      left-by (aborted S s G) (aborted-here S G g s i) (aborted-there S G g s i) (λ r x d b. unfold aborted in release-hold S G g s r x b d) (aborted-last S G g s i)
+
   pub abort-turn : {c : Call} → T (names n c) → TurnTo (aborted S s G) c (onlyEnded n)
   abort-turn a =
-      ends n s (C .name) a
-      (left-by (aborted S s G) (aborted-here S G g s i) (aborted-there S G g s i) (λ r x d b. unfold aborted in release-hold S G g s r x b d) (aborted-last S G g s i))
+      ends n s (C .name) a aborted-left
+      (λ r d. sees-by S G (aborted S s G) r (aborted-there S G g s i r d) (λ x b j q. unfold aborted in refl))
+      (λ x b. unfold aborted in refl) (aborted-clock S G g s i)
+
+  -- request E7: who holds nothing exclusively commits without a stamp of its own
+  pub empty-turn :
+      {c : Call} → T (names n c) → T (liveUpdate (txn t s)) → ((x : ℕ) → x < S .items → holdsExclusive (lock l x) s ≡ false)
+      → TurnTo (aborted S s G) c (emptyCommitted n (clock t))
+  empty-turn a k w =
+      commitsEmpty n s (C .name) a (update-live (txn t s) k .1) w aborted-left
       (λ r d. sees-by S G (aborted S s G) r (aborted-there S G g s i r d) (λ x b j q. unfold aborted in refl))
       (λ x b. unfold aborted in refl) (aborted-clock S G g s i)
 

@@ -16,12 +16,13 @@ use Rattle.rules.specs.Step.{step}
 use Rattle.rules.proofs.Tests.{is-true, is-false, eq-make}
 use Rattle.rules.proofs.Keeps.{keeps}
 use Rattle.history.specs.Runs.{run, endOf, Every}
-use Rattle.history.specs.Happened.{Access, got, put, Happening, queryBegan, accessed, did, happened, begunWith, happeningsAfter, allOf, names}
+use Rattle.history.specs.Happened.{SoFar, Access, got, put, Happening, queryBegan, accessed, did, happened, begunWith, happeningsAfter, allOf, names}
 use Rattle.history.specs.Serial.{Entry, accessOf, grantedTo}
 use Rattle.history.specs.Undisturbed.{commitOf, commitIn, lastPut, Gives}
 use Rattle.history.proofs.Plain.{Array, store, final}
 use Rattle.history.proofs.Invariant.{View, Fair, Inv, settled}
-use Rattle.history.proofs.Turns.{Gets, byLock, byOwn, byStart, Turn, quiet, updateBegins, queryBegins, reads, writes, commits, settles, commitsSettled, ends, Known}
+use Rattle.history.proofs.Turns.{Gets, byLock, byOwn, byStart, Turn, quiet, updateBegins, queryBegins, reads, writes, commits, commitsEmpty, settles, commitsSettled, ends}
+use Rattle.history.proofs.Marked.{Known}
 use Rattle.history.proofs.Preserved.{turn-step}
 use Rattle.history.proofs.Seen.{seen, seen-fair}
 use Rattle.history.proofs.Happens.{step-turn, granted-turn, step-known}
@@ -47,6 +48,7 @@ module _ (items : ℕ) (W W′ : View) (F : Fair items W) (m : ℕ) where
   commit-unknown (reads n s x v e b A g) t = absurd t
   commit-unknown (writes n s x v e b P) t = absurd t
   commit-unknown (commits n s e a k L o f i) t = left-unknown items W W′ m F s (e ∙ eqb→eq n m t) L
+  commit-unknown (commitsEmpty n s e a k w L o f i) t = left-unknown items W W′ m F s (e ∙ eqb→eq n m t) L
   commit-unknown (settles n s e B) t = absurd t
   commit-unknown (commitsSettled n s e a k L o f i) t = left-unknown items W W′ m F s (e ∙ eqb→eq n m t) L
   commit-unknown (ends n s e a L o f i) t = absurd t
@@ -68,6 +70,7 @@ module _ (items : ℕ) (W W′ : View) (F : Fair items W) (m : ℕ) where
   unknown-quiet U (reads n s x v e b A g) = (refl, rw (not-it U s n e (caller s x v g)))
   unknown-quiet U (writes n s x v e b P) = (refl, rw (not-it U s n e (P .alive)))
   unknown-quiet U (commits n s e a k L o f i) = (not-it U s n e (L .alive), refl)
+  unknown-quiet U (commitsEmpty n s e a k w L o f i) = (not-it U s n e (L .alive), refl)
   unknown-quiet U (settles n s e B) = (refl, refl)
   unknown-quiet U (commitsSettled n s e a k L o f i) = (not-it U s n e (L .alive), refl)
   unknown-quiet U (ends n s e a L o f i) = (refl, refl)
@@ -92,15 +95,15 @@ module _ (S : Sizes) (enough : S .slots ≤ S .places) where
 
   -- the turn of a granted read
   read-turn :
-      (n x : ℕ) (c : Call) (G : Tables) → Good S G → (us : List ℕ) → Known us (seen S G) → c ≡ Read n x → (step S c G) .answer .code ≡ granted
+      (n x : ℕ) (c : Call) (G : Tables) → Good S G → (us : SoFar) → Known (S .items) us (seen S G) → c ≡ Read n x → (step S c G) .answer .code ≡ granted
       → Turn (S .items) (seen S G) (seen S (after c G)) c (accessed n (got x ((step S c G) .answer .value)))
   unfolding did
   read-turn n x c G g us K e z =
       subst (λ (h : Happening). Turn (S .items) (seen S G) (seen S (after c G)) c h)
-      (ap (λ (d : Call). did (some (λ n. names n c) us) d ((step S c G) .answer)) e) (granted-turn S enough c G g us K z)
+      (ap (λ (d : Call). did (some (λ n. names n c) (us .updates)) (some (λ n. names n c) (us .stamped)) d ((step S c G) .answer)) e) (granted-turn S enough c G g us K z)
 
   module _ (n x : ℕ) where
-    pub outside-run : (v : ℕ) → S .items ≤ x → (cs : List Call) (us : List ℕ) (G : Tables) → Good S G → Known us (seen S G) → Every (Gives n x v) (run S cs G)
+    pub outside-run : (v : ℕ) → S .items ≤ x → (cs : List Call) (us : SoFar) (G : Tables) → Good S G → Known (S .items) us (seen S G) → Every (Gives n x v) (run S cs G)
     unfolding run Every
     outside-run v o [] us G g K = tt
     outside-run v o (c ∷ cs) us G g K = (
@@ -120,7 +123,7 @@ module _ (S : Sizes) (enough : S .slots ≤ S .places) where
     )
 
     pub fixed-run :
-        (v : ℕ) → x < S .items → (cs : List Call) (us : List ℕ) (G : Tables) → Good S G → Known us (seen S G) → Fixed n x v (seen S G)
+        (v : ℕ) → x < S .items → (cs : List Call) (us : SoFar) (G : Tables) → Good S G → Known (S .items) us (seen S G) → Fixed n x v (seen S G)
         → Every (Gives n x v) (run S cs G)
     unfolding run Every
     fixed-run v bx [] us G g K H = tt
@@ -139,7 +142,7 @@ module _ (S : Sizes) (enough : S .slots ≤ S .places) where
   -- ---- of an unknown one nothing happens
   module _ (m : ℕ) where
     gone-run :
-        (cs : List Call) (us : List ℕ) (G : Tables) → Good S G → Known us (seen S G) → Unknown m (seen S G)
+        (cs : List Call) (us : SoFar) (G : Tables) → Good S G → Known (S .items) us (seen S G) → Unknown m (seen S G)
         → (commitIn m (happeningsAfter us (run S cs G)) ≡ false) × (grantedTo m (happeningsAfter us (run S cs G)) ≡ [])
     unfolding run happeningsAfter commitIn grantedTo allOf
     gone-run [] us G g K U = (refl, refl)
@@ -176,7 +179,7 @@ module _ (S : Sizes) (enough : S .slots ≤ S .places) where
       outcome-commit l h hs e a f = rw (e, a, f) (ap (λ (k : List Access). lastPut x k v) (sym (append-nil l)))
 
       pub open-run :
-          x < S .items → (cs : List Call) (us : List ℕ) (es : List Entry) (log : ℕ → List Access) (G : Tables) → Good S G → Known us (seen S G)
+          x < S .items → (cs : List Call) (us : SoFar) (es : List Entry) (log : ℕ → List Access) (G : Tables) → Good S G → Known (S .items) us (seen S G)
           → Inv (S .items) es log (seen S G) → Open n x m v (seen S G)
           → Every (Gives n x (outcome (log m) (happeningsAfter us (run S cs G)))) (run S cs G)
       unfolding run Every happeningsAfter
@@ -196,7 +199,7 @@ module _ (S : Sizes) (enough : S .slots ≤ S .places) where
           g′ : Good S (after c G)
           g′ = keeps S enough c G g
 
-          K′ : Known (begunWith (happened us c ((step S c G) .answer)) us) (seen S (after c G))
+          K′ : Known (S .items) (begunWith (happened us c ((step S c G) .answer)) us) (seen S (after c G))
           K′ = step-known S enough c G g us K
 
           hs : List Happening

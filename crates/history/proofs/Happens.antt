@@ -2,8 +2,8 @@
 -- was called from fresh tables, they are good and it is known who began as an update.
 use Prim.Native.Nat.{ℕ, _+_, _≤_, _<_}
 use mathlib.Core.Path.{_≡_, refl, sym, ap, _∙_, subst}
-use mathlib.Core.Logic.{_≢_}
-use mathlib.Core.Bool.{Bool, not, cond}
+use mathlib.Core.Logic.{_≢_, inl, inr}
+use mathlib.Core.Bool.{Bool, true, false, cond}
 use mathlib.Core.List.{List, [], _∷_}
 use native.Mathlib.Omega.{arith}
 use lib.Dec.{T, eqb}
@@ -15,43 +15,44 @@ use Rattle.rules.specs.Words.{some}
 use Rattle.rules.specs.Tables.{Tables, clock, txn, live, anUpdate, aQuery, fresh}
 use Rattle.rules.specs.Good.{Good}
 use Rattle.rules.specs.Answers.{Call, Commit, Outcome, says, granted, refuses, code, Refusal, BadTables, Deed, Wait}
-use Rattle.rules.specs.Step.{queryRead, committed, settledCommitted, judged, done, act, step}
+use Rattle.rules.specs.Step.{queryRead, committed, settledCommitted, aborted, judged, done, act, step}
 use Rattle.rules.proofs.Tests.{is-true, is-false, eq-make}
 use Rattle.rules.proofs.Steps.{acts}
 use Rattle.rules.proofs.EqualRows.{live-number, update-live, query-live, settled-live}
 use Rattle.rules.proofs.Callers.{Caller}
+use Rattle.rules.proofs.Quotas.{held-none, held-some}
 use Rattle.rules.proofs.Keeps.{keeps}
 use Rattle.rules.proofs.Fresh.{fresh-good}
 use Rattle.rules.proofs.Judged.{way}
 use Rattle.rules.proofs.Ways.{refusal-code, Way, refused, waited, keptWaiting, beganUpdate, beganQuery, readOwn, readNewest, readShared, readSettled, readByStart}
-use Rattle.rules.proofs.Ways.{wroteOwn, wroteSettled, wroteTaken, committedUpdate, committedSettled, committedQuery, abortedUpdate, abortedSettled, abortedQuery, settledUpdate}
+use Rattle.rules.proofs.Ways.{wroteOwn, wroteSettled, wroteTaken, committedUpdate, committedEmpty, committedSettled, committedQuery, abortedUpdate, abortedSettled, abortedQuery, settledUpdate}
 use Rattle.history.specs.Runs.{endOf}
-use Rattle.history.specs.Happened.{Happening, updateCommitted, nothing, did, told, happened, begunWith, names}
-use Rattle.history.specs.ByAnswers.{byAnswer}
-use Rattle.history.proofs.Turns.{Turn, Known, known-on}
+use Rattle.history.specs.Happened.{Happening, updateCommitted, emptyCommitted, onlyEnded, nothing, did, told, SoFar, noneSoFar, happened, begunWith, names}
+use Rattle.history.proofs.Turns.{Turn}
+use Rattle.history.proofs.Marked.{Marks, Known, known-on}
 use Rattle.history.proofs.Tables.{fresh-last}
 use Rattle.history.proofs.Leaving.{readAt}
 use Rattle.history.proofs.Seen.{seen, seen-fair}
 use Rattle.history.proofs.Moves.{refused-turn, wait-turn, begin-update-turn, begin-query-turn, own-turn, newest-turn, shared-turn, past-turn, start-read-turn}
 use Rattle.history.proofs.Moves.{own-write-turn, past-write-turn, taken-turn}
-use Rattle.history.proofs.Endings.{commit-turn, settled-commit-turn, end-turn, abort-turn, settled-abort-turn, settle-turn}
+use Rattle.history.proofs.Endings.{commit-turn, empty-turn, settled-commit-turn, end-turn, abort-turn, settled-abort-turn, settle-turn}
 
-told-refused : (u : Bool) (c : Call) (a : Answer) → a .code ≢ granted → told u c a ≡ nothing
+told-refused : (u w : Bool) (c : Call) (a : Answer) → a .code ≢ granted → told u w c a ≡ nothing
 unfolding told
-told-refused u c a d = ap (λ (b : Bool). cond b (did u c a) nothing) (ne-eqb (a .code) granted d)
+told-refused u w c a d = ap (λ (b : Bool). cond b (did u w c a) nothing) (ne-eqb (a .code) granted d)
 
-told-granted : (u : Bool) (c : Call) (a : Answer) → a .code ≡ granted → told u c a ≡ did u c a
+told-granted : (u w : Bool) (c : Call) (a : Answer) → a .code ≡ granted → told u w c a ≡ did u w c a
 unfolding told
-told-granted u c a e = ap (λ (b : Bool). cond b (did u c a) nothing) (eq-eqb (a .code) granted e)
+told-granted u w c a e = ap (λ (b : Bool). cond b (did u w c a) nothing) (eq-eqb (a .code) granted e)
 
 -- ---- what happens at the call c on the tables G, with the outcome o
 pub record Happens (S : Sizes) (G : Tables) (c : Call) (o : Outcome) : Type 0 where
   pub what : Happening
   pub turn : Turn (S .items) (seen S G) (seen S (o .after)) c what
-  -- so it is told by how the transaction began
-  pub begun : (us : List ℕ) → Known us (seen S G) → happened us c (o .answer) ≡ what
-  -- and by the answer alone
-  pub answered : byAnswer c (o .answer) ≡ what
+  -- so it is told by the calls and answers before it
+  pub begun : (us : SoFar) → Known (S .items) us (seen S G) → happened us c (o .answer) ≡ what
+  -- nothing, where it is refused
+  pub silence : o .answer .code ≢ granted → what ≡ nothing
   pub notBad : o .answer .code ≢ code BadTables
 
 module _ (S : Sizes) (enough : S .slots ≤ S .places) (G : Tables) (g : Good S G) where
@@ -59,83 +60,105 @@ module _ (S : Sizes) (enough : S .slots ≤ S .places) (G : Tables) (g : Good S 
   TurnTo G′ c h = Turn (S .items) (seen S G) (seen S G′) c h
 
   silent : (c : Call) (r : Refusal) (G′ : Tables) → code r ≢ code BadTables → TurnTo G′ c nothing → Happens S G c (refuses r G′)
-  unfolding happened byAnswer
+  unfolding happened
   silent c r G′ m e =
       record {
         what = nothing;
         turn = e;
-        begun = λ us K. told-refused _ c _ (refusal-code r);
-        answered = told-refused _ c _ (refusal-code r);
+        begun = λ us K. told-refused _ _ c _ (refusal-code r);
+        silence = λ d. refl;
         notBad = m;
       }
 
   grants :
       (c : Call) (o : Outcome) (h : Happening) → o .answer .code ≡ granted → TurnTo (o .after) c h
-      → ((us : List ℕ) → Known us (seen S G) → did (some (λ n. names n c) us) c (o .answer) ≡ h)
-      → byAnswer c (o .answer) ≡ h → Happens S G c o
+      → ((us : SoFar) → Known (S .items) us (seen S G) → did (some (λ n. names n c) (us .updates)) (some (λ n. names n c) (us .stamped)) c (o .answer) ≡ h)
+      → Happens S G c o
   unfolding happened
-  grants c o h e t f k =
+  grants c o h e t f =
       record {
         what = h;
         turn = t;
-        begun = λ us K. told-granted (some (λ n. names n c) us) c (o .answer) e ∙ f us K;
-        answered = k;
+        begun = λ us K. told-granted (some (λ n. names n c) (us .updates)) (some (λ n. names n c) (us .stamped)) c (o .answer) e ∙ f us K;
+        silence = λ d. absurd (d e);
         notBad = λ z. omega arith;
       }
 
   -- how the transaction began does not matter
   plainly :
-      (c : Call) (o : Outcome) (h : Happening) → o .answer .code ≡ granted → TurnTo (o .after) c h → ((u : Bool) → did u c (o .answer) ≡ h)
+      (c : Call) (o : Outcome) (h : Happening) → o .answer .code ≡ granted → TurnTo (o .after) c h → ((u w : Bool) → did u w c (o .answer) ≡ h)
       → Happens S G c o
-  unfolding byAnswer
-  plainly c o h e t f = grants c o h e t (λ us K. f _) (told-granted _ c (o .answer) e ∙ f _)
+  plainly c o h e t f = grants c o h e t (λ us K. f _ _)
 
-  -- a commit of an update, under the stamp k, which is not 0
+  -- a commit of an update, which answers k: w says whether it was granted a write, or settled
   commits-as :
-      (n s k : ℕ) (C : Caller S G n s) (G′ : Tables) → (txn (G .txns) s) .kind ≢ aQuery → k ≢ 0 → TurnTo G′ (Commit n) (updateCommitted n k)
-      → Happens S G (Commit n) (says granted 0 k 0 G′)
-  unfolding did told byAnswer names
-  commits-as n s k C G′ u d turn =
-      grants (Commit n) (says granted 0 k 0 G′) (updateCommitted n k) refl turn
+      (n s k : ℕ) (C : Caller S G n s) (G′ : Tables) (w : Bool) → (txn (G .txns) s) .kind ≢ aQuery
+      → ((us : SoFar) → Known (S .items) us (seen S G) → some (eqb n) (us .stamped) ≡ w)
+      → TurnTo G′ (Commit n) (cond w (updateCommitted n k) (emptyCommitted n k)) → Happens S G (Commit n) (says granted 0 k 0 G′)
+  unfolding did names
+  commits-as n s k C G′ w u d turn =
+      grants (Commit n) (says granted 0 k 0 G′) (cond w (updateCommitted n k) (emptyCommitted n k)) refl turn
       (λ us K.
-      ap (λ (b : Bool). did b (Commit n) ((says granted 0 k 0 G′) .answer))
-      (is-true (some (eqb n) us) (subst (λ (m : ℕ). T (some (eqb m) us)) (C .name) (K .updates s (C .inside, C .alive) u))))
-      (ap (λ (b : Bool). told (not b) (Commit n) ((says granted 0 k 0 G′) .answer)) (ne-eqb k 0 d))
+      ap (λ (b : Bool). did b (some (eqb n) (us .stamped)) (Commit n) ((says granted 0 k 0 G′) .answer))
+      (is-true (some (eqb n) (us .updates)) (subst (λ (m : ℕ). T (some (eqb m) (us .updates))) (C .name) (K .begun .updates s (C .inside, C .alive) u)))
+      ∙ ap (λ (b : Bool). did true b (Commit n) ((says granted 0 k 0 G′) .answer)) (d us K))
+
+  -- who holds something exclusively, or is past its writing, was granted a write or settled
+  stamped :
+      (n s : ℕ) (C : Caller S G n s) → (txn (G .txns) s) .kind ≢ aQuery → Marks (S .items) (seen S G) s
+      → (us : SoFar) → Known (S .items) us (seen S G) → some (eqb n) (us .stamped) ≡ true
+  stamped n s C u m us K =
+      is-true (some (eqb n) (us .stamped)) (subst (λ (m : ℕ). T (some (eqb m) (us .stamped))) (C .name) (K .marked .there s (C .inside, C .alive) u m))
+
+  unstamped :
+      (n s : ℕ) (C : Caller S G n s) → (Marks (S .items) (seen S G) s → ⊥)
+      → (us : SoFar) → Known (S .items) us (seen S G) → some (eqb n) (us .stamped) ≡ false
+  unstamped n s C d us K =
+      is-false (some (eqb n) (us .stamped))
+      (λ a. d (K .marked .only s (C .inside, C .alive) (subst (λ (m : ℕ). T (some (eqb m) (us .stamped))) (sym (C .name)) a)))
 
   -- ---- every way
   happens : (c : Call) (d : Deed) → Way S G c d → Happens S G c (done S d G)
-  unfolding done did told byAnswer names queryRead readAt
+  unfolding done did told names queryRead readAt
   happens c d (refused r m) = silent c r G (m .0) (refused-turn S G g)
   happens c d (waited s k x w) = silent c Wait _ (λ z. omega arith) (wait-turn S G g s k x (w .caller .inside))
   happens c d (keptWaiting s C q) = silent c Wait G (λ z. omega arith) (refused-turn S G g)
-  happens c d (beganUpdate s free l) = plainly c _ _ refl (begin-update-turn S G g anUpdate firstStamp s free refl) (λ u. refl)
-  happens c d (beganQuery s free l) = plainly c _ _ refl (begin-query-turn S G g aQuery (clock (G .txns)) s free refl refl) (λ u. refl)
-  happens c d (readOwn n s x U h) = plainly c _ _ refl (own-turn S G g n s x (U .caller) (U .known) (U .update) h) (λ u. refl)
-  happens c d (readNewest n s x U h) = plainly c _ _ refl (newest-turn S G g n s x (U .caller) (U .known) (U .update) h) (λ u. refl)
-  happens c d (readShared n s x U h f) = plainly c _ _ refl (shared-turn S G g n s x (U .caller) (U .known) (U .update) f) (λ u. refl)
-  happens c d (readSettled n s x C p b h) = plainly c _ _ refl (past-turn S G g n s x C b p h) (λ u. refl)
-  happens c d (readByStart n s x C q b own free) = plainly c _ _ refl (start-read-turn S G g n s x C q b own free) (λ u. refl)
-  happens c d (wroteOwn n s x v U h) = plainly c _ _ refl (own-write-turn S G g n s x (U .caller) (U .known) (U .update) v h) (λ u. refl)
-  happens c d (wroteSettled n s x v C p b h) = plainly c _ _ refl (past-write-turn S G g n s x C b v p h) (λ u. refl)
-  happens c d (wroteTaken n s x v U h alone q) = plainly c _ _ refl (taken-turn S G g n s x (U .caller) (U .known) (U .update) v alone) (λ u. refl)
-  happens c d (committedUpdate n s C u i l) =
-      commits-as n s (clock (G .txns) + 1) C (committed S s G) (λ z. let k = update-live (txn (G .txns) s) u .1 in omega arith) (λ z. omega arith)
+  happens c d (beganUpdate s free l) = plainly c _ _ refl (begin-update-turn S G g anUpdate firstStamp s free refl) (λ u w. refl)
+  happens c d (beganQuery s free l) = plainly c _ _ refl (begin-query-turn S G g aQuery (clock (G .txns)) s free refl refl) (λ u w. refl)
+  happens c d (readOwn n s x U h) = plainly c _ _ refl (own-turn S G g n s x (U .caller) (U .known) (U .update) h) (λ u w. refl)
+  happens c d (readNewest n s x U h) = plainly c _ _ refl (newest-turn S G g n s x (U .caller) (U .known) (U .update) h) (λ u w. refl)
+  happens c d (readShared n s x U h f) = plainly c _ _ refl (shared-turn S G g n s x (U .caller) (U .known) (U .update) f) (λ u w. refl)
+  happens c d (readSettled n s x C p b h) = plainly c _ _ refl (past-turn S G g n s x C b p h) (λ u w. refl)
+  happens c d (readByStart n s x C q b own free) = plainly c _ _ refl (start-read-turn S G g n s x C q b own free) (λ u w. refl)
+  happens c d (wroteOwn n s x v U h) = plainly c _ _ refl (own-write-turn S G g n s x (U .caller) (U .known) (U .update) v h) (λ u w. refl)
+  happens c d (wroteSettled n s x v C p b h) = plainly c _ _ refl (past-write-turn S G g n s x C b v p h) (λ u w. refl)
+  happens c d (wroteTaken n s x v U h alone q) = plainly c _ _ refl (taken-turn S G g n s x (U .caller) (U .known) (U .update) v alone) (λ u w. refl)
+  happens c d (committedUpdate n s C u i l w) =
+      let q : (txn (G .txns) s) .kind ≢ aQuery = λ z. let k = update-live (txn (G .txns) s) u .1 in omega arith in
+      commits-as n s (clock (G .txns) + 1) C (committed S s G) true q (stamped n s C q (inr (held-some S (G .locks) s w)))
       (commit-turn S G g enough n s C (eq-make n n refl) u)
+  happens c d (committedEmpty n s C u i e) =
+      commits-as n s (clock (G .txns)) C (aborted S s G) false (λ z. let k = update-live (txn (G .txns) s) u .1 in omega arith)
+      (unstamped n s C none) (empty-turn S G g enough n s C (eq-make n n refl) u (held-none S (G .locks) s e))
+    where
+      none : Marks (S .items) (seen S G) s → ⊥
+      none (inl z) = let k = update-live (txn (G .txns) s) u .1 in omega arith
+      none (inr (x, b, h)) = subst T (held-none S (G .locks) s e x b) h
   happens c d (committedSettled n s C p) =
-      commits-as n s ((txn (G .txns) s) .start) C (settledCommitted S s G) (λ z. let k = settled-live (txn (G .txns) s) p .1 in omega arith)
-      (λ z. let k = g .txnGood s (C .inside) .settledStart p in omega arith)
+      let k = settled-live (txn (G .txns) s) p .1 in
+      let q : (txn (G .txns) s) .kind ≢ aQuery = λ z. omega arith in
+      commits-as n s ((txn (G .txns) s) .start) C (settledCommitted S s G) true q (stamped n s C q (inl k))
       (settled-commit-turn S G g enough n s C (eq-make n n refl) p)
   happens c d (committedQuery n s C q) =
       grants c _ _ refl (end-turn S G g enough n s C (eq-make n n refl))
       (λ us K.
-      ap (λ (b : Bool). did b (Commit n) ((done S d G) .answer))
-      (is-false (some (eqb n) us)
-      (λ a. K .queries s ((C .inside, C .alive), query-live (txn (G .txns) s) q .1) (subst (λ (m : ℕ). T (some (eqb m) us)) (sym (C .name)) a))))
-      refl
-  happens c d (abortedUpdate n s C u) = plainly c _ _ refl (abort-turn S G g enough n s C (eq-make n n refl)) (λ u. refl)
-  happens c d (abortedSettled n s C p) = plainly c _ _ refl (settled-abort-turn S G g enough n s C (eq-make n n refl)) (λ u. refl)
-  happens c d (abortedQuery n s C q) = plainly c _ _ refl (end-turn S G g enough n s C (eq-make n n refl)) (λ u. refl)
-  happens c d (settledUpdate n s C u i l) = plainly c _ _ refl (settle-turn S G g enough n s C u) (λ u. refl)
+      ap (λ (b : Bool). did b (some (eqb n) (us .stamped)) (Commit n) ((done S d G) .answer))
+      (is-false (some (eqb n) (us .updates))
+      (λ a. K .begun .queries s ((C .inside, C .alive), query-live (txn (G .txns) s) q .1) (subst (λ (m : ℕ). T (some (eqb m) (us .updates))) (sym (C .name)) a))))
+  happens c d (abortedUpdate n s C u) = plainly c _ _ refl (abort-turn S G g enough n s C (eq-make n n refl)) (λ u w. refl)
+  happens c d (abortedSettled n s C p) = plainly c _ _ refl (settled-abort-turn S G g enough n s C (eq-make n n refl)) (λ u w. refl)
+  happens c d (abortedQuery n s C q) = plainly c _ _ refl (end-turn S G g enough n s C (eq-make n n refl)) (λ u w. refl)
+  happens c d (settledUpdate n s C u i l) = plainly c _ _ refl (settle-turn S G g enough n s C u) (λ u w. refl)
 
 -- ---- a step
 module _ (S : Sizes) (enough : S .slots ≤ S .places) where
@@ -143,7 +166,7 @@ module _ (S : Sizes) (enough : S .slots ≤ S .places) where
   unfolding act
   step-happens c G g = subst (λ (o : Outcome). Happens S G c o) (sym (acts S c G g)) (happens S enough G g c (judged S c G) (way S G g c))
 
-  module _ (c : Call) (G : Tables) (g : Good S G) (us : List ℕ) (K : Known us (seen S G)) where
+  module _ (c : Call) (G : Tables) (g : Good S G) (us : SoFar) (K : Known (S .items) us (seen S G)) where
     abbrev h : Happening
     h = happened us c ((step S c G) .answer)
 
@@ -155,13 +178,13 @@ module _ (S : Sizes) (enough : S .slots ≤ S .places) where
     -- that of a granted call
     pub granted-turn :
         (step S c G) .answer .code ≡ granted
-        → Turn (S .items) (seen S G) (seen S ((step S c G) .after)) c (did (some (λ n. names n c) us) c ((step S c G) .answer))
+        → Turn (S .items) (seen S G) (seen S ((step S c G) .after)) c (did (some (λ n. names n c) (us .updates)) (some (λ n. names n c) (us .stamped)) c ((step S c G) .answer))
     unfolding happened
     granted-turn e =
         subst (λ (h : Happening). Turn (S .items) (seen S G) (seen S ((step S c G) .after)) c h)
-        (told-granted (some (λ n. names n c) us) c ((step S c G) .answer) e) step-turn
+        (told-granted (some (λ n. names n c) (us .updates)) (some (λ n. names n c) (us .stamped)) c ((step S c G) .answer) e) step-turn
 
-    pub step-known : Known (begunWith h us) (seen S ((step S c G) .after))
+    pub step-known : Known (S .items) (begunWith h us) (seen S ((step S c G) .after))
     step-known = known-on (S .items) (seen S G) (seen S ((step S c G) .after)) (seen-fair S G g) us K step-turn
 
   -- ---- a run
@@ -170,7 +193,7 @@ module _ (S : Sizes) (enough : S .slots ≤ S .places) where
   good-run [] G g = g
   good-run (c ∷ cs) G g = good-run cs ((step S c G) .after) (keeps S enough c G g)
 
-  known-end : (cs : List Call) (us : List ℕ) (G : Tables) → Good S G → Known us (seen S G) → (vs : List ℕ) × Known vs (seen S (endOf S cs G))
+  known-end : (cs : List Call) (us : SoFar) (G : Tables) → Good S G → Known (S .items) us (seen S G) → (vs : SoFar) × Known (S .items) vs (seen S (endOf S cs G))
   unfolding endOf
   known-end [] us G g K = (us, K)
   known-end (c ∷ cs) us G g K = known-end cs _ ((step S c G) .after) (keeps S enough c G g) (step-known c G g us K)
@@ -183,18 +206,17 @@ module _ (S : Sizes) (enough : S .slots ≤ S .places) where
         let b = fresh-last S in
         live-number (txn ((fresh S) .txns) s) h (omega arith)
 
-    pub fresh-known : Known [] (seen S (fresh S))
+    pub fresh-known : Known (S .items) noneSoFar (seen S (fresh S))
     unfolding some
     fresh-known =
         record {
-          updates = λ s a k. absurd (nobody s (a .0) (a .1));
-          queries = λ s q a. a;
-          given = λ n a. absurd a;
+          begun = record { updates = λ s a k. absurd (nobody s (a .0) (a .1)); queries = λ s q a. a; given = λ n a. absurd a };
+          marked = record { there = λ s a k m. absurd (nobody s (a .0) (a .1)); only = λ s a h. absurd h; given = λ n a. absurd a };
         }
 
     -- whatever was called: every table that a run passes through is the end of its first calls
     pub run-good : (cs : List Call) → Good S (endOf S cs (fresh S))
     run-good cs = good-run cs (fresh S) (fresh-good S room)
 
-    pub run-known : (cs : List Call) → (us : List ℕ) × Known us (seen S (endOf S cs (fresh S)))
-    run-known cs = known-end cs [] (fresh S) (fresh-good S room) fresh-known
+    pub run-known : (cs : List Call) → (us : SoFar) × Known (S .items) us (seen S (endOf S cs (fresh S)))
+    run-known cs = known-end cs noneSoFar (fresh S) (fresh-good S room) fresh-known

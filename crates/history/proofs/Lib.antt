@@ -5,6 +5,7 @@ pub mod Literal
 pub mod Order
 pub mod Invariant
 pub mod Turns
+pub mod Marked
 pub mod Kept
 pub mod Steps
 pub mod Placed
@@ -19,7 +20,6 @@ pub mod Endings
 pub mod Happens
 pub mod Played
 pub mod Theorem
-pub mod ByAnswers
 pub mod Standing
 pub mod Replies
 pub mod Ended

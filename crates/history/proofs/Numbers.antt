@@ -15,10 +15,11 @@ use Rattle.rules.proofs.Tests.{is-true, is-false}
 use Rattle.rules.proofs.Keeps.{keeps}
 use Rattle.rules.proofs.Fresh.{fresh-good}
 use Rattle.history.specs.Runs.{run}
-use Rattle.history.specs.Happened.{Happening, updateCommitted, happened, begunWith, happeningsAfter, happenings, allOf}
+use Rattle.history.specs.Happened.{SoFar, noneSoFar, Happening, updateCommitted, happened, begunWith, happeningsAfter, happenings, allOf}
 use Rattle.history.specs.Numbers.{numberOf, stampOf, stampsAfter, CountsFrom, CommitsUnder, StampsKept, Upward}
 use Rattle.history.proofs.Invariant.{View}
-use Rattle.history.proofs.Turns.{Turn, quiet, updateBegins, queryBegins, reads, writes, commits, settles, commitsSettled, ends, Known}
+use Rattle.history.proofs.Turns.{Turn, quiet, updateBegins, queryBegins, reads, writes, commits, commitsEmpty, settles, commitsSettled, ends}
+use Rattle.history.proofs.Marked.{Known}
 use Rattle.history.proofs.Tables.{fresh-last, fresh-clock}
 use Rattle.history.proofs.Seen.{seen, seen-fair}
 use Rattle.history.proofs.Happens.{step-turn, step-known, nobody, fresh-known}
@@ -46,6 +47,7 @@ module _ (items : ℕ) (W W′ : View) where
   numbers-turn (reads n s x v e b A g) = inl (refl, A .last)
   numbers-turn (writes n s x v e b P) = inl (refl, P .last)
   numbers-turn (commits n s e a u L o f k) = inl (refl, L .last)
+  numbers-turn (commitsEmpty n s e a u w L o f k) = inl (refl, L .last)
   numbers-turn (settles n s e B) = inl (refl, B .last)
   numbers-turn (commitsSettled n s e a u L o f k) = inl (refl, L .last)
   numbers-turn (ends n s e a L o f k) = inl (refl, L .last)
@@ -59,6 +61,7 @@ module _ (items : ℕ) (W W′ : View) where
   stamps-turn ss P (writes n s x v e b Q) = inl (refl, Q .clock)
   stamps-turn ss P (commits n s e a u L o f k) =
       rw (is-false (some (eqb n) ss) (λ z. P .others s (L .alive) (λ i. omega arith) (subst (λ (m : ℕ). T (some (eqb m) ss)) (sym e) z))) (inr (refl, k))
+  stamps-turn ss P (commitsEmpty n s e a u w L o f k) = inl (refl, k)
   stamps-turn ss P (settles n s e B) = inr (refl, B .clock)
   stamps-turn ss P (commitsSettled n s e a u L o f k) =
       rw (is-true (some (eqb n) ss) (subst (λ (m : ℕ). T (some (eqb m) ss)) e (P .past s (L .alive, u)))) (inl (refl, k))
@@ -67,7 +70,7 @@ module _ (items : ℕ) (W W′ : View) where
 -- ---- a run
 module _ (S : Sizes) (enough : S .slots ≤ S .places) where
   numbers-run :
-      (cs : List Call) (us : List ℕ) (G : Tables) → Good S G → Known us (seen S G)
+      (cs : List Call) (us : SoFar) (G : Tables) → Good S G → Known (S .items) us (seen S G)
       → CountsFrom (suc (lastNumber (G .txns))) (allOf numberOf (happeningsAfter us (run S cs G)))
   unfolding run happeningsAfter allOf CountsFrom
   numbers-run [] us G g K = tt
@@ -76,7 +79,7 @@ module _ (S : Sizes) (enough : S .slots ≤ S .places) where
       (numbers-run cs _ ((step S c G) .after) (keeps S enough c G g) (step-known S enough c G g us K))
 
   stamps-run :
-      (cs : List Call) (us ss : List ℕ) (G : Tables) → Good S G → Known us (seen S G) → Past ss (seen S G)
+      (cs : List Call) (us : SoFar) (ss : List ℕ) (G : Tables) → Good S G → Known (S .items) us (seen S G) → Past ss (seen S G)
       → CountsFrom (suc (clock (G .txns))) (stampsAfter ss (happeningsAfter us (run S cs G)))
   unfolding run happeningsAfter stampsAfter CountsFrom
   stamps-run [] us ss G g K P = tt
@@ -89,7 +92,7 @@ module _ (S : Sizes) (enough : S .slots ≤ S .places) where
   -- ---- whoever took a stamp keeps it
   module _ (n d : ℕ) where
     gone-run :
-        (cs : List Call) (us : List ℕ) (G : Tables) → Good S G → Known us (seen S G) → Unknown n (seen S G)
+        (cs : List Call) (us : SoFar) (G : Tables) → Good S G → Known (S .items) us (seen S G) → Unknown n (seen S G)
         → CommitsUnder n d (happeningsAfter us (run S cs G))
     unfolding run happeningsAfter CommitsUnder
     gone-run [] us G g K U = tt
@@ -103,7 +106,7 @@ module _ (S : Sizes) (enough : S .slots ≤ S .places) where
         no (commitsSettled m s e a i L o f j) = U .nobody s (L .alive) e
 
     took-run :
-        (cs : List Call) (us : List ℕ) (G : Tables) → Good S G → Known us (seen S G) → Took n d (seen S G)
+        (cs : List Call) (us : SoFar) (G : Tables) → Good S G → Known (S .items) us (seen S G) → Took n d (seen S G)
         → CommitsUnder n d (happeningsAfter us (run S cs G))
     unfolding run happeningsAfter CommitsUnder
     took-run [] us G g K H = tt
@@ -122,7 +125,7 @@ module _ (S : Sizes) (enough : S .slots ≤ S .places) where
         go rest (inl H) = rest H
         go rest (inr U) = gone-run cs _ ((step S c G) .after) (keeps S enough c G g) (step-known S enough c G g us K) U
 
-  kept-run : (cs : List Call) (us : List ℕ) (G : Tables) → Good S G → Known us (seen S G) → StampsKept (happeningsAfter us (run S cs G))
+  kept-run : (cs : List Call) (us : SoFar) (G : Tables) → Good S G → Known (S .items) us (seen S G) → StampsKept (happeningsAfter us (run S cs G))
   unfolding run happeningsAfter StampsKept
   kept-run [] us G g K = tt
   kept-run (c ∷ cs) us G g K = (
@@ -149,9 +152,9 @@ module _ (S : Sizes) (enough : S .slots ≤ S .places) where
         record {
           numbers =
               subst (λ (k : ℕ). CountsFrom (suc k) (allOf numberOf (happenings S cs))) (fresh-last S)
-              (numbers-run cs [] (fresh S) (fresh-good S room) (fresh-known S enough room));
+              (numbers-run cs noneSoFar (fresh S) (fresh-good S room) (fresh-known S enough room));
           stamps =
               subst (λ (k : ℕ). CountsFrom (suc k) (stampsAfter [] (happenings S cs))) (fresh-clock S)
-              (stamps-run cs [] [] (fresh S) (fresh-good S room) (fresh-known S enough room) fresh-past);
-          kept = kept-run cs [] (fresh S) (fresh-good S room) (fresh-known S enough room);
+              (stamps-run cs noneSoFar [] (fresh S) (fresh-good S room) (fresh-known S enough room) fresh-past);
+          kept = kept-run cs noneSoFar (fresh S) (fresh-good S room) (fresh-known S enough room);
         }

@@ -1,17 +1,19 @@
--- The invariant is kept where somebody is placed behind all others: a query at its begin, an update at its commit.
+-- The invariant is kept where somebody is placed behind all others: a query at its begin, an update at its commit, with a stamp of its own or
+-- (request E7) without one.
 use Prim.Native.Nat.{ℕ, _+_, _*_, _≤_, _<_}
-use mathlib.Core.Path.{_≡_, refl, sym, ap, _∙_, subst}
+use mathlib.Core.Path.{_≡_, refl, sym, ap, _∙_, subst, fun-ext}
 use mathlib.Core.Logic.{_≢_, _⊎_, inl, inr}
 use mathlib.Core.Bool.{Bool, true, false, cond}
 use mathlib.Core.List.{List, [], _∷_, _++_}
 use native.Mathlib.Omega.{arith}
-use lib.Dec.{T}
+use lib.Dec.{T, ltb}
+use borrow.Author.Tests.{ltb-true, ltb-false}
 use Rattle.rules.specs.Tables.{anUpdate, aSettled}
 use Rattle.rules.proofs.Tests.{true-is, same?}
 use Rattle.history.specs.Happened.{Access}
 use Rattle.history.specs.Serial.{Entry, insert, oneByOne, Absent, numbersOf}
 use Rattle.history.proofs.Plain.{Array, zeros, agrees, final}
-use Rattle.history.proofs.Replay.{Within, within-none, local-agrees, local-final, final-append, all-more}
+use Rattle.history.proofs.Replay.{Within, within-none, local-agrees, local-final, untouched, final-append, all-more}
 use Rattle.history.proofs.Order.{All, all-map, all-both, all-insert, absent-all, absent-insert, once-insert, sorted-insert, below, below-insert, below-last}
 use Rattle.history.proofs.Order.{arrayAt, skip-odd}
 use Rattle.history.proofs.Invariant.{View, Fair, Sees, Pending, Free, Slot, Inv, settled, query}
@@ -55,6 +57,10 @@ module _ (items : ℕ) (es : List Entry) (log : ℕ → List Access) (W W′ : V
           placed = λ k h. all-insert _ e (λ z. absurd (d z)) es h;
         }
 
+  -- behind all updates with stamps up to the clock are the newest values
+  newest : (x : ℕ) → x < items → arrayAt (2 * W .clock + 1) es log x ≡ W .current x
+  newest x b = sym (ap (λ (a : Array). a x) (skip-odd log (2 * W .clock + 1) (omega arith) es zeros (J .still))) ∙ top-array items es log W W′ F J (2 * W .clock + 1 + 1) (omega arith) x b
+
   -- ---- a query begins, in slot s
   module _ (s : ℕ) (B : New items W W′ s) (q : query W′ s) (st : W′ .start s ≡ W .clock) (sees : (x : ℕ) → x < items → W′ .snapshot s x ≡ W .current x) where
     abbrev e : Entry
@@ -68,9 +74,6 @@ module _ (items : ℕ) (es : List Entry) (log : ℕ → List Access) (W W′ : V
 
     nowhere : Absent (W′ .number s) (numbersOf es)
     nowhere = J .unplaced (W′ .number s) new
-
-    newest : (x : ℕ) → x < items → arrayAt (2 * W .clock + 1) es log x ≡ W .current x
-    newest x b = sym (ap (λ (a : Array). a x) (skip-odd log (2 * W .clock + 1) (omega arith) es zeros (J .still))) ∙ top-array items es log W W′ F J (2 * W .clock + 1 + 1) (omega arith) x b
 
     query-slot : Slot items (insert e es) log W′ s
     query-slot =
@@ -178,4 +181,60 @@ module _ (items : ℕ) (es : List Entry) (log : ℕ → List Access) (W W′ : V
               (unmoved E (omega arith) r (F .apart s r (L .alive) (R .was a) (λ z. d (sym z)))
               (λ k z. let l = F .low r (R .was a, λ i. omega arith) in let z′ : 2 * (W .clock + 1) ≡ 2 * W .start r = z in omega arith)
               (λ k. pending-free items W F r s (log (W .number s)) d P) (still r d))
+              (sees r d) (J .slots r (R .was a))
+
+  -- ---- an update that holds nothing exclusively commits, in slot s: it stands where a query would that begins now
+  module _
+      (s : ℕ) (k : W .kind s ≡ anUpdate) (none : (x : ℕ) → x < items → W .writes s x ≡ false) (L : Left items W W′ s)
+      (sees : (r : ℕ) → r ≢ s → Sees items W W′ r) (cur : (x : ℕ) → x < items → W′ .current x ≡ W .current x) (clk : W′ .clock ≡ W .clock)
+    where
+      abbrev D : Entry
+      D = record { place = 2 * W .clock + 1; number = W .number s }
+
+      abbrev N : Pending items W s (log (W .number s))
+      N = J .slots s (L .alive) .pending k
+
+      outside : Absent (W .number s) (numbersOf es)
+      outside = J .slots s (L .alive) .waiting (λ z. omega arith)
+
+      -- it changes nothing
+      idle : (a : Array) → final (log (W .number s)) a ≡ a
+      idle a = fun-ext (λ x. go x (ltb x items) refl)
+        where
+          go : (x : ℕ) (c : Bool) → ltb x items ≡ c → final (log (W .number s)) a x ≡ a x
+          go x true e = let b = ltb-true x items e in J .slots s (L .alive) .ends (λ z. omega arith) a x b ∙ rw (none x b)
+          go x false e = untouched (λ y. y < items) (log (W .number s)) a (J .named (W .number s)) x (λ b. let l = ltb-false x items e in omega arith)
+
+      remains : (r : ℕ) → W′ .alive r → r ≢ s
+      remains r a f = L .gone (subst (λ (m : ℕ). W′ .alive m) f a)
+
+      pub empty-commit-step : Inv items (insert D es) log W′
+      empty-commit-step =
+          record {
+            sorted = sorted-insert D es (J .sorted) (inl (omega arith));
+            most = all-insert (λ p n. p ≤ 2 * W′ .clock + 1) D (omega arith) es (all-map _ _ (λ p n h. omega arith) es (J .most));
+            told =
+                told-on D (omega arith)
+                (local-agrees (λ x. x < items) (log (W .number s)) (W .current) (arrayAt (2 * W .clock + 1) es log) (λ y b. sym (newest y b)) (J .named (W .number s)) (N .reads));
+            still = all-insert _ D (λ o. idle) es (J .still);
+            now = λ x b.
+                ap (λ (a : Array). a x) (whole D (omega arith) (2 * W′ .clock + 2) (omega arith) (omega arith) ∙ idle _) ∙ J .now x b ∙ sym (cur x b);
+            named = J .named;
+            once = once-insert D es (J .once) outside;
+            unplaced = λ n h.
+                let l = L .last in
+                absent-insert n D (λ z. let m = F .known s (L .alive) in let z′ : W .number s ≡ n = z in omega arith) es (J .unplaced n (omega arith));
+            unlogged = λ n h. let l = L .last in J .unlogged n (omega arith);
+            slots = λ r a. go r a (remains r a);
+            clear = λ p r a b l.
+                let d = remains p (a .0) in
+                clear-kept items log log W W′ p r (L .rows p d) (L .rows r (remains r (b .0))) (L .locks p d) refl (J .clear p r) a b l;
+          }
+        where
+          go : (r : ℕ) → W′ .alive r → r ≢ s → Slot items (insert D es) log W′ r
+          go r a d =
+              let R = L .rows r d in
+              slot-kept items es (insert D es) log log W W′ F r R (L .locks r d) (R .was a)
+              (unmoved D (omega arith) r (F .apart s r (L .alive) (R .was a) (λ z. d (sym z))) (λ k z. omega arith)
+              (λ k. pending-free items W F r s (log (W .number s)) d N) (λ x b h. cur x b))
               (sees r d) (J .slots r (R .was a))

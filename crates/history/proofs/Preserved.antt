@@ -10,9 +10,9 @@ use Rattle.history.specs.Happened.{Access, got, put, Happening}
 use Rattle.history.specs.Serial.{Entry, insert, insertAll, accessOf, placeOf}
 use Rattle.history.proofs.Replay.{added}
 use Rattle.history.proofs.Invariant.{View, Fair, Inv, reader, settled}
-use Rattle.history.proofs.Turns.{Same, byLock, byOwn, byStart, Turn, quiet, updateBegins, queryBegins, reads, writes, commits, settles, commitsSettled, ends}
+use Rattle.history.proofs.Turns.{Same, byLock, byOwn, byStart, Turn, quiet, updateBegins, queryBegins, reads, writes, commits, commitsEmpty, settles, commitsSettled, ends}
 use Rattle.history.proofs.Steps.{quiet-step, left-step, begin-update-step, settle-step}
-use Rattle.history.proofs.Placed.{begin-query-step, commit-step}
+use Rattle.history.proofs.Placed.{begin-query-step, commit-step, empty-commit-step}
 use Rattle.history.proofs.Between.{settled-commit-step}
 use Rattle.history.proofs.Grown.{lock-read-step, own-read-step, start-read-step, query-read-step, write-step}
 
@@ -56,6 +56,8 @@ module _ (items : ℕ) (es : List Entry) (log : ℕ → List Access) (W W′ : V
   turn-step (writes n s x v e b P) = logged n (W .number s) (put x v) e (write-step items es log W W′ F J s (P .alive) x v b P)
   turn-step (commits n s e a k L sees cur c) =
       unlogged (placed (2 * (W .clock + 1)) e (commit-step items es log W W′ F J s k L sees cur c))
+  turn-step (commitsEmpty n s e a k none L sees cur c) =
+      unlogged (placed (2 * W .clock + 1) e (empty-commit-step items es log W W′ F J s k none L sees cur c))
   turn-step (settles n s e B) = unlogged (settle-step items es log W W′ F J s B)
   turn-step (commitsSettled n s e a k L snap cur c) =
       unlogged (placed (2 * W .start s) e (settled-commit-step items es log W W′ F J s k L snap cur c))

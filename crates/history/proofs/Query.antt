@@ -17,11 +17,12 @@ use Rattle.rules.proofs.EqualRows.{settled-live, live-settled}
 use Rattle.rules.proofs.Keeps.{keeps}
 use Rattle.rules.proofs.Fresh.{fresh-good}
 use Rattle.history.specs.Runs.{Event, run, endOf, Every}
-use Rattle.history.specs.Happened.{Access, Happening, queryBegan, did, happened, begunWith, happeningsAfter, happenings}
+use Rattle.history.specs.Happened.{SoFar, noneSoFar, Access, Happening, queryBegan, did, happened, begunWith, happeningsAfter, happenings}
 use Rattle.history.specs.Serial.{Entry, grantedTo}
 use Rattle.history.specs.Undisturbed.{commitOf, commitIn, lastPut, leftBy, PastIn, PastOn, Gives, ReadsUpTo, ReadsAsBegun, Alike, Undisturbed}
 use Rattle.history.proofs.Invariant.{Inv, settled}
-use Rattle.history.proofs.Turns.{Turn, Known}
+use Rattle.history.proofs.Turns.{Turn}
+use Rattle.history.proofs.Marked.{Known}
 use Rattle.history.proofs.Preserved.{turn-step}
 use Rattle.history.proofs.Tables.{inside?}
 use Rattle.history.proofs.Seen.{seen, seen-fair}
@@ -47,7 +48,7 @@ module _ (S : Sizes) (enough : S .slots ≤ S .places) where
 
   -- the turn of a query's begin
   begin-turn :
-      (n : ℕ) (G : Tables) → Good S G → (us : List ℕ) → Known us (seen S G) → (step S BeginQuery G) .answer .code ≡ granted
+      (n : ℕ) (G : Tables) → Good S G → (us : SoFar) → Known (S .items) us (seen S G) → (step S BeginQuery G) .answer .code ≡ granted
       → (step S BeginQuery G) .answer .number ≡ n → Turn (S .items) (seen S G) (seen S (after BeginQuery G)) BeginQuery (queryBegan n)
   unfolding did
   begin-turn n G g us K e m =
@@ -60,7 +61,7 @@ module _ (S : Sizes) (enough : S .slots ≤ S .places) where
   -- ---- after the calls `before`, which leave one past its writing on the item x
   module _ (cs : List Call) (n x : ℕ) (bx : x < S .items) where
     held-run :
-        (before : List Call) (us : List ℕ) (es : List Entry) (log : ℕ → List Access) (G : Tables) → Good S G → Known us (seen S G)
+        (before : List Call) (us : SoFar) (es : List Entry) (log : ℕ → List Access) (G : Tables) → Good S G → Known (S .items) us (seen S G)
         → Inv (S .items) es log (seen S G)
         → let H = endOf S before G in
         let o = step S BeginQuery H in
@@ -141,10 +142,10 @@ module _ (S : Sizes) (enough : S .slots ≤ S .places) where
         g : Good S (left before)
         g = run-good S enough room before
 
-        us : List ℕ
+        us : SoFar
         us = run-known S enough room before .0
 
-        K : Known (run-known S enough room before .0) (seen S (left before))
+        K : Known (S .items) (run-known S enough room before .0) (seen S (left before))
         K = run-known S enough room before .1
 
         outside : (v : ℕ) → S .items ≤ x → Every (Gives n x v) (run S cs (since before))
@@ -166,7 +167,7 @@ module _ (S : Sizes) (enough : S .slots ≤ S .places) where
             (Gives n x (leftBy ((txn ((left before) .txns) b) .number) (happenings S (before ++ (BeginQuery ∷ cs))) x (newest S ((left before) .versions) x)))
             (run S cs (since before))
         held b p (inl bx) =
-            held-run cs n x bx before [] [] (λ j. []) (fresh S) (fresh-good S room) (fresh-known S enough room) (after-fresh S enough room) e m b p
+            held-run cs n x bx before noneSoFar [] (λ j. []) (fresh S) (fresh-good S room) (fresh-known S enough room) (after-fresh S enough room) e m b p
         held b p (inr o) = outside _ o
 
     -- ---- whatever others call

@@ -16,7 +16,7 @@ use Rattle.history.specs.Serial.{accessOf}
 use Rattle.history.specs.Undisturbed.{commitOf}
 use Rattle.history.proofs.Invariant.{View, Fair, Row, Locks, update, query, settled, reader}
 use Rattle.history.proofs.Turns.{Same, New, Gets, byLock, byOwn, byStart, Puts, Left, Settles, Turn, quiet, updateBegins, queryBegins, reads, writes}
-use Rattle.history.proofs.Turns.{commits, settles, commitsSettled, ends}
+use Rattle.history.proofs.Turns.{commits, commitsEmpty, settles, commitsSettled, ends}
 use Rattle.history.proofs.Standing.{Unknown, left-unknown}
 
 -- the query n lives
@@ -303,6 +303,9 @@ module _ (items : ℕ) (W W′ : View) (F : Fair items W) (n x : ℕ) (bx : x < 
   fixed-on H (commits m s e a k L sees f i) =
       let d : H .lives .slot ≢ s = not-kind (H .lives .slot) s (λ z. let j = H .lives .query .1 in omega arith) in
       inr (left-fixed s L H d (sees (H .lives .slot) d x bx (as-reader (H .lives) (L .rows (H .lives .slot) d)) ∙ H .sees))
+  fixed-on H (commitsEmpty m s e a k w L sees f i) =
+      let d : H .lives .slot ≢ s = not-kind (H .lives .slot) s (λ z. let j = H .lives .query .1 in omega arith) in
+      inr (left-fixed s L H d (sees (H .lives .slot) d x bx (as-reader (H .lives) (L .rows (H .lives .slot) d)) ∙ H .sees))
   fixed-on H (settles m s e B) = inr (settle-fixed s B H)
   fixed-on H (commitsSettled m s e a k L snap f i) =
       inr (left-fixed s L H (apart-from s k L snap (H .lives)) (untouched-by s k L snap (H .lives) (λ w l. H .free s (L .alive, k) l w) ∙ H .sees))
@@ -330,6 +333,10 @@ module _ (items : ℕ) (W W′ : View) (F : Fair items W) (n x : ℕ) (bx : x < 
   open-on H (reads k s y u e b A g) = stays (same-open A H)
   open-on H (writes k s y u e b P) = stays (put-open s y u P H)
   open-on H (commits j s e a k L sees f i) =
+      let d : H .lives .slot ≢ s = not-kind (H .lives .slot) s (λ z. let j = H .lives .query .1 in omega arith) in
+      let c : H .holder ≢ s = not-kind (H .holder) s (λ z. let j = H .past .1 in omega arith) in
+      stays (left-open s L H d c (sees (H .lives .slot) d x bx (as-reader (H .lives) (L .rows (H .lives .slot) d)) ∙ H .sees))
+  open-on H (commitsEmpty j s e a k w L sees f i) =
       let d : H .lives .slot ≢ s = not-kind (H .lives .slot) s (λ z. let j = H .lives .query .1 in omega arith) in
       let c : H .holder ≢ s = not-kind (H .holder) s (λ z. let j = H .past .1 in omega arith) in
       stays (left-open s L H d c (sees (H .lives .slot) d x bx (as-reader (H .lives) (L .rows (H .lives .slot) d)) ∙ H .sees))

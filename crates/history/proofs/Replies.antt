@@ -12,8 +12,8 @@ use Rattle.rules.specs.Answers.{Call, BeginUpdate, BeginQuery, Read, Write, Com
 use Rattle.rules.specs.Step.{readBy, writeBy, commitBy, abortBy, settleBy, judged, done, act, step}
 use Rattle.rules.proofs.Callers.{caller-in}
 use Rattle.rules.proofs.Steps.{acts}
-use Rattle.history.specs.Happened.{names, did}
-use Rattle.history.proofs.Turns.{Known}
+use Rattle.history.specs.Happened.{SoFar, names, did}
+use Rattle.history.proofs.Marked.{Known}
 use Rattle.history.proofs.Seen.{seen, seen-fair}
 use Rattle.history.proofs.Happens.{step-happens, granted-turn}
 use Rattle.history.proofs.Standing.{Unknown, unknown-on, over-unknown}
@@ -49,13 +49,14 @@ module _ (S : Sizes) (enough : S .slots ≤ S .places) where
   unknown-step n c G g U = unknown-on (S .items) (seen S G) _ n (step-happens S enough c G g .turn) U
 
   -- ---- a granted commit or abort
-  module _ (n : ℕ) (G : Tables) (g : Good S G) (us : List ℕ) (K : Known us (seen S G)) where
+  module _ (n : ℕ) (G : Tables) (g : Good S G) (us : SoFar) (K : Known (S .items) us (seen S G)) where
     pub commit-over : (step S (Commit n) G) .answer .code ≡ granted → Unknown n (seen S ((step S (Commit n) G) .after))
     unfolding did
     commit-over e =
-        over-unknown (S .items) (seen S G) _ n (seen-fair S G g) ((step S (Commit n) G) .answer .number) (some (λ m. names m (Commit n)) us)
+        over-unknown (S .items) (seen S G) _ n (seen-fair S G g) ((step S (Commit n) G) .answer .number) (some (λ m. names m (Commit n)) (us .updates))
+        (some (λ m. names m (Commit n)) (us .stamped))
         (granted-turn S enough (Commit n) G g us K e)
 
     pub abort-over : (step S (Abort n) G) .answer .code ≡ granted → Unknown n (seen S ((step S (Abort n) G) .after))
     unfolding did
-    abort-over e = over-unknown (S .items) (seen S G) _ n (seen-fair S G g) 0 false (granted-turn S enough (Abort n) G g us K e)
+    abort-over e = over-unknown (S .items) (seen S G) _ n (seen-fair S G g) 0 false false (granted-turn S enough (Abort n) G g us K e)

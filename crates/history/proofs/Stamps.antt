@@ -14,7 +14,7 @@ use Rattle.rules.proofs.Tests.{or-cases, or-left, or-right, eq-make, same?}
 use Rattle.history.specs.Happened.{Happening, updateCommitted, settledUnder}
 use Rattle.history.specs.Numbers.{settledWith}
 use Rattle.history.proofs.Invariant.{View, Fair, Row, settled}
-use Rattle.history.proofs.Turns.{New, Left, Settles, Turn, quiet, updateBegins, queryBegins, reads, writes, commits, settles, commitsSettled, ends}
+use Rattle.history.proofs.Turns.{New, Left, Settles, Turn, quiet, updateBegins, queryBegins, reads, writes, commits, commitsEmpty, settles, commitsSettled, ends}
 use Rattle.history.proofs.Standing.{Unknown, left-unknown}
 
 -- ---- those past their writing are among ss, the others are not, and all of ss were given
@@ -96,6 +96,7 @@ module _ (items : ℕ) (W W′ : View) (F : Fair items W) where
     past-on (reads n s x v e b A g) = kept-past (λ r a. A .rows r) (A .last)
     past-on (writes n s x v e b Q) = kept-past (λ r a. Q .rows r) (Q .last)
     past-on (commits n s e a k L o f i) = left-past s L
+    past-on (commitsEmpty n s e a k w L o f i) = left-past s L
     past-on (settles n s e B) = settles-past n s e B
     past-on (commitsSettled n s e a k L o f i) = left-past s L
     past-on (ends n s e a L o f i) = left-past s L
@@ -151,6 +152,7 @@ module _ (items : ℕ) (W W′ : View) (F : Fair items W) (n d : ℕ) (H : Took 
   took-on (reads m s x v e b A g) = inl (row-took (A .rows (H .slot)))
   took-on (writes m s x v e b Q) = inl (row-took (Q .rows (H .slot)))
   took-on (commits m s e a k L o f i) = left-took s L
+  took-on (commitsEmpty m s e a k w L o f i) = left-took s L
   took-on (settles m s e B) =
       inl (row-took (B .rows (H .slot) (λ z. let i : W .kind (H .slot) ≡ W .kind s = ap (W .kind) z in let j = H .past .1 in let k = B .update .1 in omega arith)))
   took-on (commitsSettled m s e a k L o f i) = left-took s L

@@ -6,10 +6,10 @@ use mathlib.Core.Bool.{Bool, true, false, cond}
 use native.Mathlib.Omega.{arith}
 use Rattle.rules.specs.Answers.{Call}
 use Rattle.rules.proofs.Tests.{same?}
-use Rattle.history.specs.Happened.{Happening, updateCommitted, onlyEnded}
+use Rattle.history.specs.Happened.{Happening, updateCommitted, emptyCommitted, onlyEnded}
 use Rattle.history.proofs.Invariant.{View, Fair}
 use Rattle.history.proofs.Turns.{Old, row-old, left-old, settles-old, New, Left, Turn, quiet, updateBegins, queryBegins, reads, writes}
-use Rattle.history.proofs.Turns.{commits, settles, commitsSettled, ends}
+use Rattle.history.proofs.Turns.{commits, commitsEmpty, settles, commitsSettled, ends}
 
 -- ---- nobody has the number n, and it was given (or a later one was)
 pub record Unknown (n : ℕ) (W : View) : Type 0 where
@@ -48,6 +48,7 @@ module _ (items : ℕ) (W W′ : View) (n : ℕ) where
   unknown-on (reads m s x v e b A g) U = old-unknown U (λ r. row-old items W W′ r (A .rows r)) (A .last)
   unknown-on (writes m s x v e b P) U = old-unknown U (λ r. row-old items W W′ r (P .rows r)) (P .last)
   unknown-on (commits m s e a u L o f k) U = old-unknown U (left-old items W W′ s L) (L .last)
+  unknown-on (commitsEmpty m s e a u w L o f k) U = old-unknown U (left-old items W W′ s L) (L .last)
   unknown-on (settles m s e B) U = old-unknown U (settles-old items W W′ s B) (B .last)
   unknown-on (commitsSettled m s e a u L o f k) U = old-unknown U (left-old items W W′ s L) (L .last)
   unknown-on (ends m s e a L o f k) U = old-unknown U (left-old items W W′ s L) (L .last)
@@ -63,13 +64,18 @@ module _ (items : ℕ) (W W′ : View) (n : ℕ) where
           given = let b = F .known s (L .alive) in let l = L .last in omega arith;
         }
 
-    pub over-unknown : {c : Call} (k : ℕ) (b : Bool) → Turn items W W′ c (cond b (updateCommitted n k) (onlyEnded n)) → Unknown n W′
-    over-unknown k true t = committed t
+    pub over-unknown :
+        {c : Call} (k : ℕ) (b w : Bool) → Turn items W W′ c (cond b (cond w (updateCommitted n k) (emptyCommitted n k)) (onlyEnded n)) → Unknown n W′
+    over-unknown k true true t = committed t
       where
         committed : {c : Call} {j : ℕ} → Turn items W W′ c (updateCommitted n j) → Unknown n W′
         committed (commits m s e a u L o f i) = left-unknown s e L
         committed (commitsSettled m s e a u L o f i) = left-unknown s e L
-    over-unknown k false t = ended t
+    over-unknown k true false t = emptied t
+      where
+        emptied : {c : Call} {j : ℕ} → Turn items W W′ c (emptyCommitted n j) → Unknown n W′
+        emptied (commitsEmpty m s e a u w L o f i) = left-unknown s e L
+    over-unknown k false w t = ended t
       where
         ended : {c : Call} → Turn items W W′ c (onlyEnded n) → Unknown n W′
         ended (ends m s e a L o f i) = left-unknown s e L

@@ -11,14 +11,15 @@ use Rattle.rules.specs.Step.{step}
 use Rattle.rules.proofs.Keeps.{keeps}
 use Rattle.rules.proofs.Fresh.{fresh-good}
 use Rattle.history.specs.Runs.{run, endOf}
-use Rattle.history.specs.Happened.{Access, happened, begunWith, clockAfter, happeningsAfter, happenings, allOf}
+use Rattle.history.specs.Happened.{SoFar, noneSoFar, Access, happened, begunWith, clockAfter, happeningsAfter, happenings, allOf}
 use Rattle.history.specs.Serial.{Entry, accessOf, grantedTo, placeOf, insertAll, entriesFrom, numbersOf, order, oneByOne, serial, Absent, Once, Serializes}
 use Rattle.history.proofs.Plain.{agrees, final, zeros}
 use Rattle.history.proofs.Literal.{to-agrees, to-final, same-zeros}
 use Rattle.history.proofs.Replay.{within-none, within-all}
 use Rattle.history.proofs.Order.{All, all-map, Sorted, below, below-all, all-agree}
 use Rattle.history.proofs.Invariant.{Inv}
-use Rattle.history.proofs.Turns.{Known, clock-on}
+use Rattle.history.proofs.Turns.{clock-on}
+use Rattle.history.proofs.Marked.{Known}
 use Rattle.history.proofs.Preserved.{turn-step}
 use Rattle.history.proofs.Tables.{fresh-newest, fresh-clock}
 use Rattle.history.proofs.Seen.{seen, seen-fair}
@@ -30,7 +31,7 @@ module _ (S : Sizes) (enough : S .slots ≤ S .places) where
   Holds es log G = Inv (S .items) es log (seen S G)
 
   after-run :
-      (cs : List Call) (us : List ℕ) (es : List Entry) (log : ℕ → List Access) (G : Tables) → Good S G → Known us (seen S G) → Holds es log G
+      (cs : List Call) (us : SoFar) (es : List Entry) (log : ℕ → List Access) (G : Tables) → Good S G → Known (S .items) us (seen S G) → Holds es log G
       → Holds (entriesFrom (clock (G .txns)) es (happeningsAfter us (run S cs G))) (λ m. log m ++ grantedTo m (happeningsAfter us (run S cs G))) (endOf S cs G)
   unfolding run endOf happeningsAfter entriesFrom grantedTo allOf
   after-run [] us es log G g K J = subst (λ (k : ℕ → List Access). Holds es k G) (sym (fun-ext (λ m. append-nil (log m)))) J
@@ -75,7 +76,7 @@ module _ (S : Sizes) (enough : S .slots ≤ S .places) where
         let log : ℕ → List Access = λ n. grantedTo n hs in
         let J : Inv (S .items) es log (seen S (endOf S cs (fresh S))) =
         subst (λ (k : ℕ). Inv (S .items) (entriesFrom k [] hs) log (seen S (endOf S cs (fresh S)))) (fresh-clock S)
-        (after-run cs [] [] (λ m. []) (fresh S) (fresh-good S room) (fresh-known S enough room) after-fresh) in
+        (after-run cs noneSoFar [] (λ m. []) (fresh S) (fresh-good S room) (fresh-known S enough room) after-fresh) in
         let q = 2 * clock ((endOf S cs (fresh S)) .txns) + 2 in
         let all = oneByOne log (numbersOf es) in
         let whole = below-all q es (all-map _ _ (λ p n l. omega arith) es (J .most)) in

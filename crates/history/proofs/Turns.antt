@@ -1,5 +1,5 @@
 -- A turn: what a call leaves of the view W, the view W′ afterwards, one constructor for each happening. Every theorem about runs goes by
--- these. Then who lived before (`Old`), the updates begun so far (`Known`), and the clock (`clock-on`), over a turn.
+-- these. Then who lived before (`Old`), the updates begun so far (`Begun`), and the clock (`clock-on`), over a turn.
 use Prim.Native.Nat.{ℕ, _+_, _≤_, _<_}
 use mathlib.Core.Path.{_≡_, sym, ap, _∙_, subst}
 use mathlib.Core.Logic.{_≢_, _⊎_, inl, inr}
@@ -12,8 +12,8 @@ use Rattle.rules.specs.Words.{some}
 use Rattle.rules.specs.Tables.{anUpdate, aQuery, aSettled}
 use Rattle.rules.specs.Answers.{Call}
 use Rattle.rules.proofs.Tests.{or-cases, or-left, or-right, eq-make, same?}
-use Rattle.history.specs.Happened.{got, put, Happening, updateBegan, queryBegan, accessed, updateCommitted, settledUnder, onlyEnded, nothing}
-use Rattle.history.specs.Happened.{begunWith, clockAfter, names}
+use Rattle.history.specs.Happened.{got, put, Happening, updateBegan, queryBegan, accessed, updateCommitted, emptyCommitted, settledUnder, onlyEnded, nothing}
+use Rattle.history.specs.Happened.{SoFar, begunWith, clockAfter, names}
 use Rattle.history.proofs.Invariant.{View, Fair, Row, Locks, Sees, update, query, settled, reader}
 
 module _ (items : ℕ) (W W′ : View) where
@@ -104,6 +104,11 @@ module _ (items : ℕ) (W W′ : View) where
         {c : Call} (n s : ℕ) → W .number s ≡ n → T (names n c) → W .kind s ≡ anUpdate → Left s → ((r : ℕ) → r ≢ s → Sees items W W′ r)
         → ((x : ℕ) → x < items → W′ .current x ≡ cond (W .writes s x) (W .working x) (W .current x)) → W′ .clock ≡ W .clock + 1
         → Turn c (updateCommitted n (W .clock + 1))
+    -- without a stamp of its own (request E7): it holds nothing exclusively
+    commitsEmpty :
+        {c : Call} (n s : ℕ) → W .number s ≡ n → T (names n c) → W .kind s ≡ anUpdate → ((x : ℕ) → x < items → W .writes s x ≡ false) → Left s
+        → ((r : ℕ) → r ≢ s → Sees items W W′ r) → ((x : ℕ) → x < items → W′ .current x ≡ W .current x) → W′ .clock ≡ W .clock
+        → Turn c (emptyCommitted n (W .clock))
     settles : {c : Call} (n s : ℕ) → W .number s ≡ n → Settles s → Turn c (settledUnder n (W .clock + 1))
     -- those who read by a later start see what it wrote
     commitsSettled :
@@ -149,13 +154,16 @@ module _ (items : ℕ) (W W′ : View) where
       go (inr d) = row-old r (B .rows r d) a
 
 -- ---- the live updates are among us, the live queries are not, and all of us were given
-pub record Known (us : List ℕ) (W : View) : Type 0 where
+pub record Begun (us : List ℕ) (W : View) : Type 0 where
   pub updates : (s : ℕ) → W .alive s → W .kind s ≢ aQuery → T (some (eqb (W .number s)) us)
   pub queries : (s : ℕ) → query W s → T (some (eqb (W .number s)) us) → ⊥
   pub given : (n : ℕ) → T (some (eqb n) us) → n ≤ W .last
 
-module _ (items : ℕ) (W W′ : View) (F : Fair items W) (us : List ℕ) (K : Known us W) where
-  old-known : ((r : ℕ) → W′ .alive r → Old items W W′ r) → W′ .last ≡ W .last → Known us W′
+module _ (items : ℕ) (W W′ : View) (F : Fair items W) (so : SoFar) (K : Begun (so .updates) W) where
+  abbrev us : List ℕ
+  us = so .updates
+
+  old-known : ((r : ℕ) → W′ .alive r → Old items W W′ r) → W′ .last ≡ W .last → Begun us W′
   old-known O l =
       record {
         updates = λ s a k. let o = O s a in rw (o .number) (K .updates s (o .alive) (λ z. k (o .query← z)));
@@ -166,7 +174,7 @@ module _ (items : ℕ) (W W′ : View) (F : Fair items W) (us : List ℕ) (K : K
   abbrev N : ℕ
   N = W .last + 1
 
-  new-update : (s : ℕ) → New items W W′ s → W′ .kind s ≡ anUpdate → Known (N ∷ us) W′
+  new-update : (s : ℕ) → New items W W′ s → W′ .kind s ≡ anUpdate → Begun (N ∷ us) W′
   unfolding some
   new-update s B nq =
       record {
@@ -197,7 +205,7 @@ module _ (items : ℕ) (W W′ : View) (F : Fair items W) (us : List ℕ) (K : K
       given n (inl a) = let b = eqb→eq n N a in let l = B .last in omega arith
       given n (inr a) = let b = K .given n a in let l = B .last in omega arith
 
-  new-query : (s : ℕ) → New items W W′ s → query W′ s → Known us W′
+  new-query : (s : ℕ) → New items W W′ s → query W′ s → Begun us W′
   new-query s B nu =
       record {
         updates = λ r u k. updates r u k (same? r s);
@@ -217,17 +225,18 @@ module _ (items : ℕ) (W W′ : View) (F : Fair items W) (us : List ℕ) (K : K
           omega arith
       queries r q (inr d) a = let R = B .rows r d in K .queries r (R .was (q .0), sym (R .kind-is) ∙ q .1) (rw (R .number-is) at a)
 
-  pub known-on : {c : Call} {h : Happening} → Turn items W W′ c h → Known (begunWith h us) W′
+  pub begun-on : {c : Call} {h : Happening} → Turn items W W′ c h → Begun ((begunWith h so) .updates) W′
   unfolding begunWith
-  known-on (quiet A) = old-known (λ r. row-old items W W′ r (A .rows r)) (A .last)
-  known-on (updateBegins s B k e) = new-update s B k
-  known-on (queryBegins s B q z e) = new-query s B q
-  known-on (reads n s x v m b A g) = old-known (λ r. row-old items W W′ r (A .rows r)) (A .last)
-  known-on (writes n s x v m b P) = old-known (λ r. row-old items W W′ r (P .rows r)) (P .last)
-  known-on (commits n s m a u L o e k) = old-known (left-old items W W′ s L) (L .last)
-  known-on (settles n s m B) = old-known (settles-old items W W′ s B) (B .last)
-  known-on (commitsSettled n s m a u L o e k) = old-known (left-old items W W′ s L) (L .last)
-  known-on (ends n s m a L o e k) = old-known (left-old items W W′ s L) (L .last)
+  begun-on (quiet A) = old-known (λ r. row-old items W W′ r (A .rows r)) (A .last)
+  begun-on (updateBegins s B k e) = new-update s B k
+  begun-on (queryBegins s B q z e) = new-query s B q
+  begun-on (reads n s x v m b A g) = old-known (λ r. row-old items W W′ r (A .rows r)) (A .last)
+  begun-on (writes n s x v m b P) = old-known (λ r. row-old items W W′ r (P .rows r)) (P .last)
+  begun-on (commits n s m a u L o e k) = old-known (left-old items W W′ s L) (L .last)
+  begun-on (commitsEmpty n s m a u w L o e k) = old-known (left-old items W W′ s L) (L .last)
+  begun-on (settles n s m B) = old-known (settles-old items W W′ s B) (B .last)
+  begun-on (commitsSettled n s m a u L o e k) = old-known (left-old items W W′ s L) (L .last)
+  begun-on (ends n s m a L o e k) = old-known (left-old items W W′ s L) (L .last)
 
 -- ---- the clock is the greatest stamp given
 pub clock-on : (items : ℕ) (W W′ : View) → Fair items W → {c : Call} {h : Happening} → Turn items W W′ c h → W′ .clock ≡ clockAfter (W .clock) h
@@ -238,6 +247,7 @@ clock-on items W W′ F (queryBegins s B q z e) = B .clock
 clock-on items W W′ F (reads n s x v m b A g) = A .clock
 clock-on items W W′ F (writes n s x v m b P) = P .clock
 clock-on items W W′ F (commits n s m a u L o e k) = k ∙ rw (lt-leb (W .clock + 1) (W .clock) (omega arith))
+clock-on items W W′ F (commitsEmpty n s m a u w L o e k) = k
 clock-on items W W′ F (settles n s m B) = B .clock
 clock-on items W W′ F (commitsSettled n s m a u L o e k) =
     let l = F .low s (L .alive, λ z. omega arith) in

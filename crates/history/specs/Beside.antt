@@ -7,7 +7,6 @@ use Rattle.rules.specs.Good.{Good}
 use Rattle.rules.specs.Answers.{Call, code, BadTables}
 use Rattle.history.specs.Runs.{run, endOf, Every}
 use Rattle.history.specs.Numbers.{Upward}
-use Rattle.history.specs.ByAnswers.{ToldByAnswers}
 
 -- of the calls cs from fresh tables
 pub record Beside (S : Sizes) (cs : List Call) : Type 0 where
@@ -17,5 +16,3 @@ pub record Beside (S : Sizes) (cs : List Call) : Type 0 where
   pub neverBad : Every (λ e. e .answer .code ≢ code BadTables) (run S cs (fresh S))
   -- numbers and stamps are given upward, one by one, and whoever took a stamp keeps it
   pub rising : Upward S cs
-  -- whoever sees only the calls and their answers can tell what happened: who committed, under which stamp, and in which order
-  pub byAnswers : ToldByAnswers S cs

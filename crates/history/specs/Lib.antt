@@ -5,5 +5,4 @@ pub mod Serial
 pub mod Undisturbed
 pub mod Ended
 pub mod Numbers
-pub mod ByAnswers
 pub mod Beside

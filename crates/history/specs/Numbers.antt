@@ -7,7 +7,7 @@ use lib.Dec.{T, eqb}
 use Rattle.names.specs.declared.Sizes.{Sizes}
 use Rattle.rules.specs.Words.{some}
 use Rattle.rules.specs.Answers.{Call}
-use Rattle.history.specs.Happened.{Happening, updateBegan, queryBegan, accessed, updateCommitted, settledUnder, onlyEnded, nothing}
+use Rattle.history.specs.Happened.{Happening, updateBegan, queryBegan, accessed, updateCommitted, emptyCommitted, settledUnder, onlyEnded, nothing}
 use Rattle.history.specs.Happened.{happenings, allOf}
 
 -- the number that a begin gives
@@ -16,6 +16,7 @@ numberOf (updateBegan n) = n ∷ []
 numberOf (queryBegan n) = n ∷ []
 numberOf (accessed n a) = []
 numberOf (updateCommitted n c) = []
+numberOf (emptyCommitted n c) = []
 numberOf (settledUnder n c) = []
 numberOf (onlyEnded n) = []
 numberOf nothing = []
@@ -24,6 +25,7 @@ numberOf nothing = []
 unfoldable pub settledWith : Happening → List ℕ → List ℕ
 settledWith (settledUnder n d) ss = n ∷ ss
 settledWith (updateCommitted n d) ss = ss
+settledWith (emptyCommitted n d) ss = ss
 settledWith (updateBegan n) ss = ss
 settledWith (queryBegan n) ss = ss
 settledWith (accessed n a) ss = ss
@@ -34,6 +36,7 @@ settledWith nothing ss = ss
 unfoldable pub stampOf : List ℕ → Happening → List ℕ
 stampOf ss (settledUnder n d) = d ∷ []
 stampOf ss (updateCommitted n d) = cond (some (eqb n) ss) [] (d ∷ [])
+stampOf ss (emptyCommitted n d) = []
 stampOf ss (updateBegan n) = []
 stampOf ss (queryBegan n) = []
 stampOf ss (accessed n a) = []

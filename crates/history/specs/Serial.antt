@@ -13,7 +13,7 @@ use Rattle.rules.specs.Tables.{fresh}
 use Rattle.rules.specs.Versions.{newest}
 use Rattle.rules.specs.Answers.{Call}
 use Rattle.history.specs.Runs.{endOf}
-use Rattle.history.specs.Happened.{Access, got, put, Happening, updateBegan, queryBegan, accessed, updateCommitted, settledUnder, onlyEnded, nothing}
+use Rattle.history.specs.Happened.{Access, got, put, Happening, updateBegan, queryBegan, accessed, updateCommitted, emptyCommitted, settledUnder, onlyEnded, nothing}
 use Rattle.history.specs.Happened.{clockAfter, happenings, allOf}
 
 -- ---- a plain array, a number for each item, at first all zero
@@ -38,6 +38,7 @@ accessOf n (accessed m a) = cond (eqb m n) (a ∷ []) []
 accessOf n (updateBegan m) = []
 accessOf n (queryBegan m) = []
 accessOf n (updateCommitted m c) = []
+accessOf n (emptyCommitted m c) = []
 accessOf n (settledUnder m c) = []
 accessOf n (onlyEnded m) = []
 accessOf n nothing = []
@@ -57,6 +58,8 @@ pub record Entry : Type 0 where
 unfoldable pub placeOf : ℕ → Happening → List Entry
 placeOf c (updateCommitted n d) = record { place = 2 * d; number = n } ∷ []
 placeOf c (queryBegan n) = record { place = 2 * c + 1; number = n } ∷ []
+-- request E7: "after all updates with stamps up to that one and before the next"
+placeOf c (emptyCommitted n d) = record { place = 2 * d + 1; number = n } ∷ []
 placeOf c (settledUnder n d) = []
 placeOf c (updateBegan n) = []
 placeOf c (accessed n a) = []

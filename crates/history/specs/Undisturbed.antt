@@ -14,7 +14,7 @@ use Rattle.rules.specs.Versions.{newest}
 use Rattle.rules.specs.Answers.{Call, BeginQuery, Read, granted}
 use Rattle.rules.specs.Step.{step}
 use Rattle.history.specs.Runs.{Event, run, endOf, Every}
-use Rattle.history.specs.Happened.{Access, got, put, Happening, updateBegan, queryBegan, accessed, updateCommitted, settledUnder, onlyEnded, nothing}
+use Rattle.history.specs.Happened.{Access, got, put, Happening, updateBegan, queryBegan, accessed, updateCommitted, emptyCommitted, settledUnder, onlyEnded, nothing}
 use Rattle.history.specs.Happened.{happenings}
 use Rattle.history.specs.Serial.{grantedTo}
 
@@ -22,6 +22,7 @@ use Rattle.history.specs.Serial.{grantedTo}
 -- it committed
 unfoldable pub commitOf : ℕ → Happening → Bool
 commitOf m (updateCommitted n c) = eqb n m
+commitOf m (emptyCommitted n c) = eqb n m
 commitOf m (updateBegan n) = false
 commitOf m (queryBegan n) = false
 commitOf m (accessed n a) = false

@@ -12,25 +12,25 @@ use Rattle.rules.specs.Tables.{txn, setTxn, setAwaited, reranked, live, liveUpd
 use Rattle.rules.specs.Versions.{pairs, versionsIn, versionsOf, pairWords, rowOf, stampAt, newest, place, choice, readBySome, keptFrom, kept, rewritten}
 use Rattle.rules.specs.Waits.{awaits, awaitsOn, waitersOn, exchangersOn, rankFor, raised, lowered, noted, closedUp, conflicts, ahead, blocks, blocked, waitsFor, marked, spread, rounds, reached, circleAt, noCircle}
 use Rattle.rules.specs.Locks.{heldBy, decide, anotherShares, anotherExcludes, anotherAhead, decision}
-use Rattle.rules.specs.Step.{begun, beginBy, conflicted, cleared, locked, cellDeed, access, awaitsOther, writesFurther, holdsBack, heldBack, startRead, writesPast, queryRead, readBy, writeBy, withNew, committedUnder, committed, settledCommitted, ended, commitBy, aborted, settledAborted, settled, abortBy, settleBy, judged, done, act}
+use Rattle.rules.specs.Step.{begun, beginBy, conflicted, cleared, locked, cellDeed, access, awaitsOther, writesFurther, holdsBack, heldBack, startRead, writesPast, queryRead, readBy, writeBy, withNew, committedUnder, committed, settledCommitted, ended, commitUpdate, commitBy, aborted, settledAborted, settled, abortBy, settleBy, judged, done, act}
 use Rattle.rules.specs.Answers.{Call, BeginQuery}
 use Rattle.rules.specs.Tables.{Tables}
 use Rattle.rules.proofs.Fresh.{fresh-good}
 use Rattle.history.specs.Runs.{Event, run, endOf}
-use Rattle.history.specs.Happened.{got, put, Happening, did, told, happened, begunWith, happeningsAfter, happenings, clockAfter, allOf, names}
+use Rattle.history.specs.Happened.{got, put, Happening, emptyCommitted, onlyEnded, updateBegan, queryBegan, noneSoFar, did, told, happened, begunWith, happeningsAfter, happenings, clockAfter, allOf, names}
 use Rattle.history.specs.Serial.{zeros, agrees, final, accessOf, grantedTo, placeOf, insert, insertAll, entriesFrom, numbersOf, order, oneByOne, serial}
 use Rattle.history.proofs.Played.{played, playedEnd, run-played, end-played}
-use Rattle.history_samples.specs.Samples.{serializes, runPasses, mixed, pastWriting, stored, lateSnapshot, timelySnapshot, lostUpdate, keptUpdate, dirtyRead, hasty, patient}
+use Rattle.history_samples.specs.Samples.{serializes, runPasses, mixed, pastWriting, withoutStamp, settledLater, settledSooner, byClock, agreesIn, emptyUpdate, endedQuery, stored, lateSnapshot, timelySnapshot, lostUpdate, keptUpdate, dirtyRead, hasty, patient}
 use Rattle.history_samples.specs.Samples.{quietly, among, undisturbed, settledBefore, thenCommits, thenAborts, thenRewrites, updateAlone, updateAfter, readsAlone, readsAfter}
 
 -- what happens in a run from fresh tables, as it is computed: whoever unfolds this computes with all the rules and with the definitions of
 -- demand 3
 unfoldable computed : List Call → List Event
-unfolding played playedEnd names did told happened begunWith happeningsAfter allOf agrees final accessOf grantedTo clockAfter placeOf insert insertAll entriesFrom numbersOf order oneByOne serial serializes implies everyBelow someBelow countBelow firstFrom every some tabulateFrom row everyRow mapRows bit withBit withoutBit txn setTxn setAwaited reranked live liveUpdate liveQuery liveSettled mayHold byStart slotOf freeSlot startsFrom starts lock setLock holdsShared holdsExclusive holds exclusivesOf released release unshare fresh pairs versionsIn versionsOf pairWords rowOf stampAt newest place choice readBySome keptFrom kept rewritten awaits awaitsOn waitersOn exchangersOn rankFor raised lowered noted closedUp conflicts ahead blocks blocked waitsFor marked spread rounds reached circleAt noCircle heldBy decide anotherShares anotherExcludes anotherAhead decision begun beginBy conflicted cleared locked cellDeed access awaitsOther writesFurther holdsBack heldBack startRead writesPast queryRead readBy writeBy withNew committedUnder committed settledCommitted ended commitBy aborted settledAborted settled abortBy settleBy judged done act
+unfolding played playedEnd names did told happened begunWith happeningsAfter allOf agrees final accessOf grantedTo clockAfter placeOf insert insertAll entriesFrom numbersOf order oneByOne serial serializes agreesIn implies everyBelow someBelow countBelow firstFrom every some tabulateFrom row everyRow mapRows bit withBit withoutBit txn setTxn setAwaited reranked live liveUpdate liveQuery liveSettled mayHold byStart slotOf freeSlot startsFrom starts lock setLock holdsShared holdsExclusive holds exclusivesOf released release unshare fresh pairs versionsIn versionsOf pairWords rowOf stampAt newest place choice readBySome keptFrom kept rewritten awaits awaitsOn waitersOn exchangersOn rankFor raised lowered noted closedUp conflicts ahead blocks blocked waitsFor marked spread rounds reached circleAt noCircle heldBy decide anotherShares anotherExcludes anotherAhead decision begun beginBy conflicted cleared locked cellDeed access awaitsOther writesFurther holdsBack heldBack startRead writesPast queryRead readBy writeBy withNew committedUnder committed settledCommitted ended commitUpdate commitBy aborted settledAborted settled abortBy settleBy judged done act
 computed cs = played base cs (fresh base)
 
 abbrev playedHappenings : List Call → List Happening
-playedHappenings cs = happeningsAfter [] (played base cs (fresh base))
+playedHappenings cs = happeningsAfter noneSoFar (played base cs (fresh base))
 
 -- that is what happens
 run-so : (cs : List Call) → run base cs (fresh base) ≡ played base cs (fresh base)
@@ -41,7 +41,7 @@ end-so cs = end-played base (omega arith) cs (fresh base) (fresh-good base (omeg
 
 happenings-so : (cs : List Call) → happenings base cs ≡ playedHappenings cs
 unfolding happenings
-happenings-so cs = ap (happeningsAfter []) (run-so cs)
+happenings-so cs = ap (happeningsAfter noneSoFar) (run-so cs)
 
 passes-so : (cs : List Call) → T (serializes (playedHappenings cs) (playedEnd base cs (fresh base))) → T (runPasses cs)
 unfolding runPasses
@@ -81,36 +81,80 @@ past-passes : T (runPasses pastWriting)
 unfolding computed pastWriting
 past-passes = passes-so pastWriting tt
 
+-- request E7: 2 and 4 stand behind 1, whose stamp is the clock that they were answered, though 2 commits before it
+empty-order : order (happenings base withoutStamp) ≡ 1 ∷ 2 ∷ 4 ∷ 3 ∷ []
+unfolding computed withoutStamp
+empty-order = ap order (happenings-so withoutStamp) ∙ refl
+
+empty-passes : T (runPasses withoutStamp)
+unfolding computed withoutStamp
+empty-passes = passes-so withoutStamp tt
+
+later-order : order (happenings base settledLater) ≡ byClock
+unfolding computed settledLater byClock
+later-order = ap order (happenings-so settledLater) ∙ refl
+
+later-passes : T (runPasses settledLater)
+unfolding computed settledLater
+later-passes = passes-so settledLater tt
+
+-- in the order of the commits' times 1 reads a wrong number; with 3 ahead of 1, and the others by their stamps, 3 does
+by-time-refused : T (not (agreesIn (2 ∷ 3 ∷ 1 ∷ []) (happenings base settledLater)))
+unfolding computed settledLater
+by-time-refused = subst (λ (hs : List Happening). T (not (agreesIn (2 ∷ 3 ∷ 1 ∷ []) hs))) (sym (happenings-so settledLater)) tt
+
+ahead-refused : T (not (agreesIn (3 ∷ 1 ∷ 2 ∷ []) (happenings base settledLater)))
+unfolding computed settledLater
+ahead-refused = subst (λ (hs : List Happening). T (not (agreesIn (3 ∷ 1 ∷ 2 ∷ []) hs))) (sym (happenings-so settledLater)) tt
+
+-- where 1 is the last to commit before 3: right behind it 3 reads a wrong number
+sooner-order : order (happenings base settledSooner) ≡ byClock
+unfolding computed settledSooner byClock
+sooner-order = ap order (happenings-so settledSooner) ∙ refl
+
+behind-last-refused : T (not (agreesIn (1 ∷ 3 ∷ 2 ∷ []) (happenings base settledSooner)))
+unfolding computed settledSooner
+behind-last-refused = subst (λ (hs : List Happening). T (not (agreesIn (1 ∷ 3 ∷ 2 ∷ []) hs))) (sym (happenings-so settledSooner)) tt
+
+-- the same call and the same answer: what was before tells them apart
+update-told : happenings base emptyUpdate ≡ updateBegan 1 ∷ emptyCommitted 1 0 ∷ []
+unfolding computed emptyUpdate
+update-told = happenings-so emptyUpdate ∙ refl
+
+query-told : happenings base endedQuery ≡ queryBegan 1 ∷ onlyEnded 1 ∷ []
+unfolding computed endedQuery
+query-told = happenings-so endedQuery ∙ refl
+
 stored-passes : T (runPasses stored)
 unfolding computed stored
 stored-passes = passes-so stored tt
 
 -- ---- wrong ones, each beside a right one
-late-refused : T (not (agrees (serial (happeningsAfter [] lateSnapshot)) (zeros base)))
+late-refused : T (not (agrees (serial (happeningsAfter noneSoFar lateSnapshot)) (zeros base)))
 unfolding computed lateSnapshot
 late-refused = tt
 
-timely-accepted : T (agrees (serial (happeningsAfter [] timelySnapshot)) (zeros base))
+timely-accepted : T (agrees (serial (happeningsAfter noneSoFar timelySnapshot)) (zeros base))
 unfolding computed timelySnapshot
 timely-accepted = tt
 
-lost-refused : T (not (agrees (serial (happeningsAfter [] lostUpdate)) (zeros base)))
+lost-refused : T (not (agrees (serial (happeningsAfter noneSoFar lostUpdate)) (zeros base)))
 unfolding computed lostUpdate
 lost-refused = tt
 
-kept-accepted : T (agrees (serial (happeningsAfter [] keptUpdate)) (zeros base))
+kept-accepted : T (agrees (serial (happeningsAfter noneSoFar keptUpdate)) (zeros base))
 unfolding computed keptUpdate
 kept-accepted = tt
 
-dirty-refused : T (not (agrees (serial (happeningsAfter [] dirtyRead)) (zeros base)))
+dirty-refused : T (not (agrees (serial (happeningsAfter noneSoFar dirtyRead)) (zeros base)))
 unfolding computed dirtyRead
 dirty-refused = tt
 
-hasty-refused : T (not (agrees (serial (happeningsAfter [] hasty)) (zeros base)))
+hasty-refused : T (not (agrees (serial (happeningsAfter noneSoFar hasty)) (zeros base)))
 unfolding computed hasty
 hasty-refused = tt
 
-patient-accepted : T (agrees (serial (happeningsAfter [] patient)) (zeros base))
+patient-accepted : T (agrees (serial (happeningsAfter noneSoFar patient)) (zeros base))
 unfolding computed patient
 patient-accepted = tt
 

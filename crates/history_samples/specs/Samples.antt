@@ -11,7 +11,7 @@ use Rattle.rules.specs.Versions.{newest}
 use Rattle.rules.specs.Answers.{Call, BeginUpdate, BeginQuery, Read, Write, Commit, Abort, Settle}
 use Rattle.history.specs.Runs.{Event, endOf}
 use Rattle.history.specs.Happened.{Access, got, Happening, happenings}
-use Rattle.history.specs.Serial.{zeros, agrees, final, serial}
+use Rattle.history.specs.Serial.{zeros, agrees, final, grantedTo, oneByOne, serial}
 
 -- what Serializes asks of reads and of the end, as a test: of the happenings hs, after which the tables are G
 unfoldable pub serializes : List Happening → Tables → Bool
@@ -37,6 +37,40 @@ unfoldable pub pastWriting : List Call
 pastWriting =
     BeginUpdate ∷ BeginUpdate ∷ Write 1 5 77 ∷ Write 2 6 88 ∷ Settle 1 ∷ BeginQuery ∷ Commit 2 ∷ Read 3 6 ∷ Read 3 5 ∷ Read 1 6
     ∷ Commit 1 ∷ Read 3 5 ∷ []
+
+-- ---- request E7. Update 1 settles under stamp 1; update 2 reads, and commits at the clock 1 without a stamp; then 1 commits. Update 4 reads what 1
+-- wrote, and commits so too; 3 writes, and commits under stamp 2
+unfoldable pub withoutStamp : List Call
+withoutStamp =
+    BeginUpdate ∷ BeginUpdate ∷ BeginUpdate ∷ BeginUpdate ∷ Write 1 5 77 ∷ Settle 1 ∷ Read 2 6 ∷ Commit 2 ∷ Commit 1 ∷ Read 4 5
+    ∷ Write 3 6 88 ∷ Commit 4 ∷ Commit 3 ∷ []
+
+-- why the clock that it was answered tells its place, and not the time of its commit. Update 1 settles under stamp 1; 2 writes, and commits under
+-- stamp 2; 3 reads what 2 wrote, and commits without a stamp; then 1 reads it as it was before 2, and commits
+unfoldable pub settledLater : List Call
+settledLater =
+    BeginUpdate ∷ BeginUpdate ∷ BeginUpdate ∷ Write 1 5 77 ∷ Settle 1 ∷ Write 2 6 88 ∷ Commit 2 ∷ Read 3 6 ∷ Commit 3 ∷ Read 1 6 ∷ Commit 1
+    ∷ []
+
+-- the same, 1 committing ahead of 3
+unfoldable pub settledSooner : List Call
+settledSooner =
+    BeginUpdate ∷ BeginUpdate ∷ BeginUpdate ∷ Write 1 5 77 ∷ Settle 1 ∷ Write 2 6 88 ∷ Commit 2 ∷ Read 1 6 ∷ Commit 1 ∷ Read 3 6 ∷ Commit 3
+    ∷ []
+
+unfoldable pub byClock : List ℕ
+byClock = 1 ∷ 2 ∷ 3 ∷ []
+
+-- of the happenings hs, the transactions ns one after another give every read its number
+unfoldable pub agreesIn : List ℕ → List Happening → Bool
+agreesIn ns hs = agrees (oneByOne (λ n. grantedTo n hs) ns) (zeros base)
+
+-- an update that did nothing commits, and a query ends: on fresh tables both are answered the number 0
+unfoldable pub emptyUpdate : List Call
+emptyUpdate = BeginUpdate ∷ Commit 1 ∷ []
+
+unfoldable pub endedQuery : List Call
+endedQuery = BeginQuery ∷ Commit 1 ∷ []
 
 -- an update writes and commits
 unfoldable pub stored : List Call
@@ -74,7 +108,7 @@ keptUpdate =
 unfoldable pub dirtyRead : List Event
 dirtyRead =
     event BeginUpdate 0 0 1 ∷ event BeginUpdate 0 0 2 ∷ event (Write 1 5 9) 0 0 0 ∷ event (Read 2 5) 0 9 0 ∷ event (Abort 1) 0 0 0
-    ∷ event (Commit 2) 0 0 1 ∷ []
+    ∷ event (Commit 2) 0 0 0 ∷ []
 
 -- a reader that was not held back: the query began after the settle, and reads what was before it
 unfoldable pub hasty : List Event

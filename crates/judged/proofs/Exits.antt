@@ -2,7 +2,7 @@
 use Prim.Native.Nat.{ℕ, _+_, _<_}
 use mathlib.Core.Path.{_≡_, refl, sym, ap, _∙_}
 use mathlib.Core.Logic.{_≢_}
-use mathlib.Core.Bool.{Bool, true, false}
+use mathlib.Core.Bool.{Bool, true, false, not}
 use mathlib.Core.List.{List}
 use native.Mathlib.Omega.{arith}
 use lib.Dec.{eqb, leb, ltb}
@@ -14,16 +14,16 @@ use Rattle.names.specs.declared.Item.{Item}
 use Rattle.names.specs.declared.Stamp.{Stamp}
 use Rattle.names.specs.declared.ItemOf.the-variants.{Known, Unknown}
 use Rattle.names.specs.declared.NextStamp.the-variants as nexts
-use Rattle.rules.specs.Tables.{Tables, Txn, lastNumber, clock, txn, slotOf, freeSlot, noLock, sharedLock, exclusiveLock, anUpdate, aQuery, aSettled}
+use Rattle.rules.specs.Tables.{Tables, Txn, lastNumber, clock, txn, slotOf, freeSlot, noLock, sharedLock, exclusiveLock, anUpdate, aQuery, aSettled, exclusivesOf}
 use Rattle.rules.specs.Good.{Good}
 use Rattle.rules.specs.Locks.{toRead, toWrite}
-use Rattle.rules.specs.Answers.{Refused, Begins, Commits, Ends, Aborts, Settles, CommitsSettled, AbortsSettled}
+use Rattle.rules.specs.Answers.{Refused, Begins, Commits, CommitsEmpty, Ends, Aborts, Settles, CommitsSettled, AbortsSettled}
 use Rattle.rules.specs.Answers.{NoSlot, NumbersSpent, UnknownTransaction, UnknownItem, QueryMayNotWrite, StillWaiting, ClockSpent, QuotaSpent, PastWriting}
-use Rattle.rules.specs.Step.{beginBy, readBy, writeBy, commitBy, abortBy, settleBy, access, startRead, awaitsOther, writesFurther, writesPast}
+use Rattle.rules.specs.Step.{beginBy, readBy, writeBy, commitUpdate, commitBy, abortBy, settleBy, access, startRead, awaitsOther, writesFurther, writesPast}
 use Rattle.rows.specs.Founds.{foundAt}
 use Rattle.rows.specs.declared.txns.Found.the-variants.{At, Nobody}
 use Rattle.callers.specs.Searchable.{Searchable, FreeRows}
-use Rattle.judged.specs.Searched.{ofTxns}
+use Rattle.judged.specs.Searched.{ofTxns, ofLocks}
 use Rattle.callers.proofs.Founds.{FoundSlot, found-slot, found-nobody, slot-most, known, unknown}
 
 -- good tables can be searched
@@ -112,38 +112,33 @@ module _ (t : List ℕ) (n : ℕ) where
     other-is k x h = ap (λ (m : ℕ). awaitsOther t m k x) (sym (caller .is)) ∙ sym h
 
   -- ---- commit
-  pub commit-unknown : foundAt (slotOf base t n) ≡ Nobody → Refused UnknownTransaction ≡ commitBy base n (ofTxns t)
-  unfolding commitBy
-  commit-unknown e = rw (found-nobody found e)
-
-  module _ (s : Slot) (e : foundAt (slotOf base t n) ≡ At s) (w : ℕ) (ew : w ≡ (txn t (s .0)) .awaitedLock) where
-    pub commit-waits : w ≢ noLock → Refused StillWaiting ≡ commitBy base n (ofTxns t)
+  module _ (l : List ℕ) where
+    pub commit-unknown : foundAt (slotOf base t n) ≡ Nobody → Refused UnknownTransaction ≡ commitBy base n (ofLocks t l)
     unfolding commitBy
-    commit-waits d = rw (caller s e .some, ne-eqb ((txn t found) .awaitedLock) noLock (λ q. d (sym (awaited-is s e ew) ∙ q)))
+    commit-unknown e = rw (found-nobody found e)
 
-    module _ (idle : w ≡ noLock) (k : ℕ) (ek : k ≡ (txn t (s .0)) .kind) where
-      none : eqb ((txn t found) .awaitedLock) noLock ≡ true
-      none = eq-eqb ((txn t found) .awaitedLock) noLock (awaited-is s e ew ∙ idle)
-
-      pub commit-ends : k ≡ aQuery → Ends s ≡ commitBy base n (ofTxns t)
+    module _ (s : Slot) (e : foundAt (slotOf base t n) ≡ At s) (w : ℕ) (ew : w ≡ (txn t (s .0)) .awaitedLock) where
+      pub commit-waits : w ≢ noLock → Refused StillWaiting ≡ commitBy base n (ofLocks t l)
       unfolding commitBy
-      commit-ends q = rw (caller s e .some, none, query s e ek q, ← (caller s e .is))
+      commit-waits d = rw (caller s e .some, ne-eqb ((txn t found) .awaitedLock) noLock (λ q. d (sym (awaited-is s e ew) ∙ q)))
 
-      module _ (d : k ≢ aQuery) where
-        pub commit-settled : k ≡ aSettled → CommitsSettled s ≡ commitBy base n (ofTxns t)
+      module _ (idle : w ≡ noLock) (k : ℕ) (ek : k ≡ (txn t (s .0)) .kind) where
+        none : eqb ((txn t found) .awaitedLock) noLock ≡ true
+        none = eq-eqb ((txn t found) .awaitedLock) noLock (awaited-is s e ew ∙ idle)
+
+        pub commit-ends : k ≡ aQuery → Ends s ≡ commitBy base n (ofLocks t l)
         unfolding commitBy
-        commit-settled q = rw (caller s e .some, none, no-query s e ek d, of-kind s e aSettled ek q, ← (caller s e .is))
+        commit-ends q = rw (caller s e .some, none, query s e ek q, ← (caller s e .is))
 
-        module _ (w′ : k ≢ aSettled) (c : Stamp) (ec : c .0 ≡ clock t) where
-          pub commit-spent : Searchable t → nextStamp c ≡ nexts.Spent → Refused ClockSpent ≡ commitBy base n (ofTxns t)
+        module _ (d : k ≢ aQuery) where
+          pub commit-settled : k ≡ aSettled → CommitsSettled s ≡ commitBy base n (ofLocks t l)
           unfolding commitBy
-          commit-spent R h =
-              rw (caller s e .some, none, no-query s e ek d, no-kind s e aSettled ek w′, eq-eqb (clock t) lastWord (clock-spent t c ec R h))
+          commit-settled q = rw (caller s e .some, none, no-query s e ek d, of-kind s e aSettled ek q, ← (caller s e .is))
 
-          pub commit-commits : (z : Stamp) → nextStamp c ≡ nexts.At z → Commits s ≡ commitBy base n (ofTxns t)
+          pub commit-updates : k ≢ aSettled → commitUpdate base (s .0) (ofLocks t l) ≡ commitBy base n (ofLocks t l)
           unfolding commitBy
-          commit-commits z h =
-              rw (caller s e .some, none, no-query s e ek d, no-kind s e aSettled ek w′, ne-eqb (clock t) lastWord (clock-left t c ec z h), ← (caller s e .is))
+          commit-updates w′ =
+              rw (caller s e .some, none, no-query s e ek d, no-kind s e aSettled ek w′) (ap (λ (m : ℕ). commitUpdate base m (ofLocks t l)) (caller s e .is))
 
   -- ---- settle
   pub settle-unknown : foundAt (slotOf base t n) ≡ Nobody → Refused UnknownTransaction ≡ settleBy base n (ofTxns t)
@@ -296,3 +291,29 @@ module _ (G : Tables) (n x : ℕ) where
                     ← (caller (G .txns) n s e .is),
                     ← item-is,
                   )
+
+-- ---- the commit of an update that still writes, in slot s
+is-none : (b : Bool) → false ≡ not b → b ≡ true
+is-none true e = refl
+is-none false e = e
+
+is-some : (b : Bool) → true ≡ not b → b ≡ false
+is-some true e = e
+is-some false e = refl
+
+module _ (t l : List ℕ) (s : Slot) where
+  pub update-empty : false ≡ not (eqb (exclusivesOf base l (s .0)) 0) → CommitsEmpty s ≡ commitUpdate base (s .0) (ofLocks t l)
+  unfolding commitUpdate
+  update-empty e = rw (is-none (eqb (exclusivesOf base l (s .0)) 0) e)
+
+  module _ (some : true ≡ not (eqb (exclusivesOf base l (s .0)) 0)) (c : Stamp) (ec : c .0 ≡ clock t) where
+    abbrev held : eqb (exclusivesOf base l (s .0)) 0 ≡ false
+    held = is-some (eqb (exclusivesOf base l (s .0)) 0) some
+
+    pub update-spent : Searchable t → nextStamp c ≡ nexts.Spent → Refused ClockSpent ≡ commitUpdate base (s .0) (ofLocks t l)
+    unfolding commitUpdate
+    update-spent R h = rw (held, eq-eqb (clock t) lastWord (clock-spent t c ec R h))
+
+    pub update-commits : (z : Stamp) → nextStamp c ≡ nexts.At z → Commits s ≡ commitUpdate base (s .0) (ofLocks t l)
+    unfolding commitUpdate
+    update-commits z h = rw (held, ne-eqb (clock t) lastWord (clock-left t c ec z h))

@@ -5,17 +5,36 @@ use names::NextStamp;
 use names::QUERY_KIND;
 use names::Refusal;
 use names::SETTLED_KIND;
+use names::Slot;
 use rows::Found;
 ghost use mathlib.Core.Path.{_≡_};
 ghost use Rattle.names.specs.Sizes.{base};
-ghost use Rattle.rules.specs.Step.{commitBy, abortBy, settleBy};
+ghost use lib.ListN.{length};
+ghost use Prim.Native.Nat.{_<_};
+ghost use Rattle.rules.specs.Tables.{lockWords};
+ghost use Rattle.rules.specs.Step.{commitUpdate, commitBy, abortBy, settleBy};
 ghost use Rattle.callers.specs.Searchable.{Searchable};
-ghost use Rattle.judged.specs.Searched.{ofTxns};
+ghost use Rattle.judged.specs.Searched.{ofTxns, ofLocks};
 use callers::find;
 
-pub fn commit_by(txns: &[u64], number: u64) -> Deed
-    requires { ⌜ Searchable (now txns) ⌝ }
-    ensures { λ r. ⌜ r ≡ commitBy base number (ofTxns (now (txns .entry))) ⌝ }
+// An update that still writes: without an exclusive lock it needs no stamp.
+fn commit_update(txns: &[u64], locks: &[u64], slot: Slot) -> Deed
+    requires { ⌜ Searchable (now txns) × (length (now locks) ≡ lockWords base) × (slot .0 < base .slots) ⌝ }
+    ensures { λ r. ⌜ r ≡ commitUpdate base (slot .0) (ofLocks (now (txns .entry)) (now (locks .entry))) ⌝ }
+{
+    if !rows::holds_some(locks, slot) {
+        return Deed::CommitsEmpty(slot);
+    }
+    let next = rows::clock(txns).next();
+    let NextStamp::At(_) = next else {
+        return Deed::Refused(Refusal::ClockSpent);
+    };
+    Deed::Commits(slot)
+}
+
+pub fn commit_by(txns: &[u64], locks: &[u64], number: u64) -> Deed
+    requires { ⌜ Searchable (now txns) × (length (now locks) ≡ lockWords base) ⌝ }
+    ensures { λ r. ⌜ r ≡ commitBy base number (ofLocks (now (txns .entry)) (now (locks .entry))) ⌝ }
 {
     let found = find(txns, number);
     let Found::At(slot) = found else {
@@ -31,11 +50,7 @@ pub fn commit_by(txns: &[u64], number: u64) -> Deed
     if kind == SETTLED_KIND {
         return Deed::CommitsSettled(slot);
     }
-    let next = rows::clock(txns).next();
-    let NextStamp::At(_) = next else {
-        return Deed::Refused(Refusal::ClockSpent);
-    };
-    Deed::Commits(slot)
+    commit_update(txns, locks, slot)
 }
 
 // Waiting or not.

@@ -28,7 +28,7 @@ pub fn judged(call: Call, txns: &[u64], locks: &[u64], versions: &[u64]) -> Deed
             item,
             value,
         } => asks::write_by(txns, locks, versions, number, item, value),
-        Call::Commit { number } => ends::commit_by(txns, number),
+        Call::Commit { number } => ends::commit_by(txns, locks, number),
         Call::Abort { number } => ends::abort_by(txns, number),
         Call::Settle { number } => ends::settle_by(txns, number),
     }

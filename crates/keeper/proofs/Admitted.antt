@@ -13,7 +13,7 @@ use Rattle.rules.proofs.Equal.{good→Good}
 use Rattle.rules.proofs.Steps.{acts}
 use Rattle.rules.proofs.Judged.{way}
 use Rattle.rules.proofs.Ways.{Way, refused, waited, keptWaiting, beganUpdate, beganQuery, readOwn, readNewest, readShared, readSettled, readByStart}
-use Rattle.rules.proofs.Ways.{wroteOwn, wroteSettled, wroteTaken, committedUpdate, committedSettled, committedQuery, abortedUpdate, abortedSettled, abortedQuery, settledUpdate}
+use Rattle.rules.proofs.Ways.{wroteOwn, wroteSettled, wroteTaken, committedUpdate, committedEmpty, committedSettled, committedQuery, abortedUpdate, abortedSettled, abortedQuery, settledUpdate}
 use Rattle.done.specs.Able.{Able}
 
 -- the test of all tables passed, or not
@@ -38,7 +38,8 @@ way-able G c d (readByStart n s x C b i h f) = (C .inside, i, b)
 way-able G c d (wroteOwn n s x v U h) = (U .caller .inside, U .known)
 way-able G c d (wroteSettled n s x v C p i h) = (C .inside, i)
 way-able G c d (wroteTaken n s x v U h f r) = (U .caller .inside, U .known)
-way-able G c d (committedUpdate n s C u i l) = (C .inside, u)
+way-able G c d (committedUpdate n s C u i l w) = (C .inside, u)
+way-able G c d (committedEmpty n s C u i e) = C .inside
 way-able G c d (committedSettled n s C p) = (C .inside, p)
 way-able G c d (committedQuery n s C q) = (C .inside, q)
 way-able G c d (abortedUpdate n s C u) = C .inside

@@ -73,7 +73,8 @@ pub fn write(
     )
 }
 
-// Commits an update, past its writing or not, whose stamp is the answer's number; ends a query.
+// Commits an update, past its writing or not; the answer's number is its stamp, or the clock where it
+// has written nothing and not settled. Ends a query.
 pub fn commit(txns: &mut [u64], locks: &mut [u64], versions: &mut [u64], number: u64) -> Answer
     ensures { λ r. ⌜ outcome r (now (txns .exit)) (now (locks .exit)) (now (versions .exit)) ≡ step base (Commit number) (tables (now (txns .entry)) (now (locks .entry)) (now (versions .entry))) ⌝ }
 {

@@ -25,7 +25,7 @@ use Rattle.rules.proofs.Judged.{way}
 use Rattle.rules.proofs.Keeps.{keeps}
 use Rattle.rules.proofs.Steps.{acts}
 use Rattle.rules.proofs.Ways.{Way, Waiter, refused, waited, beganUpdate, beganQuery, readOwn, readNewest, readShared, readSettled, readByStart}
-use Rattle.rules.proofs.Ways.{wroteOwn, wroteSettled, wroteTaken, committedUpdate, committedSettled, committedQuery, abortedUpdate, abortedSettled, abortedQuery, settledUpdate, keptWaiting}
+use Rattle.rules.proofs.Ways.{wroteOwn, wroteSettled, wroteTaken, committedUpdate, committedEmpty, committedSettled, committedQuery, abortedUpdate, abortedSettled, abortedQuery, settledUpdate, keptWaiting}
 use Rattle.line.specs.InOrder.{OrderKept}
 use Rattle.line.proofs.Kept.{same-locks, rows-kept, left-kept, came-kept}
 
@@ -107,10 +107,11 @@ module _
     stood c d (wroteOwn n r y z U e) v w o = clears r (U .caller .inside) v w o
     stood c d (wroteSettled n r y z C p l e) v w o = clears r (C .inside) v w o
     stood c d (wroteTaken n r y z U e f m) v w o = clears r (U .caller .inside) v w o
-    stood c d (committedUpdate n r C u e l) v w o = headed r noTxn clockAt _ (C .inside) (omega arith) refl v w o
+    stood c d (committedUpdate n r C u e l k) v w o = headed r noTxn clockAt _ (C .inside) (omega arith) refl v w o
     stood c d (committedSettled n r C p) v w o = gone r (C .inside) v w o
     stood c d (committedQuery n r C q) v w o = gone r (C .inside) v w o
     stood c d (abortedUpdate n r C u) v w o = aborts r (C .inside) v w o
+    stood c d (committedEmpty n r C u i h) v w o = aborts r (C .inside) v w o
     stood c d (abortedSettled n r C p) v w o = gone r (C .inside) v w o
     stood c d (abortedQuery n r C q) v w o = gone r (C .inside) v w o
     stood c d (settledUpdate n r C u e l) v w o = headed r _ clockAt _ (C .inside) (omega arith) refl v w o

@@ -25,10 +25,9 @@ use Rattle.rules.proofs.Calls.{start-reads}
 use Rattle.rules.proofs.Keeps.{keeps}
 use Rattle.rules.proofs.Waiting.{one-caller}
 use Rattle.history.specs.Runs.{endOf}
-use Rattle.history.specs.Happened.{Happening, updateBegan, queryBegan, accessed, updateCommitted, settledUnder, onlyEnded, nothing, did, told, names}
-use Rattle.history.specs.ByAnswers.{byAnswer}
+use Rattle.history.specs.Happened.{Happening, updateBegan, queryBegan, accessed, updateCommitted, emptyCommitted, settledUnder, onlyEnded, nothing, did, told, names}
 use Rattle.history.proofs.Invariant.{View, Fair, Row, Locks, settled}
-use Rattle.history.proofs.Turns.{Same, New, Puts, Left, Settles, Turn, quiet, updateBegins, queryBegins, reads, writes, commits, settles, commitsSettled, ends}
+use Rattle.history.proofs.Turns.{Same, New, Puts, Left, Settles, Turn, quiet, updateBegins, queryBegins, reads, writes, commits, commitsEmpty, settles, commitsSettled, ends}
 use Rattle.history.proofs.Seen.{seen, seen-fair}
 use Rattle.history.proofs.Happens.{Happens, step-happens, good-run}
 use Rattle.line.specs.Served.{Before, Gone, EveryCall, Supposed}
@@ -48,6 +47,7 @@ Something (updateBegan n) = T true
 Something (queryBegan n) = T true
 Something (accessed n a) = T true
 Something (updateCommitted n c) = T true
+Something (emptyCommitted n c) = T true
 Something (settledUnder n c) = T true
 Something (onlyEnded n) = T true
 
@@ -129,6 +129,8 @@ module _ (D : ℕ → Type 0) (n s x items : ℕ) (known : x < items) (W W′ : 
   turned (writes m r y v e b P) mine = putting r y v P
   turned {c} (commits m r e a u L o i k) mine =
       left r (λ d. mine (subst (λ (j : ℕ). T (names j c)) (sym e ∙ ap (W .number) (sym d) ∙ B .name) a) tt) L
+  turned {c} (commitsEmpty m r e a u w L o i k) mine =
+      left r (λ d. mine (subst (λ (j : ℕ). T (names j c)) (sym e ∙ ap (W .number) (sym d) ∙ B .name) a) tt) L
   turned (settles m r e Q) mine = settling r Q
   turned {c} (commitsSettled m r e a u L o i k) mine =
       left r (λ d. mine (subst (λ (j : ℕ). T (names j c)) (sym e ∙ ap (W .number) (sym d) ∙ B .name) a) tt) L
@@ -150,9 +152,7 @@ named n (Settle m) h = eqb→eq m n h
 module _ (S : Sizes) (enough : S .slots ≤ S .places) (D : ℕ → Type 0) (n s x : ℕ) (known : x < S .items) where
   -- at a call that is not granted nothing happens
   silent : (c : Call) (G : Tables) (o : Outcome) (Q : Happens S G c o) → o .answer .code ≢ granted → Q .what ≡ nothing
-  unfolding byAnswer told
-  silent c G o Q d =
-      sym (Q .answered) ∙ ap (λ (b : Bool). cond b (did (not (eqb (o .answer .number) 0)) c (o .answer)) nothing) (ne-eqb (o .answer .code) granted d)
+  silent c G o Q d = Q .silence d
 
   one-call : (c : Call) (G : Tables) → Good S G → Back D n s x (seen S G) → (Names c n → codeOf S c G ≢ granted) → Back D n s x (seen S (after S c G))
   one-call c G g B quiet′ =

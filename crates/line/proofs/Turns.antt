@@ -33,7 +33,7 @@ use Rattle.rules.proofs.Granted.{granted-exactly}
 use Rattle.rules.proofs.InOrder.{raised-before}
 use Rattle.rules.proofs.Settles.{unshared-fewer}
 use Rattle.rules.proofs.Ways.{Way, Waiter, refused, waited, beganUpdate, beganQuery, readOwn, readNewest, readShared, readSettled, readByStart}
-use Rattle.rules.proofs.Ways.{wroteOwn, wroteSettled, wroteTaken, committedUpdate, committedSettled, committedQuery, abortedUpdate, abortedSettled, abortedQuery, settledUpdate, keptWaiting}
+use Rattle.rules.proofs.Ways.{wroteOwn, wroteSettled, wroteTaken, committedUpdate, committedEmpty, committedSettled, committedQuery, abortedUpdate, abortedSettled, abortedQuery, settledUpdate, keptWaiting}
 use Rattle.line.specs.Served.{Exchange}
 use Rattle.line.proofs.Kept.{Kept, same-locks, set-other, rows-kept, left-kept, came-kept}
 use Rattle.line.proofs.Ends.{begins, commits, settled-commits, query-ends, aborts, settled-aborts}
@@ -363,13 +363,15 @@ module _
     turn c d (wroteTaken m r y v U h alone room) e quiet none g′ =
         let z = ap (λ (o : Outcome). o .answer .code) e in
         takes m r y v U h alone room z quiet none (apart c quiet none m r refl (U .caller) z) g′
-    turn c d (committedUpdate m r C u i f) e quiet none g′ =
+    turn c d (committedUpdate m r C u i f k) e quiet none g′ =
         commits S D a n s x G g I known r (C .inside) (apart c quiet none m r refl C (ap (λ (o : Outcome). o .answer .code) e)) g′
     turn c d (committedSettled m r C p) e quiet none g′ =
         settled-commits S D a n s x G g I known r (C .inside) (apart c quiet none m r refl C (ap (λ (o : Outcome). o .answer .code) e)) g′
     turn c d (committedQuery m r C q) e quiet none g′ =
         query-ends S D a n s x G g I known r (C .inside) (apart c quiet none m r refl C (ap (λ (o : Outcome). o .answer .code) e)) g′
     turn c d (abortedUpdate m r C u) e quiet none g′ =
+        aborts S D a n s x G g I known r (C .inside) (apart c quiet none m r refl C (ap (λ (o : Outcome). o .answer .code) e)) g′
+    turn c d (committedEmpty m r C u i h) e quiet none g′ =
         aborts S D a n s x G g I known r (C .inside) (apart c quiet none m r refl C (ap (λ (o : Outcome). o .answer .code) e)) g′
     turn c d (abortedSettled m r C p) e quiet none g′ =
         settled-aborts S D a n s x G g I known r (C .inside) (apart c quiet none m r refl C (ap (λ (o : Outcome). o .answer .code) e)) g′

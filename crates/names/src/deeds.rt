@@ -71,8 +71,10 @@ pub enum Deed {
     // An update writes a value: over its working value, or under a new exclusive lock.
     Replaces(Slot, Item, u64),
     TakesExclusive(Slot, Item, u64),
-    // An update commits, under the stamp after the clock.
+    // An update commits, under the stamp after the clock; or without one, where it holds no item
+    // exclusively.
     Commits(Slot),
+    CommitsEmpty(Slot),
     // A query ends.
     Ends(Slot),
     // An update is aborted.

@@ -5,6 +5,7 @@ mod txns;
 
 pub use locks::LockRow;
 pub use locks::exclusives_of;
+pub use locks::holds_some;
 pub use locks::lock_at;
 pub use locks::release;
 pub use locks::set_lock;

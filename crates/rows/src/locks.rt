@@ -8,6 +8,8 @@ use names::Slot;
 ghost use mathlib.Core.Path.{_≡_};
 ghost use Prim.Native.Nat.{_<_};
 ghost use lib.ListN.{length};
+ghost use lib.Dec.{eqb};
+ghost use mathlib.Core.Bool.{not};
 ghost use Rattle.names.specs.Sizes.{base};
 ghost use Rattle.rules.specs.Tables.{lockWords, lock, setLock, holds, exclusivesOf, released, release, unshared, unshare};
 ghost use Rattle.rows.specs.Founds.{lockOf};
@@ -62,6 +64,23 @@ pub fn exclusives_of(locks: &[u64], slot: Slot) -> u64
         item += 1;
     }
     held
+}
+
+// Whether a slot holds some item exclusively. A slot that does is found at its first item.
+pub fn holds_some(locks: &[u64], slot: Slot) -> bool
+    requires { ⌜ (length (now locks) ≡ lockWords base) × (slot .0 < base .slots) ⌝ }
+    ensures { λ r. ⌜ r ≡ not (eqb (exclusivesOf base (now (locks .entry)) (slot .0)) 0) ⌝ }
+{
+    let holder = slot.0 + 1;
+    let mut item: u64 = 0;
+    while item < ITEMS {
+        let row = lock_at(locks, Item(item));
+        if row.exclusive == holder {
+            return true;
+        }
+        item += 1;
+    }
+    false
 }
 
 // A lock that a slot no longer shares.

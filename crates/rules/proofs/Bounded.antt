@@ -27,7 +27,7 @@ use Rattle.rules.proofs.ChangedVersions.{ended-versions, committed-vers
 use Rattle.rules.proofs.EqualRows.{settled-reads}
 use Rattle.rules.proofs.Judged.{way}
 use Rattle.rules.proofs.Ways.{refusal-most, Way, refused, waited, beganUpdate, beganQuery, readOwn, readNewest, readShared, readSettled, readByStart}
-use Rattle.rules.proofs.Ways.{wroteOwn, wroteSettled, wroteTaken, committedUpdate, committedSettled, committedQuery, abortedUpdate, abortedSettled, abortedQuery, settledUpdate, keptWaiting}
+use Rattle.rules.proofs.Ways.{wroteOwn, wroteSettled, wroteTaken, committedUpdate, committedEmpty, committedSettled, committedQuery, abortedUpdate, abortedSettled, abortedQuery, settledUpdate, keptWaiting}
 
 -- the value of a write, if it is one, is at most B
 unfoldable pub Asks : ℕ → Call → Type 0
@@ -191,7 +191,8 @@ module _ (B : ℕ) where
         way-bounded c d a (wroteOwn n s x v u h) = (bare 0 (omega arith), locked-bounded s x (u .known) (replaced (lock (G .locks) x) v) a)
         way-bounded c d a (wroteSettled n s x v C p i h) = (bare 0 (omega arith), locked-bounded s x i (replaced (lock (G .locks) x) v) a)
         way-bounded c d a (wroteTaken n s x v u h f r) = (bare 0 (omega arith), locked-bounded s x (u .known) (taken (lock (G .locks) x) s v) a)
-        way-bounded c d a (committedUpdate n s C u i l) = (bare (clock (G .txns) + 1) (let m = g .clockMost in omega arith), committed-bounded s (C .inside) u)
+        way-bounded c d a (committedEmpty n s C u i e) = (bare (clock (G .txns)) (let m = g .clockMost in omega arith), aborted-bounded s)
+        way-bounded c d a (committedUpdate n s C u i l w) = (bare (clock (G .txns) + 1) (let m = g .clockMost in omega arith), committed-bounded s (C .inside) u)
         way-bounded c d a (committedSettled n s C p) = (bare ((txn (G .txns) s) .start) (let k = g .txnGood s (C .inside) .readerStart (settled-reads (txn (G .txns) s) p) in let m = g .clockMost in omega arith), settled-commit-bounded s (C .inside))
         way-bounded c d a (committedQuery n s C q) = (bare 0 (omega arith), ended-bounded s (C .inside))
         way-bounded c d a (abortedUpdate n s C u) = (bare 0 (omega arith), aborted-bounded s)

@@ -9,12 +9,12 @@ use borrow.Author.Tests.{ne-eqb, eq-eqb, lt-leb}
 use Rattle.names.specs.declared.Sizes.{Sizes}
 use Rattle.names.specs.Sizes.{lastWord}
 use Rattle.rules.specs.Tables.{Tables, lastNumber, clock, txn, liveUpdate, liveQuery, byStart, anUpdate, aQuery, aSettled, noLock, sharedLock, exclusiveLock}
-use Rattle.rules.specs.Tables.{slotOf, freeSlot, lock, holdsExclusive}
+use Rattle.rules.specs.Tables.{slotOf, freeSlot, lock, holdsExclusive, exclusivesOf}
 use Rattle.rules.specs.Versions.{versionsOf, place, choice}
 use Rattle.rules.specs.Good.{Good}
 use Rattle.rules.specs.Locks.{toRead, toWrite}
 use Rattle.rules.specs.Answers.{Call, BeginUpdate, BeginQuery, Read, Write, Commit, Abort, says, granted, refuses, QuotaSpent}
-use Rattle.rules.specs.Step.{step, act, judged, done, beginBy, begun, readBy, writeBy, commitBy, abortBy, queryRead, access, awaitsOther, heldBack, startRead, writesPast, writesFurther}
+use Rattle.rules.specs.Step.{step, act, judged, done, beginBy, begun, readBy, writeBy, commitUpdate, commitBy, abortBy, queryRead, access, awaitsOther, heldBack, startRead, writesPast, writesFurther}
 use Rattle.rules.specs.Step.{committed, ended, aborted}
 use Rattle.rules.proofs.Steps.{acts}
 use Rattle.rules.proofs.Callers.{Caller, caller-found, query-kind, update-kind}
@@ -122,12 +122,12 @@ module _ (S : Sizes) (G : Tables) (g : Good S G) where
           on-good (Write n x v) ∙ rw (found, within, lt-leb (S .items) x known, no-query, free, not-past, full)
 
       pub update-commits :
-          (txn (G .txns) s) .awaitedLock ≡ noLock → clock (G .txns) ≢ lastWord
+          (txn (G .txns) s) .awaitedLock ≡ noLock → exclusivesOf S (G .locks) s ≢ 0 → clock (G .txns) ≢ lastWord
           → step S (Commit n) G ≡ says granted 0 (clock (G .txns) + 1) 0 (committed S s G)
-      unfolding act judged done commitBy
-      update-commits idle left =
+      unfolding act judged done commitBy commitUpdate
+      update-commits idle some left =
           on-good (Commit n)
-          ∙ rw (found, within, eq-eqb ((txn (G .txns) s) .awaitedLock) noLock idle, no-query, not-past, ne-eqb (clock (G .txns)) lastWord left)
+          ∙ rw (found, within, eq-eqb ((txn (G .txns) s) .awaitedLock) noLock idle, no-query, not-past, ne-eqb (exclusivesOf S (G .locks) s) 0 some, ne-eqb (clock (G .txns)) lastWord left)
 
       pub update-aborts : step S (Abort n) G ≡ says granted 0 0 0 (aborted S s G)
       unfolding act judged done abortBy

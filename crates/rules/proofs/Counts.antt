@@ -126,6 +126,25 @@ count-none (suc n) p f = go (p n) (f n (omega arith)) (count-none n p (λ i l. f
     go true h k = absurd (h tt)
     go false h k = k
 
+pub count-zero : (n : ℕ) (p : ℕ → Bool) → countBelow n p ≡ 0 → (i : ℕ) → i < n → T (p i) → ⊥
+unfolding countBelow
+count-zero zero p e i b h = omega arith
+count-zero (suc n) p e i b h = go (p n) refl e (split-le i n b) (λ z l. count-zero n p z i l h)
+  where
+    go :
+        (c : Bool) → p n ≡ c → cond c (suc (countBelow n p)) (countBelow n p) ≡ 0 → (i < n) ⊎ (i ≡ n)
+        → (countBelow n p ≡ 0 → i < n → ⊥) → ⊥
+    go true f z k below = omega arith
+    go false f z (inl l) below = below z l
+    go false f z (inr q) below = subst T (ap p q ∙ f) h
+
+pub count-some : (n : ℕ) (p : ℕ → Bool) → countBelow n p ≢ 0 → (i : ℕ) × (i < n) × T (p i)
+count-some n p d = go (someBelow n p) refl
+  where
+    go : (c : Bool) → someBelow n p ≡ c → (i : ℕ) × (i < n) × T (p i)
+    go true f = someBelow→ n p (true-is f)
+    go false f = absurd (d (count-none n p (λ i b h. subst T f (→someBelow n p i b h))))
+
 -- ---- the lowest that passes
 pub first-le : (p : ℕ → Bool) (s n : ℕ) → firstFrom p s n ≤ s + n
 unfolding firstFrom

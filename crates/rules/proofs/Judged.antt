@@ -17,7 +17,7 @@ use Rattle.rules.specs.Locks.{toRead, toWrite, Cell, heldBy, decide, dec
 use Rattle.rules.specs.Answers.{Call, BeginUpdate, BeginQuery, Read, Write, Commit, Abort, Settle, granted, code}
 use Rattle.rules.specs.Answers.{Wait, Deadlock, UnknownTransaction, UnknownItem, QueryMayNotWrite, StillWaiting}
 use Rattle.rules.specs.Answers.{ClockSpent, BadTables, QuotaSpent, PastWriting, Deed, Replaces, asSlot, asItem}
-use Rattle.rules.specs.Step.{judged, done, readBy, writeBy, commitBy, abortBy, settleBy, access, cellDeed, awaitsOther, holdsBack, heldBack, startRead, writesPast, writesFurther, queryRead}
+use Rattle.rules.specs.Step.{judged, done, readBy, writeBy, commitUpdate, commitBy, abortBy, settleBy, access, cellDeed, awaitsOther, holdsBack, heldBack, startRead, writesPast, writesFurther, queryRead}
 use Rattle.rules.specs.Conditions.{IsSettle, CallerIn, NeedsLock, ConflictIn, HeldBackIn, When, thenTested, order}
 use Rattle.rules.proofs.Tests.{and-both, or-left, or-right, is-true, true-is, false-is, not-make, ne-make, ne-use}
 use Rattle.rules.proofs.Counts.{someBelow→, →someBelow}
@@ -28,7 +28,7 @@ use Rattle.rules.proofs.Callers.{caller-in, is-query, is-update, is-wri
 use Rattle.rules.proofs.Decisions.{wanted-lock, never-both, none-excludes, none-holds, blockedFor}
 use Rattle.rules.proofs.Decisions.{CellIs, ownCell, newestCell, shareCell, replaceCell, exchangeCell, excludeCell, readConflict, writeConflict, cell}
 use Rattle.rules.proofs.Ways.{Updater, Way, waited, beganUpdate, beganQuery, readOwn, readNewest, readShared, readSettled, readByStart}
-use Rattle.rules.proofs.Ways.{wroteOwn, wroteSettled, wroteTaken, committedUpdate, committedSettled, committedQuery, abortedUpdate, abortedSettled, abortedQuery, settledUpdate}
+use Rattle.rules.proofs.Ways.{wroteOwn, wroteSettled, wroteTaken, committedUpdate, committedEmpty, committedSettled, committedQuery, abortedUpdate, abortedSettled, abortedQuery, settledUpdate}
 use Rattle.rules.proofs.Testing.{Goes, tests, skips, grants, begins, unblocked, held-back, here, names-tests, at-caller, no-clock}
 use Rattle.rules.proofs.Testing.{items-tests, waits-tests, past-tests, quota-tests, free, conflicting}
 
@@ -38,6 +38,9 @@ read-no-settle (m, e) = let z : _≡_ {A = ℕ} 0 1 = cc in omega arith
 
 write-no-settle : {n x v : ℕ} → IsSettle (Write n x v) → ⊥
 write-no-settle (m, e) = let z : _≡_ {A = ℕ} 0 1 = cc in omega arith
+
+commit-no-settle : {n : ℕ} → IsSettle (Commit n) → ⊥
+commit-no-settle (m, e) = let z : _≡_ {A = ℕ} 0 1 = cc in omega arith
 
 -- who holds the item exclusively replaces its value
 replaces : (S : Sizes) (G : Tables) (s x v : ℕ) → T (holdsExclusive (lock (G .locks) x) s) → access S toWrite s x v G ≡ Replaces (asSlot s) (asItem x) v
@@ -247,7 +250,7 @@ module _ (S : Sizes) (G : Tables) (g : Good S G) where
               absurd (omega arith)
 
   commits : (n : ℕ) → Goes S (Commit n) G (UnknownTransaction ∷ StillWaiting ∷ ClockSpent ∷ []) (commitBy S n G)
-  unfolding commitBy When done
+  unfolding commitBy commitUpdate When done
   commits n =
       names-tests S G g c n refl only _ _ (λ e. let C = here S G g c n refl only e in
       tests S c G StillWaiting _ (not (eqb ((txn (G .txns) i) .awaitedLock) noLock)) _ (λ z. omega arith, λ z. omega arith)
@@ -260,10 +263,16 @@ module _ (S : Sizes) (G : Tables) (g : Good S G) where
       (λ z. let k = is-settled (G .txns) i (C .alive) z in
       skips S c G ClockSpent _ _ (no-clock S G g c n refl only (settled-reads (txn (G .txns) i) k)) (grants S c G _ (committedSettled n i (caller-in S G n e) k) refl))
       (λ z. let up = is-update S G g i (C .inside) (C .alive) q z in
+      let free = eqb-true ((txn (G .txns) i) .awaitedLock) noLock (not-false _ f) in
+      cond-case (Goes S c G (ClockSpent ∷ [])) (eqb (exclusivesOf S (G .locks) i) 0) _ _
+      (λ h. let none = eqb-true (exclusivesOf S (G .locks) i) 0 h in
+      skips S c G ClockSpent _ _ (λ w. no-stamp (at-caller S G g c n refl only (λ (r : ℕ). (exclusivesOf S (G .locks) r ≢ 0) ⊎ IsSettle c) (w .0) (w .1) (w .4)) none)
+      (grants S c G _ (committedEmpty n i (caller-in S G n e) up free none) refl))
+      (λ h. let some = eqb-false (exclusivesOf S (G .locks) i) 0 h in
       tests S c G ClockSpent _ (eqb (clock (G .txns)) lastWord) _ (λ z. omega arith, λ z. omega arith)
-      (λ h. (i, C, up, eqb-true (clock (G .txns)) lastWord h))
+      (λ h. (i, C, up, eqb-true (clock (G .txns)) lastWord h, inl some))
       (λ h w. eqb-false (clock (G .txns)) lastWord h (w .3))
-      (λ h. grants S c G _ (committedUpdate n i (caller-in S G n e) up (eqb-true ((txn (G .txns) i) .awaitedLock) noLock (not-false _ f)) (eqb-false (clock (G .txns)) lastWord h)) refl)))))
+      (λ h. grants S c G _ (committedUpdate n i (caller-in S G n e) up free (eqb-false (clock (G .txns)) lastWord h) some) refl))))))
     where
       c : Call
       c = Commit n
@@ -273,6 +282,11 @@ module _ (S : Sizes) (G : Tables) (g : Good S G) where
 
       only : (m : ℕ) → n ≡ m → m ≡ n
       only m e = sym e
+
+      -- a commit that asks for no stamp
+      no-stamp : (exclusivesOf S (G .locks) i ≢ 0) ⊎ IsSettle c → exclusivesOf S (G .locks) i ≡ 0 → ⊥
+      no-stamp (inl d) e = d e
+      no-stamp (inr h) e = absurd (commit-no-settle h)
 
   aborts : (n : ℕ) → Goes S (Abort n) G (UnknownTransaction ∷ []) (abortBy S n G)
   unfolding abortBy done
@@ -310,7 +324,7 @@ module _ (S : Sizes) (G : Tables) (g : Good S G) where
       (λ f. (i, C, ne-use _ noLock (true-is f), λ w. w))
       (λ f w. false-is f (ne-make _ noLock (at-caller S G g c n refl only (λ (r : ℕ). (txn (G .txns) r) .awaitedLock ≢ noLock) (w .0) (w .1) (w .2))))
       (λ f. tests S c G ClockSpent _ (eqb (clock (G .txns)) lastWord) _ (λ z. omega arith, λ z. omega arith)
-      (λ h. (i, C, up, eqb-true (clock (G .txns)) lastWord h))
+      (λ h. (i, C, up, eqb-true (clock (G .txns)) lastWord h, inr (n, refl)))
       (λ h w. eqb-false (clock (G .txns)) lastWord h (w .3))
       (λ h. grants S c G _ (settledUpdate n i (caller-in S G n e) up (eqb-true ((txn (G .txns) i) .awaitedLock) noLock (not-false _ f)) (eqb-false (clock (G .txns)) lastWord h)) refl)))))
     where

@@ -21,7 +21,7 @@ use Rattle.rules.proofs.EqualRows.{settled-reads}
 use Rattle.rules.proofs.Changes.{past-unchanged, past-replaced}
 use Rattle.rules.proofs.Judged.{way}
 use Rattle.rules.proofs.Ways.{Way, refused, waited, beganUpdate, beganQuery, readOwn, readNewest, readShared, readSettled, readByStart}
-use Rattle.rules.proofs.Ways.{wroteOwn, wroteSettled, wroteTaken, committedUpdate, committedSettled, committedQuery, abortedUpdate, abortedSettled, abortedQuery, settledUpdate, keptWaiting}
+use Rattle.rules.proofs.Ways.{wroteOwn, wroteSettled, wroteTaken, committedUpdate, committedEmpty, committedSettled, committedQuery, abortedUpdate, abortedSettled, abortedQuery, settledUpdate, keptWaiting}
 
 module _ (S : Sizes) (enough : S .slots ≤ S .places) (G : Tables) (g : Good S G) where
   abbrev t : List ℕ
@@ -68,7 +68,8 @@ module _ (S : Sizes) (enough : S .slots ≤ S .places) (G : Tables) (g : Good S 
       (taken-others S t (lock l x) (g .lockGood x (U .known)) s (U .caller .inside) (U .update) alone v)
       (taken-keeps S t (lock l x) (g .lockGood x (U .known)) s (U .caller .inside) (U .update) alone v)
       (λ k. inr room)
-  way-keeps c d (committedUpdate n s C u i m) = committed-good S enough G g s (C .inside) u i m
+  way-keeps c d (committedUpdate n s C u i m w) = committed-good S enough G g s (C .inside) u i m
+  way-keeps c d (committedEmpty n s C u i e) = aborted-good S enough G g s (C .inside) u
   way-keeps c d (committedSettled n s C p) = settled-commit-good S enough G g s (C .inside) p
   way-keeps c d (committedQuery n s C q) = ended-good S enough G g s (C .inside) q
   way-keeps c d (abortedUpdate n s C u) = aborted-good S enough G g s (C .inside) u

@@ -15,7 +15,7 @@ use Rattle.rules.specs.Answers.{Call, BeginUpdate, BeginQuery, Read, Wri
 use Rattle.rules.specs.Step.{step, act, judged, done, begun, queryRead}
 use Rattle.rules.specs.Step.{withLocks, locked, replaced, sharedToo, taken, committed, ended, aborted}
 use Rattle.rules.specs.Changed.{Granted, updateBegins, queryBegins, ownRead, sharedRead, sharedTaken, settledOwnRead, startReads, valueReplaced, settledReplaced}
-use Rattle.rules.specs.Changed.{sharedExchanged, exclusiveTaken, updateCommits, settledCommits, queryCommits, updateAborts, settledAborts, updateSettles, queryAborts}
+use Rattle.rules.specs.Changed.{sharedExchanged, exclusiveTaken, updateCommits, emptyCommits, settledCommits, queryCommits, updateAborts, settledAborts, updateSettles, queryAborts}
 use Rattle.rules.specs.Promises.{GrantedChanges}
 use Rattle.rules.proofs.Tests.{or-left, or-right, true-is}
 use Rattle.rules.proofs.Equal.{good→Good}
@@ -26,7 +26,7 @@ use Rattle.rules.proofs.Changes.{own-unchanged, replace-unchanged, past
 use Rattle.rules.proofs.ChangedVersions.{committed-changes, ended-changes, settled-commit-changes, settled-abort-changes}
 use Rattle.rules.proofs.Judged.{way}
 use Rattle.rules.proofs.Ways.{refusal-code, Updater, Way, refused, waited, beganUpdate, beganQuery, readOwn, readNewest, readShared, readSettled, readByStart}
-use Rattle.rules.proofs.Ways.{wroteOwn, wroteSettled, wroteTaken, committedUpdate, committedSettled, committedQuery, abortedUpdate, abortedSettled, abortedQuery, settledUpdate, keptWaiting}
+use Rattle.rules.proofs.Ways.{wroteOwn, wroteSettled, wroteTaken, committedUpdate, committedEmpty, committedSettled, committedQuery, abortedUpdate, abortedSettled, abortedQuery, settledUpdate, keptWaiting}
 
 -- what is shown of an outcome o of the call c
 abbrev Shown : Sizes → Tables → Call → Outcome → Type 0
@@ -69,7 +69,8 @@ module _ (S : Sizes) (enough : S .slots ≤ S .places) (G : Tables) (g : Good S 
       subst (λ (H : Tables). Granted S G (Write n x v) (says granted 0 0 0 H)) (sym (past-replaced S G g s (C .inside) p x v))
       (settledReplaced n x v s C p i h (setLock-changes S (G .locks) (g .locksExact) x i (replaced (lock (G .locks) x) v)))
   way-shown c d (wroteTaken n s x v U h alone room) z = takes n s x v U h
-  way-shown c d (committedUpdate n s C u i m) z = updateCommits n s C u (committed-changes S G g enough s (C .inside) u)
+  way-shown c d (committedUpdate n s C u i m w) z = updateCommits n s C u w (committed-changes S G g enough s (C .inside) u)
+  way-shown c d (committedEmpty n s C u i e) z = emptyCommits n s C u e (aborted-changes S G g s (C .inside))
   way-shown c d (committedSettled n s C p) z = settledCommits n s C p (settled-commit-changes S G g enough s (C .inside))
   way-shown c d (committedQuery n s C q) z = queryCommits n s C q (ended-changes S G g enough s (C .inside))
   way-shown c d (abortedUpdate n s C u) z = updateAborts n s C u (aborted-changes S G g s (C .inside))

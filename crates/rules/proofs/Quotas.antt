@@ -13,7 +13,7 @@ use Rattle.rules.specs.Tested.{quotaMost, fullIdle, quotaGood}
 use Rattle.rules.specs.Step.{writesFurther}
 use Rattle.rules.proofs.Tests.{and-left, and-right, and-both, or-right, implies-use, implies-make, not-make, not-use, ne-make, ne-use, eq-make, is-true, is-false, true-is, false-is, same?}
 use Rattle.rules.proofs.EqualRows.{update-holds}
-use Rattle.rules.proofs.Counts.{count-fewer, count-one-more, count-none}
+use Rattle.rules.proofs.Counts.{count-fewer, count-one-more, count-none, count-zero, count-some}
 
 -- ---- the test of one slot says what GoodQuota says
 module _ (S : Sizes) (l : List ℕ) (s : ℕ) (r : Txn) where
@@ -62,6 +62,15 @@ unfolding exclusivesOf
 exclusives-none S t l g s d =
     count-none (S .items) _
     (λ x i h. d (g x i .excluders s h .1))
+
+-- none, and some
+pub held-none : (S : Sizes) (l : List ℕ) (s : ℕ) → exclusivesOf S l s ≡ 0 → (x : ℕ) → x < S .items → holdsExclusive (lock l x) s ≡ false
+unfolding exclusivesOf
+held-none S l s e x b = is-false (holdsExclusive (lock l x) s) (count-zero (S .items) (λ y. holdsExclusive (lock l y) s) e x b)
+
+pub held-some : (S : Sizes) (l : List ℕ) (s : ℕ) → exclusivesOf S l s ≢ 0 → (x : ℕ) × (x < S .items) × T (holdsExclusive (lock l x) s)
+unfolding exclusivesOf
+held-some S l s d = count-some (S .items) (λ y. holdsExclusive (lock l y) s) d
 
 -- ---- the clauses carried to other tables
 -- a free row

@@ -26,7 +26,7 @@ use Rattle.rules.proofs.Noting.{rank-known, noted-known, noted-new}
 use Rattle.rules.proofs.Waited.{only-this}
 use Rattle.rules.proofs.Judged.{way}
 use Rattle.rules.proofs.Ways.{refusal-code, Way, refused, waited, beganUpdate, beganQuery, readOwn, readNewest, readShared, readSettled, readByStart}
-use Rattle.rules.proofs.Ways.{wroteOwn, wroteSettled, wroteTaken, committedUpdate, committedSettled, committedQuery, abortedUpdate, abortedSettled, abortedQuery, settledUpdate, keptWaiting}
+use Rattle.rules.proofs.Ways.{wroteOwn, wroteSettled, wroteTaken, committedUpdate, committedEmpty, committedSettled, committedQuery, abortedUpdate, abortedSettled, abortedQuery, settledUpdate, keptWaiting}
 
 -- the ways in which a call can end
 data Ends (S : Sizes) (c : Call) (G : Tables) : Outcome → Type 0 where
@@ -52,7 +52,8 @@ way-ends S c G d (readByStart n s x C q i o b) = grant _ refl
 way-ends S c G d (wroteOwn n s x v U h) = grant _ refl
 way-ends S c G d (wroteSettled n s x v C p i h) = grant _ refl
 way-ends S c G d (wroteTaken n s x v U h f r) = grant _ refl
-way-ends S c G d (committedUpdate n s C u i l) = grant _ refl
+way-ends S c G d (committedUpdate n s C u i l w) = grant _ refl
+way-ends S c G d (committedEmpty n s C u i e) = grant _ refl
 way-ends S c G d (committedSettled n s C p) = grant _ refl
 way-ends S c G d (committedQuery n s C q) = grant _ refl
 way-ends S c G d (abortedUpdate n s C u) = grant _ refl

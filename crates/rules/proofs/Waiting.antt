@@ -28,7 +28,7 @@ use Rattle.rules.proofs.Callers.{caller-found}
 use Rattle.rules.proofs.Deadlock.{repeated}
 use Rattle.rules.proofs.Judged.{way}
 use Rattle.rules.proofs.Ways.{Way, refused, waited, beganUpdate, beganQuery, readOwn, readNewest, readShared, readSettled, readByStart}
-use Rattle.rules.proofs.Ways.{wroteOwn, wroteSettled, wroteTaken, committedUpdate, committedSettled, committedQuery, abortedUpdate, abortedSettled, abortedQuery, settledUpdate, keptWaiting}
+use Rattle.rules.proofs.Ways.{wroteOwn, wroteSettled, wroteTaken, committedUpdate, committedEmpty, committedSettled, committedQuery, abortedUpdate, abortedSettled, abortedQuery, settledUpdate, keptWaiting}
 use Rattle.rules.proofs.Refused.{NotedDown, HeldSilently, wait-is}
 use Rattle.rules.proofs.Answered.{answered}
 
@@ -131,7 +131,8 @@ module _ (S : Sizes) (G : Tables) (g : Good S G) (s : ℕ) (inside : s < S .slot
     other-row c d (wroteOwn n r x v U h) o = cleared-other r (named c o n r refl (U .caller)) (U .caller .inside)
     other-row c d (wroteSettled n r x v C p i h) o = cleared-other r (named c o n r refl C) (C .inside)
     other-row c d (wroteTaken n r x v U h f m) o = cleared-other r (named c o n r refl (U .caller)) (U .caller .inside)
-    other-row c d (committedUpdate n r C u i l) o = left-other r (named c o n r refl C) clockAt _ (omega arith) noTxn
+    other-row c d (committedEmpty n r C u i e) o = aborted-other r (named c o n r refl C) noTxn
+    other-row c d (committedUpdate n r C u i l w) o = left-other r (named c o n r refl C) clockAt _ (omega arith) noTxn
     other-row c d (committedSettled n r C p) o = gone-other r (named c o n r refl C) noTxn
     other-row c d (committedQuery n r C q) o = gone-other r (named c o n r refl C) noTxn
     other-row c d (abortedUpdate n r C u) o = aborted-other r (named c o n r refl C) noTxn
@@ -190,7 +191,8 @@ module _ (S : Sizes) (G : Tables) (g : Good S G) (s : ℕ) (inside : s < S .slot
     own-row c d (wroteOwn n r x v U h) e = let p = it n r e U in inr (inl (e, (p .0, sym (p .1)), refl))
     own-row c d (wroteSettled n r x v C p i h) e = absurd (idle n r e C (settled-reads (txn t r) p))
     own-row c d (wroteTaken n r x v U h f m) e = let p = it n r e U in inr (inl (e, (p .0, sym (p .1)), refl))
-    own-row c d (committedUpdate n r C u i l) e = absurd (busy n r e C i)
+    own-row c d (committedEmpty n r C u i w) e = absurd (busy n r e C i)
+    own-row c d (committedUpdate n r C u i l w) e = absurd (busy n r e C i)
     own-row c d (committedSettled n r C p) e = absurd (idle n r e C (settled-reads (txn t r) p))
     own-row c d (committedQuery n r C q) e = absurd (idle n r e C (query-reads (txn t r) q))
     own-row c d (abortedUpdate n r C u) e = inr (inr (ap Abort e))

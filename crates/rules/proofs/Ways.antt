@@ -13,7 +13,7 @@ use Rattle.rules.specs.Tables.{anUpdate, aQuery, noLock, sharedLock, exc
 use Rattle.rules.specs.Answers.{Call, BeginUpdate, BeginQuery, Read, Write, Commit, Abort, Settle, granted, code, Refusal}
 use Rattle.rules.specs.Answers.{Wait, Deadlock, UnknownTransaction, UnknownItem, QueryMayNotWrite, StillWaiting, NoSlot, NumbersSpent, ClockSpent, BadTables, QuotaSpent, PastWriting}
 use Rattle.rules.specs.Answers.{Deed, Refused, Waits, Begins, ReadsByStart, ReadsOwn, ReadsNewest, TakesShared}
-use Rattle.rules.specs.Answers.{Replaces, TakesExclusive, Commits, Ends, Aborts, Settles, CommitsSettled, AbortsSettled, asSlot, asItem, asStamp}
+use Rattle.rules.specs.Answers.{Replaces, TakesExclusive, Commits, CommitsEmpty, Ends, Aborts, Settles, CommitsSettled, AbortsSettled, asSlot, asItem, asStamp}
 use Rattle.rules.specs.Step.{awaitsOther, heldBack}
 pub use Rattle.rules.specs.Conditions.{Updater}
 use Rattle.rules.specs.Conditions.{Caller, Free, CallerIn, Wants, Circle}
@@ -93,7 +93,10 @@ pub data Way (S : Sizes) (G : Tables) : Call → Deed → Type 0 where
       → Way S G (Write n x v) (TakesExclusive (asSlot s) (asItem x) v)
   committedUpdate :
       (n s : ℕ) → Caller S G n s → T (liveUpdate (txn (G .txns) s)) → (txn (G .txns) s) .awaitedLock ≡ noLock → clock (G .txns) ≢ lastWord
-      → Way S G (Commit n) (Commits (asSlot s))
+      → exclusivesOf S (G .locks) s ≢ 0 → Way S G (Commit n) (Commits (asSlot s))
+  committedEmpty :
+      (n s : ℕ) → Caller S G n s → T (liveUpdate (txn (G .txns) s)) → (txn (G .txns) s) .awaitedLock ≡ noLock
+      → exclusivesOf S (G .locks) s ≡ 0 → Way S G (Commit n) (CommitsEmpty (asSlot s))
   committedSettled : (n s : ℕ) → Caller S G n s → T (liveSettled (txn (G .txns) s)) → Way S G (Commit n) (CommitsSettled (asSlot s))
   committedQuery : (n s : ℕ) → Caller S G n s → T (liveQuery (txn (G .txns) s)) → Way S G (Commit n) (Ends (asSlot s))
   abortedUpdate : (n s : ℕ) → Caller S G n s → T (liveUpdate (txn (G .txns) s)) → Way S G (Abort n) (Aborts (asSlot s))

@@ -19,7 +19,7 @@ pub use Rattle.names.specs.Answers.{granted, code}
 -- what a call comes to
 pub use Rattle.names.specs.declared.deeds.Deed.{Deed}
 pub use Rattle.names.specs.declared.deeds.Deed.the-variants.{Refused, Waits, Begins, ReadsByStart, ReadsOwn, ReadsNewest, TakesShared}
-pub use Rattle.names.specs.declared.deeds.Deed.the-variants.{Replaces, TakesExclusive, Commits, Ends, Aborts, Settles, CommitsSettled, AbortsSettled}
+pub use Rattle.names.specs.declared.deeds.Deed.the-variants.{Replaces, TakesExclusive, Commits, CommitsEmpty, Ends, Aborts, Settles, CommitsSettled, AbortsSettled}
 
 -- a word as a slot, an item, a stamp
 abbrev pub asSlot : ℕ → Slot

@@ -11,7 +11,7 @@ use Rattle.names.specs.declared.Sizes.{Sizes}
 use Rattle.names.specs.Layout.{lastNumberAt, clockAt, txnRow, txnLockAt, txnItemAt, txnRankAt}
 use Rattle.rules.specs.Words.{row}
 use Rattle.rules.specs.Tables.{Tables, txnAt, lockRow, versionRow, lastNumber, clock, Txn, txn, noTxn, newTxn, noLock, anUpdate, aQuery, aSettled}
-use Rattle.rules.specs.Tables.{sharedLock, exclusiveLock, liveUpdate, liveQuery, liveSettled, byStart, starts, Lock, lock, setLock, holds, holdsShared, holdsExclusive, released, unshared}
+use Rattle.rules.specs.Tables.{sharedLock, exclusiveLock, liveUpdate, liveQuery, liveSettled, byStart, starts, Lock, lock, setLock, holds, holdsShared, holdsExclusive, exclusivesOf, released, unshared}
 use Rattle.rules.specs.Waits.{awaits, lowered}
 use Rattle.rules.specs.Versions.{Version, versionsOf, newest, place, choice, rowOf, kept}
 use Rattle.rules.specs.Answers.{Call, BeginUpdate, BeginQuery, Read, Write, Commit, Abort, Settle, Outcome, says, granted}
@@ -203,8 +203,12 @@ pub data Granted (S : Sizes) (G : Tables) : Call → Outcome → Type 0 where
       → Granted S G (Write n x v) (says granted 0 0 0 (locked S s x (taken (lock (G .locks) x) s v) G))
   -- "update commit: number is the stamp"
   updateCommits :
-      (n s : ℕ) → Caller S G n s → T (liveUpdate (txn (G .txns) s)) → Committed S s G (committed S s G)
+      (n s : ℕ) → Caller S G n s → T (liveUpdate (txn (G .txns) s)) → exclusivesOf S (G .locks) s ≢ 0 → Committed S s G (committed S s G)
       → Granted S G (Commit n) (says granted 0 (clock (G .txns) + 1) 0 (committed S s G))
+  -- request E7: "commits without a new stamp, answers the present clock": no clock and no version row changes
+  emptyCommits :
+      (n s : ℕ) → Caller S G n s → T (liveUpdate (txn (G .txns) s)) → exclusivesOf S (G .locks) s ≡ 0 → Aborted S s G (aborted S s G)
+      → Granted S G (Commit n) (says granted 0 (clock (G .txns)) 0 (aborted S s G))
   -- "A query only ends."
   queryCommits :
       (n s : ℕ) → Caller S G n s → T (liveQuery (txn (G .txns) s)) → Ended S s G (ended S s G)

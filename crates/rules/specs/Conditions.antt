@@ -118,8 +118,11 @@ When S c G StillWaiting =
 When S c G NoSlot = (s : ℕ) → s < S .slots → T (live (txn (G .txns) s))
 -- "begin with last number 4,294,967,295"
 When S c G NumbersSpent = lastNumber (G .txns) ≡ lastWord
--- "update commit at clock 4,294,967,295", and since request E6 a settle
-When S c G ClockSpent = (s : ℕ) × CallerIn c S G s × T (liveUpdate (txn (G .txns) s)) × (clock (G .txns) ≡ lastWord)
+-- "update commit at clock 4,294,967,295", and since request E6 a settle. Request E7: an update "that holds no exclusive lock .. cannot get
+-- code 9" at its commit
+When S c G ClockSpent =
+    (s : ℕ) × CallerIn c S G s × T (liveUpdate (txn (G .txns) s)) × (clock (G .txns) ≡ lastWord)
+    × ((exclusivesOf S (G .locks) s ≢ 0) ⊎ IsSettle c)
 -- "tables not good"
 When S c G BadTables = Good S G → ⊥
 -- request E2: "An update that holds 32 items exclusively and writes a further one"

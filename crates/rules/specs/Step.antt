@@ -20,7 +20,7 @@ use Rattle.rules.specs.Answers.{Call, BeginUpdate, BeginQuery, Read, Wri
 use Rattle.rules.specs.Answers.{Wait, Deadlock, UnknownTransaction, UnknownItem, QueryMayNotWrite, StillWaiting}
 use Rattle.rules.specs.Answers.{NoSlot, NumbersSpent, ClockSpent, BadTables, QuotaSpent, PastWriting}
 use Rattle.rules.specs.Answers.{Deed, Refused, Waits, Begins, ReadsByStart, ReadsOwn, ReadsNewest, TakesShared}
-use Rattle.rules.specs.Answers.{Replaces, TakesExclusive, Commits, Ends, Aborts, Settles, CommitsSettled, AbortsSettled, asSlot, asItem, asStamp}
+use Rattle.rules.specs.Answers.{Replaces, TakesExclusive, Commits, CommitsEmpty, Ends, Aborts, Settles, CommitsSettled, AbortsSettled, asSlot, asItem, asStamp}
 
 -- ==== what a call comes to
 
@@ -108,6 +108,13 @@ writeBy S n x v G =
     (access S toWrite s x v G))))))
 
 -- ---- Commit and abort
+-- request E7: an update in slot s "that holds no exclusive lock, and has not ended its writing .. cannot get code 9"
+unfoldable pub commitUpdate : Sizes → ℕ → Tables → Deed
+commitUpdate S s G =
+    cond (eqb (exclusivesOf S (G .locks) s) 0) (CommitsEmpty (asSlot s))
+    (cond (eqb (clock (G .txns)) lastWord) (Refused ClockSpent)
+    (Commits (asSlot s)))
+
 -- "for commit 3, 6, 9"; "A query only ends."; request E6: one past its writing "takes no new one" as its stamp, so never 9
 unfoldable pub commitBy : Sizes → ℕ → Tables → Deed
 commitBy S n G =
@@ -116,8 +123,7 @@ commitBy S n G =
     (cond (not (eqb ((txn (G .txns) s) .awaitedLock) noLock)) (Refused StillWaiting)
     (cond (eqb ((txn (G .txns) s) .kind) aQuery) (Ends (asSlot s))
     (cond (eqb ((txn (G .txns) s) .kind) aSettled) (CommitsSettled (asSlot s))
-    (cond (eqb (clock (G .txns)) lastWord) (Refused ClockSpent)
-    (Commits (asSlot s))))))
+    (commitUpdate S s G))))
 
 -- "for abort 3"; "for a query is the same as commit"
 unfoldable pub abortBy : Sizes → ℕ → Tables → Deed
@@ -208,7 +214,7 @@ committedUnder S s c u G =
     let t = setTxn u s noTxn in
     tables t (release S s (G .locks)) (rewritten S (starts S t) (withNew (G .locks) s c) (G .versions))
 
--- "An update takes clock plus 1, also when it wrote nothing."
+-- "An update takes clock plus 1", since request E7 no more when it wrote nothing
 unfoldable pub committed : Sizes → ℕ → Tables → Tables
 committed S s G =
     let c = clock (G .txns) + 1 in
@@ -258,6 +264,8 @@ done S (TakesShared s x) G =
 done S (Replaces s x v) G = says granted 0 0 0 (locked S (s .0) (x .0) (replaced (lock (G .locks) (x .0)) v) G)
 done S (TakesExclusive s x v) G = says granted 0 0 0 (locked S (s .0) (x .0) (taken (lock (G .locks) (x .0)) (s .0) v) G)
 done S (Commits s) G = says granted 0 (clock (G .txns) + 1) 0 (committed S (s .0) G)
+-- request E7: "commits without a new stamp, answers the present clock". Its locks and its row go, as at an abort: it wrote nothing
+done S (CommitsEmpty s) G = says granted 0 (clock (G .txns)) 0 (aborted S (s .0) G)
 done S (Ends s) G = says granted 0 0 0 (ended S (s .0) G)
 done S (Aborts s) G = says granted 0 0 0 (aborted S (s .0) G)
 -- "the stamp is answered as number"

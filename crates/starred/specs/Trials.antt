@@ -10,7 +10,7 @@ use Rattle.plays.specs.Plays.{Line, _⇒_, Trial, anyEnd}
 use Rattle.starred_row.specs.FullRow.{trialI, fullRow}
 use Rattle.starred_quotas.specs.Quotas.{trialQ, trialR}
 use Rattle.starred_waiters.specs.Waiters.{nobodyStands, secondStands, trialS, trialT, exchangerAhead, trialU, closedUpLine, trialV}
-use Rattle.starred_settled.specs.Settled.{clockAndRow, trialX, trialY}
+use Rattle.starred_settled.specs.Settled.{endXY, endAA, trialX, trialY, trialAA}
 
 -- "A. The run above."
 unfoldable pub trialA : List Line
@@ -83,14 +83,18 @@ trialG S =
 unfoldable pub trialH : List Line
 trialH = (BeginQuery ⇒ (0, 0, 1, 0)) ∷ (Write 1 3 8 ⇒ (5, 0, 0, 0)) ∷ (Write 1 64 8 ⇒ (4, 0, 0, 0)) ∷ []
 
--- "J. Clock spent: update commit 9 and it lives on; query commit 0."
+-- "J. Clock spent: update commit 9 and it lives on; query commit 0." Request E7: "Trial J's update now writes first"; who writes nothing commits
 unfoldable pub trialJ : List Line
 trialJ =
     (BeginUpdate ⇒ (0, 0, 1, 0))
+    ∷ (Write 1 0 5 ⇒ (0, 0, 0, 0))
     ∷ (BeginQuery ⇒ (0, 0, 2, 0))
     ∷ (Commit 1 ⇒ (9, 0, 0, 0))
-    ∷ (Read 1 0 ⇒ (0, 0, 0, 1))
+    ∷ (Read 1 0 ⇒ (0, 5, 0, 0))
     ∷ (Commit 2 ⇒ (0, 0, 0, 0))
+    ∷ (BeginUpdate ⇒ (0, 0, 3, 0))
+    ∷ (Read 3 1 ⇒ (0, 0, 0, 1))
+    ∷ (Commit 3 ⇒ (0, 0, lastWord, 0))
     ∷ []
 
 unfoldable pub clockSpent : Sizes → Tables
@@ -115,7 +119,7 @@ trialL = (BeginUpdate ⇒ (10, 0, 0, 0)) ∷ []
 unfoldable pub uncounted : Sizes → Tables
 uncounted S = tables ((fresh S) .txns) ((fresh S) .locks) (set ((fresh S) .versions) (versionRow S) 0)
 
--- ---- the list of them, and of those of requests E2, E4 and E6; the ends of C, E and F are those of E4. A keeper of the sizes S
+-- ---- the list of them, and of those of requests E2, E4, E6 and E7; the ends of C, E and F are those of E4. A keeper of the sizes S
 unfoldable pub trials : Sizes → List Trial
 trials S =
     (record { from = fresh S; script = trialA; end = anyEnd })
@@ -136,6 +140,7 @@ trials S =
     ∷ (record { from = fresh S; script = trialT; end = exchangerAhead })
     ∷ (record { from = fresh S; script = trialU; end = closedUpLine })
     ∷ (record { from = fresh S; script = trialV; end = secondStands })
-    ∷ (record { from = fresh S; script = trialX; end = clockAndRow 2 6 1 S })
-    ∷ (record { from = fresh S; script = trialY; end = clockAndRow 2 6 1 S })
+    ∷ (record { from = fresh S; script = trialX; end = endXY S })
+    ∷ (record { from = fresh S; script = trialY; end = endXY S })
+    ∷ (record { from = fresh S; script = trialAA; end = endAA S })
     ∷ []

@@ -14,7 +14,7 @@ put head 0 0: 4294967294
 update: 0 0 4294967295 0
 update: 8 0 0 0
 query: 8 0 0 0
-commit 4294967295: 0 0 1 0
+commit 4294967295: 0 0 0 0
 update: 8 0 0 0
 query: 8 0 0 0
 fresh

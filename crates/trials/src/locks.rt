@@ -104,11 +104,11 @@ write 2 4 5: 6 0 0 0
 read 2 3: 6 0 0 0
 read 2 4: 6 0 0 0
 write 2 3 6: 1 0 0 0
-commit 1: 0 0 1 0
+commit 1: 0 0 0 0
 read 2 3: 6 0 0 0
 write 2 3 7: 0 0 0 0
 read 2 3: 0 7 0 0
-commit 2: 0 0 2 0
+commit 2: 0 0 1 0
 trial G: as many live as there are slots, and one more
 update: 0 0 1 0
 update: 0 0 2 0
@@ -151,7 +151,7 @@ update: 7 0 0 0
 commit 33: 0 0 0 0
 update: 0 0 34 0
 query: 7 0 0 0
-commit 32: 0 0 1 0
+commit 32: 0 0 0 0
 query: 0 0 35 0
 view transactions 31 0: 35
 update: 7 0 0 0

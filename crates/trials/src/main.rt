@@ -1,4 +1,4 @@
-// The trials of document 01, all of them, and those of requests E2 and E4 to E6, on the keeper as it is
+// The trials of document 01, all of them, and those of requests E2 and E4 to E7, on the keeper as it is
 // compiled; then every kind of damage to good tables, one by one.
 //
 // A line for each step says what was expected and what was found, and ends in DIFFERS where the two
@@ -9,6 +9,7 @@ mod bad_items;
 mod bad_settled;
 mod bad_slots;
 mod damage;
+mod empty;
 mod letters;
 mod limits;
 mod line;
@@ -31,7 +32,7 @@ fn trials(tally: Tally) -> Tally {
     t = stamps::j_to_l(stamps::i(t));
     t = limits::p(limits::o(limits::m_and_n(t)));
     t = waiters::w(waiters::s_to_v(quota::r(quota::q(t))));
-    settling::z(settling::x_and_y(t))
+    empty::aa(settling::z(settling::x_and_y(t)))
 }
 
 fn damages(tally: Tally) -> Tally {

@@ -52,7 +52,7 @@ read 3 5: 0 55 0 1
 read 4 5: 0 55 0 1
 settle 3: 5 0 0 0
 commit 3: 0 0 0 0
-commit 4: 0 0 3 0
+commit 4: 0 0 2 0
 trial Y: two past their writing, the later commits first and the earlier aborts
 update: 0 0 1 0
 update: 0 0 2 0
@@ -160,6 +160,7 @@ read 5 31: 0 8 0 1
 read 1 31: 0 0 0 2
 read 3 31: 0 8 0 1
 settle 3: 9 0 0 0
+write 3 31 9: 0 0 0 0
 commit 3: 9 0 0 0
 ",
         tally,

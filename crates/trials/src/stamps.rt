@@ -214,6 +214,7 @@ commit 5: 6 0 0 0
 abort 3: 0 0 0 0
 commit 3: 3 0 0 0
 read 5 0: 0 5 0 1
+write 5 0 7: 0 0 0 0
 commit 5: 9 0 0 0
 trial K: an aborted write is never read, a committed one is, by a query that begins later
 update: 0 0 1 0
@@ -227,13 +228,13 @@ view locks 3 1: 0
 view locks 3 2: 0
 read 2 3: 0 0 0 1
 read 3 3: 0 0 0 1
-commit 2: 0 0 1 0
+commit 2: 0 0 0 0
 query: 0 0 4 0
 read 4 3: 0 0 0 1
 view versions 3 0: 1
 update: 0 0 5 0
 write 5 3 9: 0 0 0 0
-commit 5: 0 0 2 0
+commit 5: 0 0 1 0
 query: 0 0 6 0
 read 6 3: 0 9 0 1
 read 4 3: 0 0 0 2

@@ -17,12 +17,12 @@ read 3 5: 1 0 0 0
 view transactions 1 5: 1
 view transactions 2 5: 2
 read 1 5: 0 0 0 1
-commit 1: 0 0 1 0
+commit 1: 0 0 0 0
 read 3 5: 1 0 0 0
 write 2 5 52: 0 0 0 0
 view transactions 1 5: 0
 view transactions 2 5: 1
-commit 2: 0 0 2 0
+commit 2: 0 0 1 0
 read 3 5: 0 52 0 1
 view transactions 2 5: 0
 trial T: who shares the item and asks to write it stands ahead

@@ -114,51 +114,61 @@ commits-requires c κs =
 enum-known-deed-11 : tie.Need-enum-known-deed-11
 enum-known-deed-11 c = search needs
 
+commits-empty-requires : tie.Need-commits-empty-requires
+commits-empty-requires c κs =
+    let G = before (c .before .before .before .before .before .before .before .before) in
+    let g = c .before .before .before .before .before .before .before .before .pre .0 in
+    let a = subst (Able G) (c .before .before .before .deed11 .given .1) (c .before .before .before .before .before .before .before .before .pre .1) in
+    (g .txnsExact, g .locksExact, a)
+
+enum-known-deed-12 : tie.Need-enum-known-deed-12
+enum-known-deed-12 c = search needs
+
 ends-requires : tie.Need-ends-requires
 ends-requires c κs =
     let G = before (c .before .before .before .before .before .before .before .before) in
     let g = c .before .before .before .before .before .before .before .before .pre .0 in
-    let a = subst (Able G) (c .before .before .before .deed11 .given .1) (c .before .before .before .before .before .before .before .before .pre .1) in
+    let a = subst (Able G) (c .before .before .before .deed12 .given .1) (c .before .before .before .before .before .before .before .before .pre .1) in
     (record { locks = G .locks; good = g }, a .0, a .1)
 
-enum-known-deed-12 : tie.Need-enum-known-deed-12
-enum-known-deed-12 c = search needs
+enum-known-deed-13 : tie.Need-enum-known-deed-13
+enum-known-deed-13 c = search needs
 
 aborts-requires : tie.Need-aborts-requires
 aborts-requires c κs =
     let G = before (c .before .before .before .before .before .before .before .before) in
     let g = c .before .before .before .before .before .before .before .before .pre .0 in
-    let a = subst (Able G) (c .before .before .before .deed12 .given .1) (c .before .before .before .before .before .before .before .before .pre .1) in
+    let a = subst (Able G) (c .before .before .before .deed13 .given .1) (c .before .before .before .before .before .before .before .before .pre .1) in
     (g .txnsExact, g .locksExact, a)
 
-enum-known-deed-13 : tie.Need-enum-known-deed-13
-enum-known-deed-13 c = search needs
+enum-known-deed-14 : tie.Need-enum-known-deed-14
+enum-known-deed-14 c = search needs
 
 settles-requires : tie.Need-settles-requires
 settles-requires c κs =
     let G = before (c .before .before .before .before .before .before .before .before) in
     let g = c .before .before .before .before .before .before .before .before .pre .0 in
-    let a = subst (Able G) (c .before .before .before .deed13 .given .1) (c .before .before .before .before .before .before .before .before .pre .1) in
+    let a = subst (Able G) (c .before .before .before .deed14 .given .1) (c .before .before .before .before .before .before .before .before .pre .1) in
     (g .txnsExact, g .locksExact, a, g .clockMost)
 
-enum-known-deed-14 : tie.Need-enum-known-deed-14
-enum-known-deed-14 c = search needs
+enum-known-deed-15 : tie.Need-enum-known-deed-15
+enum-known-deed-15 c = search needs
 
 commits-settled-requires : tie.Need-commits-settled-requires
 commits-settled-requires c κs =
     let G = before (c .before .before .before .before .before .before .before .before .before) in
     let g = c .before .before .before .before .before .before .before .before .before .pre .0 in
-    let a = subst (Able G) (c .before .before .before .before .deed14 .given .1) (c .before .before .before .before .before .before .before .before .before .pre .1) in
+    let a = subst (Able G) (c .before .before .before .before .deed15 .given .1) (c .before .before .before .before .before .before .before .before .before .pre .1) in
     (g, a .0, a .1)
 
-enum-known-deed-15 : tie.Need-enum-known-deed-15
-enum-known-deed-15 c = search needs
+enum-known-deed-16 : tie.Need-enum-known-deed-16
+enum-known-deed-16 c = search needs
 
 aborts-settled-requires : tie.Need-aborts-settled-requires
 aborts-settled-requires c κs =
     let G = before (c .before .before .before .before .before .before .before .before .before) in
     let g = c .before .before .before .before .before .before .before .before .before .pre .0 in
-    let a = subst (Able G) (c .before .before .before .before .deed15 .given .1) (c .before .before .before .before .before .before .before .before .before .pre .1) in
+    let a = subst (Able G) (c .before .before .before .before .deed16 .given .1) (c .before .before .before .before .before .before .before .before .before .pre .1) in
     (g, a .0, a .1)
 
 returns : tie.Need-returns
@@ -268,7 +278,8 @@ same-length-21 c = search needs
 
 returns-11 : tie.Need-returns-11
 returns-11 c =
-    told (before (c .before .before .before .before .before .before .before .before .before .before .before .before .before)) (c .before .before .before .before .before .before .before .before .deed11 .given .1) (c .before .before .before .before .ends .ensures ((before (c .before .before .before .before .before .before .before .before .before .before .before .before .before)) .locks))
+    let G = before (c .before .before .before .before .before .before .before .before .before .before .before .before .before) in
+    told G (c .before .before .before .before .before .before .before .before .deed11 .given .1) (c .before .before .before .before .commits-empty .ensures (G .versions))
 
 same-length-22 : tie.Need-same-length-22
 same-length-22 c = search needs
@@ -278,7 +289,7 @@ same-length-23 c = search needs
 
 returns-12 : tie.Need-returns-12
 returns-12 c =
-    told (before (c .before .before .before .before .before .before .before .before .before .before .before .before .before)) (c .before .before .before .before .before .before .before .before .deed12 .given .1) (c .before .before .before .before .aborts .ensures ((before (c .before .before .before .before .before .before .before .before .before .before .before .before .before)) .versions))
+    told (before (c .before .before .before .before .before .before .before .before .before .before .before .before .before)) (c .before .before .before .before .before .before .before .before .deed12 .given .1) (c .before .before .before .before .ends .ensures ((before (c .before .before .before .before .before .before .before .before .before .before .before .before .before)) .locks))
 
 same-length-24 : tie.Need-same-length-24
 same-length-24 c = search needs
@@ -288,8 +299,7 @@ same-length-25 c = search needs
 
 returns-13 : tie.Need-returns-13
 returns-13 c =
-    let G = before (c .before .before .before .before .before .before .before .before .before .before .before .before .before) in
-    told G (c .before .before .before .before .before .before .before .before .deed13 .given .1) (c .before .before .before .before .settles .ensures (G .versions))
+    told (before (c .before .before .before .before .before .before .before .before .before .before .before .before .before)) (c .before .before .before .before .before .before .before .before .deed13 .given .1) (c .before .before .before .before .aborts .ensures ((before (c .before .before .before .before .before .before .before .before .before .before .before .before .before)) .versions))
 
 same-length-26 : tie.Need-same-length-26
 same-length-26 c = search needs
@@ -297,11 +307,13 @@ same-length-26 c = search needs
 same-length-27 : tie.Need-same-length-27
 same-length-27 c = search needs
 
+returns-14 : tie.Need-returns-14
+returns-14 c =
+    let G = before (c .before .before .before .before .before .before .before .before .before .before .before .before .before) in
+    told G (c .before .before .before .before .before .before .before .before .deed14 .given .1) (c .before .before .before .before .settles .ensures (G .versions))
+
 same-length-28 : tie.Need-same-length-28
 same-length-28 c = search needs
-
-returns-14 : tie.Need-returns-14
-returns-14 c = told (before (c .before .before .before .before .before .before .before .before .before .before .before .before .before .before .before .before)) (c .before .before .before .before .before .before .before .before .before .before .before .deed14 .given .1) (c .before .before .before .before .before .before .commits-settled .ensures)
 
 same-length-29 : tie.Need-same-length-29
 same-length-29 c = search needs
@@ -309,11 +321,20 @@ same-length-29 c = search needs
 same-length-30 : tie.Need-same-length-30
 same-length-30 c = search needs
 
+returns-15 : tie.Need-returns-15
+returns-15 c = told (before (c .before .before .before .before .before .before .before .before .before .before .before .before .before .before .before .before)) (c .before .before .before .before .before .before .before .before .before .before .before .deed15 .given .1) (c .before .before .before .before .before .before .commits-settled .ensures)
+
 same-length-31 : tie.Need-same-length-31
 same-length-31 c = search needs
 
-returns-15 : tie.Need-returns-15
-returns-15 c = told (before (c .before .before .before .before .before .before .before .before .before .before .before .before .before .before .before .before)) (c .before .before .before .before .before .before .before .before .before .before .before .deed15 .given .1) (c .before .before .before .before .before .before .aborts-settled .ensures)
+same-length-32 : tie.Need-same-length-32
+same-length-32 c = search needs
+
+same-length-33 : tie.Need-same-length-33
+same-length-33 c = search needs
+
+returns-16 : tie.Need-returns-16
+returns-16 c = told (before (c .before .before .before .before .before .before .before .before .before .before .before .before .before .before .before .before)) (c .before .before .before .before .before .before .before .before .before .before .before .deed16 .given .1) (c .before .before .before .before .before .before .aborts-settled .ensures)
 
 pub done-spec : {M : Type 1} → statement M
 done-spec =
@@ -340,14 +361,16 @@ done-spec =
     enum-known-deed-10
     commits-requires
     enum-known-deed-11
-    ends-requires
+    commits-empty-requires
     enum-known-deed-12
-    aborts-requires
+    ends-requires
     enum-known-deed-13
-    settles-requires
+    aborts-requires
     enum-known-deed-14
-    commits-settled-requires
+    settles-requires
     enum-known-deed-15
+    commits-settled-requires
+    enum-known-deed-16
     aborts-settled-requires
     returns
     same-length
@@ -389,9 +412,12 @@ done-spec =
     returns-13
     same-length-26
     same-length-27
-    same-length-28
     returns-14
+    same-length-28
     same-length-29
     same-length-30
+    returns-15
     same-length-31
-    returns-15)
+    same-length-32
+    same-length-33
+    returns-16)

@@ -4,7 +4,7 @@ use Prim.Native.Nat.{ℕ}
 use Rattle.names.specs.Sizes.{base}
 use Rattle.rules.specs.Tables.{tables, aQuery}
 use Rattle.rules.specs.Answers.{Call}
-use Rattle.rules.specs.Step.{judged, beginBy, commitBy, abortBy, settleBy}
+use Rattle.rules.specs.Step.{judged, beginBy, commitUpdate, commitBy, abortBy, settleBy}
 use Rattle.judged.specs.Searched.{ofTxns}
 use Rattle.judged.proofs.Exits.{searchable}
 use borrow.Author.Needs.{needs}
@@ -45,7 +45,7 @@ enum-known-call-3 c = search needs
 
 commit-by-requires : tie.Need-commit-by-requires
 commit-by-requires c κs =
-    searchable (tables (c .before .before .before .before .before .before .args .txns .now) (c .before .before .before .before .before .before .args .locks .now) (c .before .before .before .before .before .before .args .versions .now)) (c .before .before .before .before .before .before .pre)
+    (searchable (tables (c .before .before .before .before .before .before .args .txns .now) (c .before .before .before .before .before .before .args .locks .now) (c .before .before .before .before .before .before .args .versions .now)) (c .before .before .before .before .before .before .pre), c .before .before .before .before .before .before .pre .locksExact)
 
 enum-known-call-4 : tie.Need-enum-known-call-4
 enum-known-call-4 c = search needs
@@ -81,7 +81,7 @@ returns-4 c =
     c .write-by .ensures ∙ ap (λ (m : Call). judged base m (tables (c .before .before .before .before .before .before .before .args .txns .now) (c .before .before .before .before .before .before .before .args .locks .now) (c .before .before .before .before .before .before .before .args .versions .now))) (sym (c .before .before .call2 .given .1))
 
 returns-5 : tie.Need-returns-5
-unfolding judged commitBy
+unfolding judged commitBy commitUpdate
 returns-5 c =
     c .commit-by .ensures ∙ ap (λ (m : Call). judged base m (tables (c .before .before .before .before .before .before .before .args .txns .now) (c .before .before .before .before .before .before .before .args .locks .now) (c .before .before .before .before .before .before .before .args .versions .now))) (sym (c .before .before .call3 .given .1))
 

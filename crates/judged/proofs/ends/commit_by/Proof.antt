@@ -1,4 +1,4 @@
--- Who commits: nobody, one who waits, a query, one past its writing, or an update with a stamp left or none.
+-- Who commits: nobody, one who waits, a query, one past its writing, or an update that still writes.
 use mathlib.Core.Path.{_≡_, sym, _∙_}
 use Prim.Native.Nat.{ℕ}
 use mathlib.Core.List.{List}
@@ -7,17 +7,20 @@ use Rattle.names.specs.declared.Slot.{Slot}
 use Rattle.rules.specs.Tables.{slotOf}
 use Rattle.rows.specs.Founds.{foundAt}
 use Rattle.rows.specs.declared.txns.Found.the-variants.{At}
-use Rattle.judged.proofs.Exits.{caller-inside, commit-unknown, commit-waits, commit-ends, commit-settled, commit-spent, commit-commits}
+use Rattle.judged.proofs.Exits.{caller-inside, commit-unknown, commit-waits, commit-ends, commit-settled, commit-updates}
 use borrow.Author.Needs.{needs}
 use Rattle.judged.proofs.ends.commit_by.Statement.{statement}
 use Rattle.judged.proofs.ends.commit_by.Tie as tie
 
 -- where the caller is found
 abbrev txns : tie.After-known-told → List ℕ
-txns c = c .before .before .before .before .before .args .txns .now
+txns c = c .before .before .before .before .before .before .args .txns .now
 
 abbrev number : tie.After-known-told → ℕ
-number c = c .before .before .before .before .before .args .number
+number c = c .before .before .before .before .before .before .args .number
+
+abbrev locks : tie.After-known-told → List ℕ
+locks c = c .before .before .before .before .before .before .args .locks .now
 
 abbrev slot : tie.After-known-told → Slot
 slot c = c .before .found .given .0 .0
@@ -36,47 +39,35 @@ enum-told c = search needs
 
 returns : tie.Need-returns
 returns c =
-    commit-unknown (c .before .before .before .before .args .txns .now) (c .before .before .before .before .args .number) (sym (c .before .before .find .ensures) ∙ c .enum-told .given .1)
+    commit-unknown (c .before .before .before .before .before .args .txns .now) (c .before .before .before .before .before .args .number) (c .before .before .before .before .before .args .locks .now) (sym (c .before .before .find .ensures) ∙ c .enum-told .given .1)
 
 awaited-lock-requires : tie.Need-awaited-lock-requires
 awaited-lock-requires c κs =
-    (c .before .before .before .before .before .pre .size, caller-inside (txns c) (number c) (slot c) (found c))
+    (c .before .before .before .before .before .before .pre .0 .size, caller-inside (txns c) (number c) (slot c) (found c))
 
 returns-2 : tie.Need-returns-2
 returns-2 c =
-    commit-waits (txns (c .before .before)) (number (c .before .before)) (slot (c .before .before)) (found (c .before .before)) _ (c .before .awaited-lock .ensures) (c .if1 .taken)
+    commit-waits (txns (c .before .before)) (number (c .before .before)) (locks (c .before .before)) (slot (c .before .before)) (found (c .before .before)) _ (c .before .awaited-lock .ensures) (c .if1 .taken)
 
 kind-requires : tie.Need-kind-requires
 kind-requires c κs =
-    (c .before .before .before .before .before .before .before .pre .size, caller-inside (txns (c .before .before)) (number (c .before .before)) (slot (c .before .before)) (found (c .before .before)))
+    (c .before .before .before .before .before .before .before .before .pre .0 .size, caller-inside (txns (c .before .before)) (number (c .before .before)) (slot (c .before .before)) (found (c .before .before)))
 
 returns-3 : tie.Need-returns-3
 returns-3 c =
-    commit-ends (txns (c .before .before .before .before)) (number (c .before .before .before .before)) (slot (c .before .before .before .before)) (found (c .before .before .before .before)) _ (c .before .before .before .awaited-lock .ensures) (c .before .before .if1 .left) _ (c .before .kind .ensures) (c .if2 .taken)
-
-clock-requires : tie.Need-clock-requires
-clock-requires c κs = search needs
-
-next-requires : tie.Need-next-requires
-next-requires c κs = search needs
-
-enum-told-2 : tie.Need-enum-told-2
-enum-told-2 c = search needs
-
-enum-told-3 : tie.Need-enum-told-3
-enum-told-3 c = search needs
+    commit-ends (txns (c .before .before .before .before)) (number (c .before .before .before .before)) (locks (c .before .before .before .before)) (slot (c .before .before .before .before)) (found (c .before .before .before .before)) _ (c .before .before .before .awaited-lock .ensures) (c .before .before .if1 .left) _ (c .before .kind .ensures) (c .if2 .taken)
 
 returns-4 : tie.Need-returns-4
 returns-4 c =
-    commit-settled (txns (c .before .before .before .before .before)) (number (c .before .before .before .before .before)) (slot (c .before .before .before .before .before)) (found (c .before .before .before .before .before)) _ (c .before .before .before .before .awaited-lock .ensures) (c .before .before .before .if1 .left) _ (c .before .before .kind .ensures) (c .before .if2 .left) (c .if3 .taken)
+    commit-settled (txns (c .before .before .before .before .before)) (number (c .before .before .before .before .before)) (locks (c .before .before .before .before .before)) (slot (c .before .before .before .before .before)) (found (c .before .before .before .before .before)) _ (c .before .before .before .before .awaited-lock .ensures) (c .before .before .before .if1 .left) _ (c .before .before .kind .ensures) (c .before .if2 .left) (c .if3 .taken)
+
+commit-update-requires : tie.Need-commit-update-requires
+commit-update-requires c κs =
+    (c .before .before .before .before .before .before .before .before .before .before .before .pre .0, c .before .before .before .before .before .before .before .before .before .before .before .pre .1, caller-inside (txns (c .before .before .before .before .before)) (number (c .before .before .before .before .before)) (slot (c .before .before .before .before .before)) (found (c .before .before .before .before .before)))
 
 returns-5 : tie.Need-returns-5
 returns-5 c =
-    commit-spent (txns (c .before .before .before .before .before .before .before .before .before)) (number (c .before .before .before .before .before .before .before .before .before)) (slot (c .before .before .before .before .before .before .before .before .before)) (found (c .before .before .before .before .before .before .before .before .before)) _ (c .before .before .before .before .before .before .before .before .awaited-lock .ensures) (c .before .before .before .before .before .before .before .if1 .left) _ (c .before .before .before .before .before .before .kind .ensures) (c .before .before .before .before .before .if2 .left) (c .before .before .before .before .if3 .left) _ (c .before .before .before .clock .ensures) (c .before .before .before .before .before .before .before .before .before .before .before .before .before .before .pre) (sym (c .before .before .next .ensures) ∙ c .enum-told3 .given .1)
-
-returns-6 : tie.Need-returns-6
-returns-6 c =
-    commit-commits (txns (c .before .before .before .before .before .before .before .before .before)) (number (c .before .before .before .before .before .before .before .before .before)) (slot (c .before .before .before .before .before .before .before .before .before)) (found (c .before .before .before .before .before .before .before .before .before)) _ (c .before .before .before .before .before .before .before .before .awaited-lock .ensures) (c .before .before .before .before .before .before .before .if1 .left) _ (c .before .before .before .before .before .before .kind .ensures) (c .before .before .before .before .before .if2 .left) (c .before .before .before .before .if3 .left) _ (c .before .before .before .clock .ensures) _ (sym (c .before .before .next .ensures) ∙ c .enum-told2 .given .1)
+    c .commit-update .ensures ∙ commit-updates (txns (c .before .before .before .before .before .before)) (number (c .before .before .before .before .before .before)) (locks (c .before .before .before .before .before .before)) (slot (c .before .before .before .before .before .before)) (found (c .before .before .before .before .before .before)) _ (c .before .before .before .before .before .awaited-lock .ensures) (c .before .before .before .before .if1 .left) _ (c .before .before .before .kind .ensures) (c .before .before .if2 .left) (c .before .if3 .left)
 
 pub commit-by-spec : {M : Type 1} → statement M
 commit-by-spec =
@@ -91,9 +82,5 @@ commit-by-spec =
     kind-requires
     returns-3
     returns-4
-    clock-requires
-    next-requires
-    enum-told-2
-    enum-told-3
-    returns-5
-    returns-6)
+    commit-update-requires
+    returns-5)
