@@ -239,12 +239,31 @@ impl View<'_> {
             // The stamp was taken at the settle, so there is none to take now.
             return self.put(slot, self.start(slot));
         }
+        if self.exclusives(slot) == 0 {
+            return self.end_unwritten(slot);
+        }
         let stamp = match self.clock().next() {
             Some(stamp) => stamp,
             None => return Answer::bare(code::CLOCK_SPENT),
         };
         self.txns[CLOCK] = stamp.word();
         self.put(slot, stamp)
+    }
+
+    /// An update commits that wrote nothing (request E7). There is nothing to stamp,
+    /// so the clock stays, and a spent one is no hindrance. Nor was it a reader that
+    /// a version is kept for, so no row of versions changes.
+    fn end_unwritten(&mut self, slot: Slot) -> Answer {
+        self.let_go(slot);
+        self.txn_mut(slot).fill(0);
+        Answer::numbered(self.clock().word())
+    }
+
+    /// All locks of a slot go, and its working values.
+    fn let_go(&mut self, slot: Slot) {
+        for lock in self.locks.chunks_exact_mut(LOCK_ROW) {
+            release(lock, slot);
+        }
     }
 
     /// An update ends, and its versions get this stamp. Past its writing it was a
@@ -271,9 +290,7 @@ impl View<'_> {
             None => return Answer::bare(code::UNKNOWN_TRANSACTION),
         };
         self.step_out(slot);
-        for lock in self.locks.chunks_exact_mut(LOCK_ROW) {
-            release(lock, slot);
-        }
+        self.let_go(slot);
         if self.is_writing(slot) {
             self.txn_mut(slot).fill(0);
         } else {

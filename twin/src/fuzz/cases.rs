@@ -7,10 +7,10 @@ use super::made::made;
 use super::odd_cases::{self, odd_case};
 use super::process::Other;
 use super::scene::Scene;
-use super::settled::Standing;
+use super::settled;
 use super::small_case::{described, report};
 use super::stats::Stats;
-use super::{jobs, settling, waiters};
+use super::{empty, jobs, monitors, settling, waiters};
 use crate::answer::{code, Answer};
 use crate::clauses::{self, Clause};
 use crate::keeper::{Call, Keeper};
@@ -177,14 +177,16 @@ fn prepare(rng: &mut Rng, samples: &[Keeper], director: &mut Director) -> Prepar
 }
 
 /// Where an update has as many items as it may, or one less, where there are
-/// waiters, and where some are past their writing: often a call that shows it.
+/// waiters, where some are past their writing, and where some wrote nothing or
+/// little: often a call that shows it.
 fn telling_call(rng: &mut Rng, tables: &Tables) -> Option<Call> {
     let keeper = tables.as_keeper().filter(Keeper::is_good)?;
     let scene = Scene::of(&keeper);
-    match rng.below(7) {
+    match rng.below(9) {
         0..=1 => jobs::at_limit(rng, &scene).or_else(|| waiters::telling(rng, &scene)),
         2 => waiters::telling(rng, &scene),
         3..=5 => settling::telling(rng, &scene),
+        6..=7 => monitors::telling(rng, &scene),
         _ => None,
     }
 }
@@ -221,7 +223,7 @@ fn count(stats: &mut Stats, prepared: &Prepared) -> Result<(), String> {
     }
     if broken.is_empty() {
         stats.fullness.see(&prepared.case.tables);
-        see_settled(stats, &prepared.case, answer, &after);
+        see_caller(stats, &prepared.case, answer, &after);
     }
     if is_bad == broken.is_empty() {
         let text = format!(
@@ -233,15 +235,20 @@ fn count(stats: &mut Stats, prepared: &Prepared) -> Result<(), String> {
     Ok(())
 }
 
-/// Counts what a case on good tables has to do with those past their writing.
-fn see_settled(stats: &mut Stats, case: &Case, answer: Answer, after: &Tables) {
+/// Counts what a case on good tables has to do with those past their writing, and
+/// with commits of nothing.
+fn see_caller(stats: &mut Stats, case: &Case, answer: Answer, after: &Tables) {
     if let (Some(before), Some(after)) = (case.tables.as_keeper(), after.as_keeper()) {
         let scene = Scene::of(&before);
         let caller = case.call.number().and_then(|number| scene.find(number));
         if let Some(txn) = caller {
-            let standing = Standing::of(&scene, &txn, case.call);
+            let standing = settled::Standing::of(&scene, &txn, case.call);
             stats.case_settled.begin_anew();
             stats.case_settled.see(case.call, &standing, answer, &after);
+            let standing = empty::Standing::of(&scene, &txn, case.call);
+            stats.case_empty.begin_anew();
+            let standing = standing.as_ref();
+            stats.case_empty.see(case.call, &txn, standing, answer);
         }
     }
 }
@@ -251,7 +258,7 @@ mod tests {
     use super::*;
 
     #[test]
-    fn every_clause_alone_and_all_that_settled_ones_do() {
+    fn every_clause_alone_and_all_that_is_counted() {
         let (mut stats, mut director) = (Stats::new(), Director::new());
         let mut rng = Rng::new(1);
         for _ in 0..15_000 {
@@ -261,7 +268,8 @@ mod tests {
         for (clause, (_, alone)) in Clause::ALL.into_iter().zip(stats.clauses) {
             assert!(alone > 5, "{}: {}", clause.name(), alone);
         }
-        for (name, count) in stats.case_settled.in_cases() {
+        let settled = stats.case_settled.in_cases();
+        for (name, count) in settled.chain(stats.case_empty.in_cases()) {
             assert!(count > 5, "{}: {}", name, count);
         }
     }

@@ -5,7 +5,7 @@
 use super::moods::Action::{self, *};
 use super::moods::{Mood, MIXED, MOODS};
 use super::scene::{Held, Scene, Txn};
-use super::{jobs, rings, settling, waiters};
+use super::{jobs, monitors, rings, settling, waiters};
 use crate::keeper::{Call, Keeper};
 use crate::rng::Rng;
 use crate::sizes::*;
@@ -124,6 +124,10 @@ impl Director {
             Several => settling::several(rng, scene),
             All => settling::all(rng, scene),
             SettledRows => settling::rows(rng, scene, &self.hot),
+            Monitor => monitors::monitor(rng, scene, item),
+            MonitorEnds => monitors::end(rng, scene),
+            InItsWay => monitors::in_its_way(rng, scene),
+            GoesOn => monitors::goes_on(rng, scene),
             CommitUpdate => Some(commit(scene.pick(rng, Txn::is_idle)?)),
             AbortUpdate => Some(abort(scene.pick(rng, |txn| !txn.is_query)?)),
             QueryRead => Some(read(scene.pick(rng, |txn| txn.is_query)?, item)),

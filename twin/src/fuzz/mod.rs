@@ -4,6 +4,7 @@
 pub mod cases;
 pub mod damage;
 pub mod director;
+pub mod empty;
 pub mod full;
 pub mod fullness;
 pub mod in_line;
@@ -12,6 +13,7 @@ pub mod journals;
 pub mod limit;
 pub mod line;
 pub mod made;
+pub mod monitors;
 pub mod moods;
 pub mod odd_cases;
 pub mod process;

@@ -62,6 +62,13 @@ pub enum Action {
     All,
     /// The next step towards rows with many versions that such readers read.
     SettledRows,
+    /// An update begins, reads or commits, and never writes.
+    Monitor,
+    /// One that wrote nothing commits.
+    MonitorEnds,
+    /// A writer asks for what one only reads, and asks again when that is gone.
+    InItsWay,
+    GoesOn,
 }
 
 use Action::*;
@@ -93,6 +100,7 @@ pub const MIXED: Mood = (
         (SettledWrites, 1),
         (SettledEnds, 2),
         (QueryMeets, 2),
+        (MonitorEnds, 3),
     ],
 );
 const HOT: Mood = (
@@ -213,6 +221,7 @@ const SETTLED: Mood = (
         (QueryMeets, 16),
         (ReadAgain, 10),
         (UpdateMeets, 6),
+        (MonitorEnds, 6),
         (SettleRefused, 4),
         (Read, 6),
         (Write, 4),
@@ -244,6 +253,38 @@ const SETTLED_ROWS: Mood = (
         (SettledEnds, 1),
         (EndQuery, 1),
         (QueryMeets, 2),
+    ],
+);
+const MONITORS: Mood = (
+    8,
+    &[
+        (Monitor, 60),
+        (InItsWay, 10),
+        (GoesOn, 10),
+        (MonitorEnds, 4),
+        (Several, 20),
+        (SettledReads, 4),
+        (SettledEnds, 8),
+        (Write, 4),
+        (Retry, 2),
+        (CommitUpdate, 4),
+        (Query, 3),
+        (QueryRead, 3),
+        (QueryMeets, 3),
+        (EndQuery, 4),
+    ],
+);
+/// Nobody writes, so the clock stays.
+const IDLE: Mood = (
+    20,
+    &[
+        (Monitor, 60),
+        (Query, 4),
+        (QueryRead, 4),
+        (EndQuery, 4),
+        (SettledReads, 4),
+        (SettledEnds, 1),
+        (AbortUpdate, 1),
     ],
 );
 const CROWD: Mood = (
@@ -294,7 +335,7 @@ const DRAIN: Mood = (
 );
 
 /// Some moods are more fruitful than others.
-pub const MOODS: [Mood; 21] = [
+pub const MOODS: [Mood; 24] = [
     MIXED,
     MIXED,
     HOT,
@@ -313,6 +354,9 @@ pub const MOODS: [Mood; 21] = [
     SETTLED,
     ALL_SETTLED,
     SETTLED_ROWS,
+    MONITORS,
+    MONITORS,
+    IDLE,
     CROWD,
     REFUSED,
     DRAIN,

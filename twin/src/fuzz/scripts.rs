@@ -337,7 +337,9 @@ mod tests {
         assert!(stats.circles[2..].iter().all(|&count| count > 0));
         assert!(stats.circles[SLOTS] > 10);
         // All that those past their writing can do while the clock is not spent.
-        for (name, count) in stats.settled.in_scripts() {
+        // So of commits with nothing written.
+        let settled = stats.settled.in_scripts();
+        for (name, count) in settled.chain(stats.empty.in_scripts()) {
             assert!(count > 20, "{}: {}", name, count);
         }
         assert!(stats.settled.crowds().all(|(_, count)| count > 5));

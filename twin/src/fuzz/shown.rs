@@ -41,6 +41,7 @@ impl Stats {
             show(out, &format!("  {}", name), count)?;
         }
         self.settled.show(out, self.settled.in_scripts())?;
+        self.empty.show(out, self.empty.in_scripts())?;
         writeln!(out, "  new waits by length of the line")?;
         for (length, count) in self.in_line.lengths() {
             show(out, &format!("  {}", length), count)?;
@@ -72,6 +73,7 @@ impl Stats {
         }
         let settled = &self.case_settled;
         settled.show(out, settled.in_cases())?;
+        self.case_empty.show(out, self.case_empty.in_cases())?;
         writeln!(out, "  damages, and those of them answered 10")?;
         for ((name, _), &(count, bad)) in damage::KINDS.iter().zip(&self.damages) {
             writeln!(out, "    {:<40} {:>10} {:>10}", name, count, bad)?;

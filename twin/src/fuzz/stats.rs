@@ -1,7 +1,7 @@
 //! What occurred, counted.
 
 use super::scene::{Held, Scene, Txn};
-use super::{damage, fullness, in_line, journals, limit, odd_cases, settled, spoil};
+use super::{damage, empty, fullness, in_line, journals, limit, odd_cases, settled, spoil};
 use crate::answer::{code, Answer};
 use crate::clauses::Clause;
 use crate::keeper::{Call, Keeper};
@@ -68,6 +68,7 @@ pub struct Before {
     at_limit: Option<limit::Standing>,
     in_line: Option<in_line::Standing>,
     settled: Option<settled::Standing>,
+    empty: Option<empty::Standing>,
 }
 
 impl Before {
@@ -85,6 +86,7 @@ impl Before {
             at_limit: None,
             in_line: None,
             settled: caller.map(|txn| settled::Standing::of(&scene, &txn, call)),
+            empty: caller.and_then(|txn| empty::Standing::of(&scene, &txn, call)),
         };
         let item = match call {
             Call::Read { item, .. } | Call::Write { item, .. } => item,
@@ -118,6 +120,7 @@ pub struct Stats {
     pub(super) at_limit: limit::Counts,
     pub in_line: in_line::Counts,
     pub settled: settled::Counts,
+    pub empty: empty::Counts,
     pub looked: [u64; PLACES + 1],
     pub circles: [u64; SLOTS + 1],
     pub(super) full_rows: u64,
@@ -129,6 +132,7 @@ pub struct Stats {
     pub case_codes: [u64; code::NAMES.len()],
     pub fullness: fullness::Counts,
     pub case_settled: settled::Counts,
+    pub case_empty: empty::Counts,
     /// For each kind of odd case line: how many, and how many of them bad.
     pub(super) odd_cases: [(u64, u64); odd_cases::KINDS.len()],
     /// For each kind of damage: how many, and how many of them answered 10.
@@ -150,6 +154,7 @@ impl Stats {
             at_limit: limit::Counts::default(),
             in_line: in_line::Counts::default(),
             settled: settled::Counts::default(),
+            empty: empty::Counts::default(),
             looked: [0; PLACES + 1],
             circles: [0; SLOTS + 1],
             full_rows: 0,
@@ -160,6 +165,7 @@ impl Stats {
             case_codes: [0; code::NAMES.len()],
             fullness: fullness::Counts::default(),
             case_settled: settled::Counts::default(),
+            case_empty: empty::Counts::default(),
             odd_cases: [(0, 0); odd_cases::KINDS.len()],
             damages: [(0, 0); damage::KINDS.len()],
             clauses: [(0, 0); Clause::ALL.len()],
@@ -173,6 +179,7 @@ impl Stats {
         self.waited_value = [0; SLOTS];
         self.at_limit.new_script();
         self.settled.begin_anew();
+        self.empty.begin_anew();
     }
 
     pub fn before(&self, keeper: &Keeper, call: Call) -> Before {
@@ -210,6 +217,7 @@ impl Stats {
         if let Some(standing) = &before.settled {
             self.settled.see(call, standing, answer, after);
         }
+        self.empty.see(call, &txn, before.empty.as_ref(), answer);
         match (call, answer.code) {
             (Call::Read { .. }, code::GRANTED) => self.see_read(&txn, before, answer),
             // Of those past their writing the counts above tell.

@@ -21,8 +21,6 @@ pub enum WrongCall {
     KeepYounger,
     /// Rows are trimmed when written; a query's end frees nothing.
     NoTrim,
-    /// A commit that wrote nothing takes no stamp.
-    IdleStamp,
     /// The number of an aborted transaction is given again.
     NumberAgain,
     /// A granted write keeps the value it first waited with.
@@ -32,14 +30,13 @@ pub enum WrongCall {
 }
 
 impl WrongCall {
-    pub const ALL: [(&'static str, WrongCall); 10] = [
+    pub const ALL: [(&'static str, WrongCall); 9] = [
         ("late-snapshot", WrongCall::LateSnapshot),
         ("short-locks", WrongCall::ShortLocks),
         ("circles-of-two", WrongCall::CirclesOfTwo),
         ("own-lock", WrongCall::OwnLock),
         ("keep-younger", WrongCall::KeepYounger),
         ("no-trim", WrongCall::NoTrim),
-        ("idle-stamp", WrongCall::IdleStamp),
         ("number-again", WrongCall::NumberAgain),
         ("first-value", WrongCall::FirstValue),
         ("counted-writes", WrongCall::CountedWrites),
@@ -76,7 +73,6 @@ impl WrongKeeper {
             WrongCall::OwnLock => self.own_lock(call),
             WrongCall::KeepYounger => self.with_rows(call, keep_younger),
             WrongCall::NoTrim => self.with_rows(call, keep_unless_written),
-            WrongCall::IdleStamp => self.idle_stamp(call),
             WrongCall::NumberAgain => self.number_again(call),
             WrongCall::FirstValue => self.first_value(call),
             WrongCall::CountedWrites => self.counted_writes(call),
@@ -194,23 +190,6 @@ impl WrongKeeper {
             }
         }
         answer
-    }
-
-    fn idle_stamp(&mut self, call: Call) -> Answer {
-        let caller = self.caller(call);
-        if let (Call::Commit { number }, Some(slot)) = (call, caller) {
-            let mut view = self.view();
-            let holder = slot.as_holder();
-            let wrote = view
-                .locks
-                .chunks(LOCK_ROW)
-                .any(|row| row[EXCLUSIVE] == holder);
-            if view.is_writing(slot) && view.awaited(slot).is_none() && !wrote {
-                let _ = view.abort(number);
-                return Answer::numbered(view.clock().word());
-            }
-        }
-        self.right(call)
     }
 
     fn number_again(&mut self, call: Call) -> Answer {

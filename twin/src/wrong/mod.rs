@@ -4,6 +4,7 @@
 //! calls without the test of the tables and goes wrong around them.
 
 mod calls;
+mod empty;
 mod judges;
 mod lines;
 mod quota;
@@ -15,6 +16,7 @@ mod tests_of_few;
 mod waits;
 
 pub use calls::{WrongCall, WrongKeeper};
+pub use empty::WrongEmpty;
 pub use judges::WrongJudge;
 pub use lines::{run, WrongLine};
 pub use quota::WrongQuota;
@@ -95,6 +97,7 @@ pub enum WrongRunner {
     Quota(WrongQuota),
     Wait(WrongWait),
     Settled(WrongSettled),
+    Empty(WrongEmpty),
     Size(WrongSize),
     Line(WrongLine),
 }
@@ -106,6 +109,7 @@ impl WrongRunner {
             .or_else(|| named(&WrongQuota::ALL, name).map(WrongRunner::Quota))
             .or_else(|| named(&WrongWait::ALL, name).map(WrongRunner::Wait))
             .or_else(|| WrongSettled::shown(name).map(WrongRunner::Settled))
+            .or_else(|| WrongEmpty::shown(name).map(WrongRunner::Empty))
             .or_else(|| named(&WrongSize::ALL, name).map(WrongRunner::Size))
             .or_else(|| named(&WrongLine::ALL, name).map(WrongRunner::Line))
     }
@@ -116,6 +120,7 @@ impl WrongRunner {
             names(&WrongQuota::ALL),
             names(&WrongWait::ALL),
             WrongSettled::names_shown(),
+            WrongEmpty::names_shown(),
             names(&WrongSize::ALL),
             names(&WrongLine::ALL),
         ]
@@ -142,6 +147,12 @@ impl WrongRunner {
                 })
             }
             WrongRunner::Settled(kind) => {
+                let mut keeper = Keeper::fresh();
+                script::run(input, output, |call| {
+                    kind.call(&mut view(&mut keeper), call)
+                })
+            }
+            WrongRunner::Empty(kind) => {
                 let mut keeper = Keeper::fresh();
                 script::run(input, output, |call| {
                     kind.call(&mut view(&mut keeper), call)

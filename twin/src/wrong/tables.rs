@@ -8,7 +8,7 @@ use crate::sizes::*;
 use crate::view::View;
 
 use super::settled_ends::WrongSettledTest;
-use super::{WrongQuota, WrongSettled, WrongSize, WrongTest, WrongWait};
+use super::{WrongEmpty, WrongQuota, WrongSettled, WrongSize, WrongTest, WrongWait};
 
 /// A wrong treatment of tables.
 #[derive(Clone, Copy, Debug, PartialEq, Eq)]
@@ -33,6 +33,8 @@ pub enum WrongTables {
     Settled(WrongSettled),
     /// A wrong test of those past their writing.
     SettledTest(WrongSettledTest),
+    /// A wrong rule of commits with nothing written.
+    Empty(WrongEmpty),
     /// A wrong size.
     Size(WrongSize),
     /// A test of the tables for fewer slots or versions.
@@ -82,6 +84,7 @@ impl WrongTables {
             .or_else(|| super::named(&WrongWait::ALL, name).map(WrongTables::Wait))
             .or_else(|| super::named(&WrongSettled::ALL, name).map(WrongTables::Settled))
             .or_else(|| super::named(&WrongSettledTest::ALL, name).map(WrongTables::SettledTest))
+            .or_else(|| super::named(&WrongEmpty::ALL, name).map(WrongTables::Empty))
             .or_else(|| super::named(&WrongSize::ALL, name).map(WrongTables::Size))
             .or_else(|| super::named(&WrongTest::ALL, name).map(WrongTables::Test))
     }
@@ -94,6 +97,7 @@ impl WrongTables {
             super::names(&WrongWait::ALL),
             super::names(&WrongSettled::ALL),
             super::names(&WrongSettledTest::ALL),
+            super::names(&WrongEmpty::ALL),
             super::names(&WrongSize::ALL),
             super::names(&WrongTest::ALL),
         ]
@@ -128,6 +132,10 @@ impl WrongTables {
                 return on_view(tables, |view| kind.call(view, call));
             }
             (WrongTables::Settled(kind), code) if code != code::BAD_TABLES => {
+                *tables = before;
+                return on_view(tables, |view| kind.call(view, call));
+            }
+            (WrongTables::Empty(kind), code) if code != code::BAD_TABLES => {
                 *tables = before;
                 return on_view(tables, |view| kind.call(view, call));
             }
