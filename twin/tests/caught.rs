@@ -153,12 +153,19 @@ fn the_fuzzer_itself_tells() {
         "quota-33",
         "overtake",
         "settled-no-wait",
+        "empty-new-stamp",
         "slots-16",
     ] {
         let report = report_of("--runner", RUNNER, kind, OF_SCRIPTS);
         is_small(kind, &report);
     }
-    for kind in ["circle", "stale-rank", "settle-clock-first", "places-31"] {
+    for kind in [
+        "circle",
+        "stale-rank",
+        "settle-clock-first",
+        "empty-spent",
+        "places-31",
+    ] {
         let report = report_of("--tables", TABLES, kind, OF_TABLES);
         assert!(report.contains("smallest case found"), "{}", kind);
     }

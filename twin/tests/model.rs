@@ -18,6 +18,13 @@ struct Txn {
     awaits: Option<(bool, u64)>,
 }
 
+impl Txn {
+    /// Whether its commit is one of nothing.
+    fn is_empty(&self) -> bool {
+        self.start.is_none() && self.awaits.is_none() && self.written.is_empty()
+    }
+}
+
 #[derive(Default)]
 struct Model {
     last: u64,
@@ -44,6 +51,8 @@ impl Model {
                 Some(txn) if txn.awaits.is_some() => [6, 0, 0, 0],
                 Some(txn) if txn.is_settled => self.put(number, txn.start.unwrap()),
                 Some(txn) if txn.start.is_some() => self.end(number),
+                // With nothing written there is nothing to stamp.
+                Some(txn) if txn.written.is_empty() => self.put(number, self.clock),
                 Some(_) if self.clock == LAST => [9, 0, 0, 0],
                 Some(_) => {
                     self.clock += 1;
@@ -329,20 +338,31 @@ fn random_call(rng: &mut Rng, model: &Model, items: u64, greedy: bool) -> Call {
 #[test]
 fn every_answer_and_every_word() {
     let mut codes = [0; 13];
-    let mut silent = 0;
-    for seed in 0..50 {
+    let (mut silent, mut empty, mut empty_spent) = (0, 0, 0);
+    for seed in 0..60 {
         let mut rng = Rng::new(seed);
         let items = rng.one_of(&[1, 2, 4, 12, 64]);
         let greedy = items == 64 && rng.percent(70);
         let mut model = Model::default();
         let mut keeper = Keeper::fresh();
+        if seed >= 50 {
+            // The clock will soon be spent.
+            model.clock = LAST - rng.below(30);
+            keeper.txns[CLOCK] = model.clock;
+        }
         for _ in 0..2_000 {
             let call = random_call(&mut rng, &model, items, greedy);
+            let is_empty = match call {
+                Call::Commit { number } => model.live.get(&number).map_or(false, Txn::is_empty),
+                _ => false,
+            };
             let expected = model.call(call);
             let answer = keeper.call(call);
             assert_eq!(answer.words(), expected, "seed {}, {:?}", seed, call);
             assert!(keeper == model.tables(), "seed {}, {:?}", seed, call);
             codes[answer.code as usize] += 1;
+            empty += u64::from(is_empty);
+            empty_spent += u64::from(is_empty && model.clock == LAST);
 
             // Looked is at most 2 plus the live readers with a later start.
             let txn = call.number().and_then(|number| model.live.get(&number));
@@ -355,7 +375,9 @@ fn every_answer_and_every_word() {
         }
     }
     assert!(codes[..8].iter().all(|&count| count > 50), "{:?}", codes);
-    assert_eq!(codes[8..11], [0, 0, 0]);
+    assert_eq!((codes[8], codes[10]), (0, 0));
+    assert!(codes[9] > 50, "{:?}", codes);
     assert!(codes[11] > 50 && codes[12] > 50, "{:?}", codes);
     assert!(silent > 50, "{}", silent);
+    assert!(empty > 500 && empty_spent > 50, "{} {}", empty, empty_spent);
 }

@@ -33,7 +33,7 @@ fn no_call_asks_for_heap() {
     for round in 0..100 {
         let (first, item) = (keeper.txns[0] + 1, round % 64);
         let (second, query, third, fourth) = (first + 1, first + 2, first + 3, first + 4);
-        let value = round;
+        let (fifth, value) = (first + 5, round);
         let read = |number| Call::Read { number, item };
         let write = |number| Call::Write {
             number,
@@ -62,9 +62,12 @@ fn no_call_asks_for_heap() {
             write(fourth),
             Call::Commit { number: third },
             Call::Abort { number: fourth },
+            Call::Update,
+            read(fifth),
+            Call::Commit { number: fifth },
         ];
         let codes = [
-            0, 0, 0, 0, 0, 1, 2, 0, 0, 0, 0, 0, 0, 0, 0, 0, 0, 1, 12, 0, 0,
+            0, 0, 0, 0, 0, 1, 2, 0, 0, 0, 0, 0, 0, 0, 0, 0, 0, 1, 12, 0, 0, 0, 0, 0,
         ];
         for (call, code) in calls.into_iter().zip(codes) {
             assert_eq!(keeper.call(call).code, code);

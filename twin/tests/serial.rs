@@ -1,8 +1,9 @@
-//! Demand 3 with those past their writing (request E6): updates in the order of
-//! their stamps, each query behind the stamps up to its start; and what others do
-//! does not alter what a query is granted.
+//! Demand 3 with those past their writing (request E6) and commits of nothing (E7):
+//! updates in the order of their stamps, each query behind the stamps up to its
+//! start, each commit of nothing behind the stamps up to its number; and what others
+//! do does not alter what a query is granted.
 
-use std::collections::BTreeMap;
+use std::collections::{BTreeMap, BTreeSet};
 
 use twin::fuzz::director::Director;
 use twin::rng::Rng;
@@ -24,9 +25,13 @@ struct Run {
     logs: BTreeMap<u64, Log>,
     /// By stamp, what a committed update did.
     updates: BTreeMap<u64, Log>,
-    /// By start, what each query read.
+    /// The start of each query.
     queries: BTreeMap<u64, u64>,
+    /// What was answered to each commit of nothing.
+    empty: BTreeMap<u64, u64>,
+    settled: BTreeSet<u64>,
     out_of_order: u64,
+    behind_empty: u64,
 }
 
 impl Run {
@@ -39,16 +44,23 @@ impl Run {
         let mut add = |number: u64, deed: Deed| self.logs.entry(number).or_default().push(deed);
         match call {
             Call::Query => drop(self.queries.insert(answer.number, clock)),
+            Call::Settle { number } => drop(self.settled.insert(number)),
             Call::Read { number, item } => add(number, Deed::Read(item as usize, answer.value)),
             Call::Write {
                 number,
                 item,
                 value,
             } => add(number, Deed::Write(item as usize, value)),
+            Call::Commit { number } if self.is_empty(number) => {
+                assert_eq!((answer.number, keeper.txns[CLOCK]), (clock, clock));
+                self.empty.insert(number, clock);
+            }
             Call::Commit { number } if !self.queries.contains_key(&number) => {
                 let log = self.logs.remove(&number).unwrap_or_default();
                 let later = self.updates.range(answer.number..).next();
                 self.out_of_order += u64::from(later.is_some());
+                let is_behind = self.empty.values().any(|stamp| *stamp >= answer.number);
+                self.behind_empty += u64::from(is_behind);
                 let twice = self.updates.insert(answer.number, log);
                 assert!(twice.is_none(), "stamp {} twice", answer.number);
             }
@@ -59,16 +71,25 @@ impl Run {
         }
     }
 
+    /// Whether this is an update that was granted no write and did not settle.
+    fn is_empty(&self, number: u64) -> bool {
+        let log = self.logs.get(&number).map_or(&[][..], |log| log);
+        let wrote = log.iter().any(|deed| matches!(deed, Deed::Write(..)));
+        !wrote && !self.queries.contains_key(&number) && !self.settled.contains(&number)
+    }
+
     /// Everything once more, one after another, on an array.
     fn check(&self, keeper: &Keeper) {
         let mut array = [0; ITEMS];
-        let mut queries: Vec<(u64, u64)> = self.queries.iter().map(|(n, s)| (*s, *n)).collect();
-        queries.sort_unstable();
-        let mut queries = queries.into_iter().peekable();
+        // Those that write nothing stand behind a stamp, whenever they came.
+        let readers = self.queries.iter().chain(&self.empty);
+        let mut readers: Vec<(u64, u64)> = readers.map(|(n, s)| (*s, *n)).collect();
+        readers.sort_unstable();
+        let mut readers = readers.into_iter().peekable();
         let ends = [(u64::MAX, Log::new())];
         let all = self.updates.iter().map(|(stamp, log)| (*stamp, log));
         for (stamp, log) in all.chain(ends.iter().map(|(stamp, log)| (*stamp, log))) {
-            while let Some((_, number)) = queries.next_if(|(start, _)| *start < stamp) {
+            while let Some((_, number)) = readers.next_if(|(start, _)| *start < stamp) {
                 let log = self.logs.get(&number).map_or(&[][..], |log| log);
                 replay(log, &mut array, number);
             }
@@ -91,7 +112,7 @@ fn replay(log: &[Deed], array: &mut [u64; ITEMS], whose: u64) {
 
 #[test]
 fn by_stamp_every_granted_read_is_right() {
-    let mut out_of_order = 0;
+    let (mut out_of_order, mut empty, mut behind_empty) = (0, 0, 0);
     for seed in 0..60 {
         let mut rng = Rng::new(seed);
         let mut director = Director::new();
@@ -102,9 +123,15 @@ fn by_stamp_every_granted_read_is_right() {
         }
         run.check(&keeper);
         out_of_order += run.out_of_order;
+        behind_empty += run.behind_empty;
+        let reads = |number: &&u64| run.logs.contains_key(number);
+        empty += run.empty.keys().filter(reads).count();
     }
     // In the order of the commits it would be wrong.
     assert!(out_of_order > 200, "{}", out_of_order);
+    // Some read, and stand behind who commits later.
+    let both = empty > 1_000 && behind_empty > 200;
+    assert!(both, "{} {}", empty, behind_empty);
 }
 
 /// The numbers of those past their writing.

@@ -157,6 +157,7 @@ fn its_commit_takes_no_new_stamp() {
     // So it cannot be refused for want of one.
     let mut t = settled(2);
     t.0.txns[CLOCK] = LAST;
+    assert_eq!(t.write(2, Y, 6), GRANTED);
     assert_eq!(t.commit(2), CLOCK_SPENT);
     assert_eq!(t.commit(1), [0, 0, 1, 0]);
     assert_eq!((t.clock(), t.versions(X)), (LAST, vec![(1, 5)]));

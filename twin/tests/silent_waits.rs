@@ -34,6 +34,7 @@ fn a_query_waits_for_stamps_up_to_its_start() {
     t.waits_silently(3, X);
     // The start 2 is above it.
     assert_eq!(t.call(Call::Update), [0, 0, 4, 0]);
+    assert_eq!(t.write(4, Y, 6), GRANTED);
     assert_eq!(t.commit(4), [0, 0, 2, 0]);
     assert_eq!(t.call(Call::Query), [0, 0, 5, 0]);
     t.waits_silently(5, X);

@@ -90,7 +90,7 @@ fn f_who_waits_may_only_repeat_or_abort() {
     assert_eq!(t.read(2, X), STILL_WAITING);
     assert_eq!(t.write(2, Y, 5), STILL_WAITING);
     assert_eq!(t.commit(2), STILL_WAITING);
-    assert_eq!(t.commit(1), [0, 0, 1, 0]);
+    assert_eq!(t.commit(1), [0, 0, 0, 0]);
     assert_eq!(t.read(2, X), STILL_WAITING);
     assert_eq!(t.write(2, X, 6), GRANTED);
     assert_eq!(t.read(2, X), [0, 6, 0, 0]);
@@ -165,6 +165,7 @@ fn j_the_clock_is_spent() {
     t.0.txns[CLOCK] = LAST - 1;
     assert_eq!(t.call(Call::Update), [0, 0, 1, 0]);
     assert_eq!(t.call(Call::Query), [0, 0, 2, 0]);
+    assert_eq!(t.write(1, Y, 1), GRANTED);
     assert_eq!(t.commit(1), [0, 0, LAST, 0]);
 
     assert_eq!(t.call(Call::Update), [0, 0, 3, 0]);
@@ -182,6 +183,10 @@ fn j_the_clock_is_spent() {
     assert_eq!(t.read(5, X), WAIT);
     assert_eq!(t.commit(5), STILL_WAITING);
     assert_eq!(t.abort(3), GRANTED);
+
+    // Who wrote nothing takes no stamp.
+    assert_eq!(t.read(5, X), [0, 0, 0, 1]);
+    assert_eq!(t.commit(5), [0, 0, LAST, 0]);
 }
 
 #[test]
@@ -194,7 +199,7 @@ fn k_an_aborted_write_is_never_read() {
     assert_eq!(t.0.locks, [0; LOCK_WORDS]);
     assert_eq!(t.read(2, X), [0, 0, 0, 1]);
     assert_eq!(t.read(3, X), [0, 0, 0, 1]);
-    assert_eq!(t.commit(2), [0, 0, 1, 0]);
+    assert_eq!(t.commit(2), [0, 0, 0, 0]);
     assert_eq!(t.call(Call::Query), [0, 0, 4, 0]);
     assert_eq!(t.read(4, X), [0, 0, 0, 1]);
 }
@@ -217,7 +222,7 @@ fn m_the_numbers_are_spent() {
     assert_eq!(t.call(Call::Update), [0, 0, LAST, 0]);
     assert_eq!(t.call(Call::Update), NUMBERS_SPENT);
     assert_eq!(t.call(Call::Query), NUMBERS_SPENT);
-    assert_eq!(t.commit(LAST), [0, 0, 1, 0]);
+    assert_eq!(t.commit(LAST), [0, 0, 0, 0]);
     assert_eq!(t.call(Call::Query), NUMBERS_SPENT);
 
     let mut t = Trial::with_updates(32);
@@ -269,15 +274,4 @@ fn o_circles_of_every_length() {
         assert_eq!(t.abort(1), GRANTED);
         assert_eq!(t.read(length, 1), [0, 0, 0, 1]);
     }
-}
-
-#[test]
-fn a_commit_without_writes_takes_a_stamp() {
-    let mut t = Trial::with_updates(2);
-    assert_eq!(t.commit(1), [0, 0, 1, 0]);
-    assert_eq!(t.read(2, X), [0, 0, 0, 1]);
-    assert_eq!(t.commit(2), [0, 0, 2, 0]);
-    assert_eq!(t.count(X as usize), 1);
-    assert_eq!(t.call(Call::Query), [0, 0, 3, 0]);
-    assert_eq!(t.0.txns[TXN_HEAD + START], 2);
 }

@@ -16,6 +16,7 @@ use crate::clauses::{self, Clause};
 use crate::keeper::{Call, Keeper};
 use crate::protocol::{push_outcome, Case, Tables, BAD};
 use crate::rng::Rng;
+use crate::sizes::LAST;
 
 /// Cases of one run of the other program.
 const BATCH: usize = 300;
@@ -182,12 +183,14 @@ fn prepare(rng: &mut Rng, samples: &[Keeper], director: &mut Director) -> Prepar
 fn telling_call(rng: &mut Rng, tables: &Tables) -> Option<Call> {
     let keeper = tables.as_keeper().filter(Keeper::is_good)?;
     let scene = Scene::of(&keeper);
-    match rng.below(9) {
+    // A spent clock hinders few calls; commits are among them.
+    let chances = if scene.clock() == LAST { 16 } else { 10 };
+    match rng.below(chances) {
         0..=1 => jobs::at_limit(rng, &scene).or_else(|| waiters::telling(rng, &scene)),
         2 => waiters::telling(rng, &scene),
-        3..=5 => settling::telling(rng, &scene),
-        6..=7 => monitors::telling(rng, &scene),
-        _ => None,
+        3..=6 => settling::telling(rng, &scene),
+        7 => None,
+        _ => monitors::telling(rng, &scene),
     }
 }
 

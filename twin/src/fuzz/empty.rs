@@ -79,9 +79,7 @@ impl Standing {
         let clock = scene.clock();
         let wrote = scene.exclusives(txn) > 0;
         let is_let_in = |other: &Txn| {
-            !wrote
-                && matches!(other.awaits, Some((true, _)))
-                && scene.waits_for(other) == txn.bit()
+            !wrote && matches!(other.awaits, Some((true, _))) && scene.waits_for(other) == txn.bit()
         };
         Some(Standing {
             wrote,
@@ -168,10 +166,7 @@ impl Counts {
     }
 
     /// Each event's name, and how often it came, but for these.
-    fn each_but(
-        &self,
-        others: &'static [Event],
-    ) -> impl Iterator<Item = (&'static str, u64)> + '_ {
+    fn each_but(&self, others: &'static [Event]) -> impl Iterator<Item = (&'static str, u64)> + '_ {
         let is_other = move |at: usize| others.iter().any(|event| *event as usize == at);
         let all = EVENTS.into_iter().zip(self.events).enumerate();
         all.filter(move |(at, _)| !is_other(*at))

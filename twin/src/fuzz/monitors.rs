@@ -62,5 +62,5 @@ pub fn telling(rng: &mut Rng, scene: &Scene) -> Option<Call> {
             txn.awaits.is_some() && scene.exclusives(txn) == 0
         }),
     };
-    Some(commit(txn?))
+    Some(commit(txn.or_else(|| scene.pick(rng, Txn::is_idle))?))
 }

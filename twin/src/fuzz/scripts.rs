@@ -274,7 +274,7 @@ pub fn report(other: &dyn Other, input: &[u8], run: &Run) -> String {
     let head = &list[..at.min(list.len())];
     let mut list = if stays(head) { head.to_vec() } else { list };
     // Nor is what led to nothing that is left, or what most transactions did.
-    for recent in [1, 10, 30, 100, 300, 1000] {
+    for recent in [1, 10, 30, 100, 300, 1000, 2000, 4000, 8000] {
         let fewer = [false, true].map(|committed| of_the_living(&list, recent, committed));
         if let Some(fewer) = fewer.into_iter().find(|fewer| stays(fewer)) {
             list = fewer;

@@ -173,7 +173,8 @@ impl WrongEmpty {
         let is_own = |row: &[u64]| row[EXCLUSIVE] == slot.as_holder();
         let wrote = |like: &dyn Fn(usize) -> bool| rows().any(|(at, row)| is_own(row) && like(at));
         let value = |at: usize| view.locks[at * LOCK_ROW + WORKING];
-        let newest = |at: usize| row::newest(as_row(&view.versions[at * VERSION_ROW..][..VERSION_ROW]));
+        let newest =
+            |at: usize| row::newest(as_row(&view.versions[at * VERSION_ROW..][..VERSION_ROW]));
         match self {
             NewStamp => true,
             SharedWrites => wrote(&|_| true) || shares(view, slot),

@@ -6,6 +6,7 @@ mod ranks;
 mod settled;
 mod txns;
 mod versions;
+mod written;
 
 use crate::fuzz::line::{step_in, step_out};
 use crate::protocol::Tables;
@@ -18,12 +19,13 @@ use ranks::*;
 use settled::*;
 use txns::*;
 use versions::*;
+use written::*;
 
 /// Does its damage, or says that these tables give no occasion for it.
 pub type Damage = fn(&mut Rng, &mut Tables) -> bool;
 
 /// The kinds of damage by name. The first ones leave good tables good.
-pub const KINDS: [(&str, Damage); 66] = [
+pub const KINDS: [(&str, Damage); 68] = [
     ("none", |_, _| true),
     ("numbers or clock nearly spent", nearly_spent),
     ("32 held exclusively", |rng, t| holds(rng, t, QUOTA)),
@@ -41,6 +43,8 @@ pub const KINDS: [(&str, Damage); 66] = [
     ("past its writing, 32 held", |rng, t| {
         settled_holds(rng, t, QUOTA)
     }),
+    ("little or nothing written", little_written),
+    ("the same with the clock spent", little_written_spent),
     ("one word", one_word),
     ("some words", some_words),
     ("one size off by one", size_off_by_one),
@@ -150,9 +154,9 @@ pub const KINDS: [(&str, Damage); 66] = [
 ];
 
 /// How many of the kinds leave the tables good.
-pub const HARMLESS: usize = 9;
+pub const HARMLESS: usize = 11;
 /// How many come before the kinds that break one clause on purpose.
-pub const UNAIMED: usize = 11;
+pub const UNAIMED: usize = 13;
 
 fn set(word: &mut u64, value: u64) -> bool {
     *word = value;
