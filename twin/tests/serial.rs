@@ -78,12 +78,17 @@ impl Run {
         !wrote && !self.queries.contains_key(&number) && !self.settled.contains(&number)
     }
 
-    /// Everything once more, one after another, on an array.
-    fn check(&self, keeper: &Keeper) {
-        let mut array = [0; ITEMS];
+    /// Everything once more, one after another, on an array, with each commit of
+    /// nothing right behind this stamp. Tells who read something else.
+    fn again(&self, place: fn(u64) -> u64) -> (Vec<u64>, [u64; ITEMS]) {
+        let (mut wrong, mut array) = (Vec::new(), [0; ITEMS]);
         // Those that write nothing stand behind a stamp, whenever they came.
-        let readers = self.queries.iter().chain(&self.empty);
-        let mut readers: Vec<(u64, u64)> = readers.map(|(n, s)| (*s, *n)).collect();
+        let queries = self.queries.iter().map(|(number, start)| (*start, *number));
+        let empty = self
+            .empty
+            .iter()
+            .map(|(number, clock)| (place(*clock), *number));
+        let mut readers: Vec<(u64, u64)> = queries.chain(empty).collect();
         readers.sort_unstable();
         let mut readers = readers.into_iter().peekable();
         let ends = [(u64::MAX, Log::new())];
@@ -91,28 +96,38 @@ impl Run {
         for (stamp, log) in all.chain(ends.iter().map(|(stamp, log)| (*stamp, log))) {
             while let Some((_, number)) = readers.next_if(|(start, _)| *start < stamp) {
                 let log = self.logs.get(&number).map_or(&[][..], |log| log);
-                replay(log, &mut array, number);
+                wrong.extend(Some(number).filter(|_| !fits(log, &mut array)));
             }
-            replay(log, &mut array, stamp);
+            wrong.extend(Some(stamp).filter(|_| !fits(log, &mut array)));
         }
+        (wrong, array)
+    }
+
+    fn check(&self, keeper: &Keeper) {
+        let (wrong, array) = self.again(|clock| clock);
+        assert_eq!(wrong, [], "who read something else");
         for (item, row) in keeper.versions.chunks(VERSION_ROW).enumerate() {
             assert_eq!(row[2], array[item], "newest value of {}", item);
         }
     }
 }
 
-fn replay(log: &[Deed], array: &mut [u64; ITEMS], whose: u64) {
+/// Does it all, and tells whether every read gave what it gives now.
+fn fits(log: &[Deed], array: &mut [u64; ITEMS]) -> bool {
+    let mut fits = true;
     for deed in log {
         match *deed {
-            Deed::Read(item, value) => assert_eq!(array[item], value, "read by {}", whose),
+            Deed::Read(item, value) => fits &= array[item] == value,
             Deed::Write(item, value) => array[item] = value,
         }
     }
+    fits
 }
 
 #[test]
 fn by_stamp_every_granted_read_is_right() {
     let (mut out_of_order, mut empty, mut behind_empty) = (0, 0, 0);
+    let mut elsewhere = [0; 2];
     for seed in 0..60 {
         let mut rng = Rng::new(seed);
         let mut director = Director::new();
@@ -126,12 +141,16 @@ fn by_stamp_every_granted_read_is_right() {
         behind_empty += run.behind_empty;
         let reads = |number: &&u64| run.logs.contains_key(number);
         empty += run.empty.keys().filter(reads).count();
+        elsewhere[0] += run.again(|clock| clock.saturating_sub(1)).0.len();
+        elsewhere[1] += run.again(|clock| clock + 1).0.len();
     }
     // In the order of the commits it would be wrong.
     assert!(out_of_order > 200, "{}", out_of_order);
     // Some read, and stand behind who commits later.
     let both = empty > 1_000 && behind_empty > 200;
     assert!(both, "{} {}", empty, behind_empty);
+    // One place earlier or later would be wrong too.
+    assert!(elsewhere.iter().all(|&wrong| wrong > 50), "{:?}", elsewhere);
 }
 
 /// The numbers of those past their writing.

@@ -156,10 +156,10 @@ fn prepare(rng: &mut Rng, samples: &[Keeper], director: &mut Director) -> Prepar
         };
         let mut call = director.next(rng, &keeper);
         let mut tables = Tables::from(&keeper);
-        let kind = match rng.below(10) {
-            0..=1 => 0,
-            2..=3 => rng.index(damage::HARMLESS),
-            4..=5 => damage::HARMLESS + rng.index(damage::UNAIMED - damage::HARMLESS),
+        let kind = match rng.below(20) {
+            0..=3 => 0,
+            4..=8 => rng.index(damage::HARMLESS),
+            9..=11 => damage::HARMLESS + rng.index(damage::UNAIMED - damage::HARMLESS),
             _ => damage::UNAIMED + rng.index(damage::KINDS.len() - damage::UNAIMED),
         };
         let (_, damage): (_, Damage) = damage::KINDS[kind];
@@ -184,12 +184,12 @@ fn telling_call(rng: &mut Rng, tables: &Tables) -> Option<Call> {
     let keeper = tables.as_keeper().filter(Keeper::is_good)?;
     let scene = Scene::of(&keeper);
     // A spent clock hinders few calls; commits are among them.
-    let chances = if scene.clock() == LAST { 16 } else { 10 };
+    let chances = if scene.clock() == LAST { 17 } else { 11 };
     match rng.below(chances) {
-        0..=1 => jobs::at_limit(rng, &scene).or_else(|| waiters::telling(rng, &scene)),
-        2 => waiters::telling(rng, &scene),
-        3..=6 => settling::telling(rng, &scene),
-        7 => None,
+        0..=2 => jobs::at_limit(rng, &scene).or_else(|| waiters::telling(rng, &scene)),
+        3 => waiters::telling(rng, &scene),
+        4..=7 => settling::telling(rng, &scene),
+        8 => None,
         _ => monitors::telling(rng, &scene),
     }
 }

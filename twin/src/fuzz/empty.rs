@@ -186,7 +186,7 @@ impl Counts {
         out: &mut fmt::Formatter,
         events: impl Iterator<Item = (&'static str, u64)>,
     ) -> fmt::Result {
-        writeln!(out, "  commits with nothing written")?;
+        writeln!(out, "  commits of updates that wrote nothing")?;
         for (name, count) in events {
             show(out, &format!("  {}", name), count)?;
         }

@@ -218,6 +218,10 @@ pub fn telling(rng: &mut Rng, scene: &Scene) -> Option<Call> {
             false => end(rng, scene),
         };
     }
+    // Now and then the last that is writing settles.
+    if scene.count(is_settled) == SLOTS - 1 && rng.percent(30) {
+        return Some(settle(scene.pick(rng, Txn::is_idle)?));
+    }
     match rng.below(14) {
         0..=3 => read_by_settled(rng, scene, item),
         4..=5 => write_by_settled(rng, scene, item),
