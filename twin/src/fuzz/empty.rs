@@ -58,7 +58,8 @@ pub struct Standing {
     has_read: bool,
     clock: u64,
     has_older: bool,
-    /// Live numbers: who is past its writing, and who is writing.
+    /// Slots and numbers: who is past its writing with a stamp up to the clock, and
+    /// who is writing.
     settled: Vec<(usize, u64)>,
     writing: Vec<(usize, u64)>,
     has_newest: bool,
@@ -86,7 +87,7 @@ impl Standing {
             has_read: scene.holds_any(txn),
             clock,
             has_older: (0..ITEMS).any(|item| scene.version_count(item) > 1),
-            settled: list(&|other| other.is_settled),
+            settled: list(&|other| other.is_settled && other.start <= clock),
             writing: list(&|other| other.is_writing() && other.slot != txn.slot),
             has_newest: scene.count(|other| other.is_settled && other.start == clock) > 0,
             let_in: list(&is_let_in),
