@@ -15,7 +15,8 @@
  * by its start. keeper_settle ends an update's writing: past its writing it still holds what it
  * wrote, and reads by its stamp as a query does by its start. In its row of the transactions the
  * kind is 0 for an update, 1 for a query, 2 for an update past its writing, whose start is its
- * stamp. The clock, the second word of that table, is the stamp that was given last, by the commit
+ * stamp. The last two words of the row are a query's read count and weight sum, 0 for an update. The
+ * clock, the second word of that table, is the stamp that was given last, by the commit
  * of an update or by a settle. A query's start is the clock when it begins.
  *
  * Two kinds of waits, both answered KEEPER_WAIT.
@@ -51,7 +52,7 @@ extern "C" {
 #define KEEPER_ITEMS 64
 #define KEEPER_SLOTS 32
 #define KEEPER_QUOTA 32
-#define KEEPER_TXN_WORDS 194
+#define KEEPER_TXN_WORDS 258
 #define KEEPER_LOCK_WORDS 192
 #define KEEPER_VERSION_WORDS 4160
 
@@ -76,10 +77,11 @@ enum keeper_code {
 /* The four numbers of an answer; what a call does not name is 0. */
 struct keeper_answer {
     uint64_t code;   /* one of enum keeper_code */
-    uint64_t value;  /* what a granted read read */
+    uint64_t value;  /* what a granted read read; at a query's end the sum of the weights of its reads */
     uint64_t number; /* a begin's transaction number; the stamp of an update's commit, or of a settle; the
                       * clock at the commit of an update that wrote nothing */
-    uint64_t looked; /* the place of the version read, from 1; 0 for the own working value */
+    uint64_t looked; /* the place of the version read, from 1; 0 for the own working value; at a query's
+                      * end the count of its reads */
 };
 
 /* Fills the three tables fresh and answers true if their lengths are the three above; else
@@ -100,7 +102,9 @@ struct keeper_answer keeper_begin_query(uint64_t *txns, size_t txns_len, uint64_
                                         size_t locks_len, uint64_t *versions,
                                         size_t versions_len);
 
-/* Reads an item; the answer's value is what it holds for this transaction. Codes 0, 1, 2, 3, 4, 6,
+/* Reads an item; the answer's value is what it holds for this transaction. A query's granted read is
+ * counted in two words of its row, the count of its reads and the sum of their weights: the weight of
+ * a read is its looked, 1 for the newest version. Nobody else's is, nor a wait or a refusal. Codes 0, 1, 2, 3, 4, 6,
  * 10, of which a query and an update past its writing never get 2 and 6. To an update 1 changes its
  * awaited words and the ranks behind it alone, to the others no word; the codes but 0 and 1 change
  * none. */
@@ -119,14 +123,16 @@ struct keeper_answer keeper_write(uint64_t *txns, size_t txns_len, uint64_t *loc
 /* Commits an update: all that it wrote, under one stamp, which is the answer's number. That is a new
  * stamp; past its writing it is the one that its settle answered, and 9 never comes. An update that
  * has not settled and holds nothing exclusively takes no stamp and never gets 9: the answer's number
- * is the clock, 0 as long as no stamp was given. Ends a query; the number is 0. Codes 0, 3, 6, 9, 10;
- * all but 0 change no word. */
+ * is the clock, 0 as long as no stamp was given. Ends a query; the number is 0, the value is the sum
+ * of the weights of its reads and looked is their count, each held at 4294967295 once there. The
+ * quotient is its weighted reading: how old what it read was, 1 if all was the newest. Codes 0, 3, 6,
+ * 9, 10; all but 0 change no word. */
 struct keeper_answer keeper_commit(uint64_t *txns, size_t txns_len, uint64_t *locks,
                                    size_t locks_len, uint64_t *versions, size_t versions_len,
                                    uint64_t number);
 
 /* Aborts an update, waiting or not, past its writing or not: nothing that it wrote is ever read.
- * Ends a query. Codes 0, 3, 10; all but 0 change no word. */
+ * Ends a query, and answers as its commit does. Codes 0, 3, 10; all but 0 change no word. */
 struct keeper_answer keeper_abort(uint64_t *txns, size_t txns_len, uint64_t *locks,
                                   size_t locks_len, uint64_t *versions, size_t versions_len,
                                   uint64_t number);

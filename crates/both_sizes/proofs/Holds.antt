@@ -9,7 +9,7 @@ use Rattle.rules.proofs.Keeps.{keeps}
 use Rattle.rules.proofs.Answered.{code-exactly}
 use Rattle.rules.proofs.Outcomes.{granted-changes}
 use Rattle.rules.proofs.Queries.{start-read, ended-trims, committed-trims, settled-trims}
-use Rattle.history.proofs.Demand.{demand-3-sizes, reads-sizes, beside-sizes}
+use Rattle.history.proofs.Demand.{demand-3-sizes, reads-sizes, beside-sizes, weighed-sizes}
 use Rattle.line.proofs.Served.{served-in-runs}
 use Rattle.plays.specs.Plays.{AllPass}
 use Rattle.starred.specs.Trials.{trials}
@@ -37,6 +37,7 @@ facts S e =
       asBegun = reads-sizes S (e .places) (e .room);
       beside = beside-sizes S (e .places) (e .room) .0;
       ended = beside-sizes S (e .places) (e .room) .1;
+      weighed = weighed-sizes S (e .places) (e .room);
       served = served-in-runs S (e .places) (e .room);
     }
 

@@ -11,6 +11,7 @@ use Rattle.rules.specs.Promises.{CodeExactly, StaysGood, GrantedChanges, StartR
 use Rattle.history.specs.Serial.{Serializes}
 use Rattle.history.specs.Undisturbed.{ReadsAsBegun, Undisturbed}
 use Rattle.history.specs.Ended.{EndedForEver}
+use Rattle.history.specs.Weighed.{EndWeighs}
 use Rattle.history.specs.Beside.{Beside}
 use Rattle.line.specs.Served.{ServedInRuns}
 
@@ -42,5 +43,7 @@ pub record Facts (S : Sizes) : Type 0 where
   pub asBegun : ReadsAsBegun S
   pub beside : (cs : List Call) → Beside S cs
   pub ended : EndedForEver S
+  -- request E8: what a query's end answers
+  pub weighed : EndWeighs S
   -- request E4: who waits in line is served
   pub served : ServedInRuns S

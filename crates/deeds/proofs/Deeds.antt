@@ -15,7 +15,7 @@ use Rattle.rules.specs.Waits.{noted, closedUp}
 use Rattle.rules.specs.Versions.{versionsOf, newest, place, choice, rewritten}
 use Rattle.rules.specs.Good.{Good}
 use Rattle.rules.specs.Answers.{Outcome, outcome, Wait, Deed, Waits, Begins, ReadsByStart, ReadsOwn, ReadsNewest, TakesShared, Replaces, TakesExclusive, Commits, CommitsEmpty, Ends, Aborts, Settles, CommitsSettled, AbortsSettled}
-use Rattle.rules.specs.Step.{done, begun, cleared, locked, replaced, sharedToo, taken, queryRead, withNew, committed, committedUnder, ended, aborted, settled, settledCommitted, settledAborted}
+use Rattle.rules.specs.Step.{done, begun, counted, cleared, locked, replaced, sharedToo, taken, queryRead, withNew, committed, committedUnder, ended, aborted, settled, settledCommitted, settledAborted}
 use Rattle.ranks.specs.Lines.{RanksSmall}
 use Rattle.ranks.proofs.Ranks.{ranks-small}
 use Rattle.choices.proofs.Handed.{good-least}
@@ -49,10 +49,11 @@ module _ (t l v : List ℕ) where
   waits-done s k x et er = rw (er, et)
 
   pub start-done :
-      (s : Slot) (x : Item) {q w j : ℕ} {r : Answer} → q ≡ (txn t (s .0)) .start → w ≡ (choice q (versionsOf base v (x .0))) .value
-      → j ≡ suc (place q (versionsOf base v (x .0))) → r ≡ found w j → outcome r t l v ≡ done base (ReadsByStart s x) (tables t l v)
+      (s : Slot) (x : Item) {q w j : ℕ} {r : Answer} {t′ : List ℕ} → q ≡ (txn t (s .0)) .start → w ≡ (choice q (versionsOf base v (x .0))) .value
+      → j ≡ suc (place q (versionsOf base v (x .0))) → t′ ≡ counted t (s .0) j → r ≡ found w j
+      → outcome r t′ l v ≡ done base (ReadsByStart s x) (tables t l v)
   unfolding done queryRead
-  start-done s x eq ew ej er = rw (er, ew, ej, eq)
+  start-done s x eq ew ej et er = rw (er, et, ew, ej, eq)
 
   pub own-done :
       (s : Slot) (x : Item) {w : ℕ} {r : Answer} {t′ : List ℕ} → t′ ≡ cleared base t (s .0) → w ≡ (lock l (x .0)) .working → r ≡ found w 0
@@ -85,10 +86,11 @@ module _ (t l v : List ℕ) where
 
   pub ends-done :
       (s : Slot) {r : Answer} {t′ v′ : List ℕ} → t′ ≡ setTxn t (s .0) noTxn
-      → v′ ≡ rewritten base (starts base (setTxn t (s .0) noTxn)) (λ x vs. vs) v → r ≡ plain
+      → v′ ≡ rewritten base (starts base (setTxn t (s .0) noTxn)) (λ x vs. vs) v
+      → {n w : ℕ} → n ≡ (txn t (s .0)) .readCount → w ≡ (txn t (s .0)) .weightSum → r ≡ found w n
       → outcome r t′ l v′ ≡ done base (Ends s) (tables t l v)
   unfolding done ended
-  ends-done s et ev er = rw (er, et, ev)
+  ends-done s et ev en ew er = rw (er, et, ev, en, ew)
 
   pub commits-done :
       (s : Slot) {c : ℕ} {r : Answer} {t′ l′ v′ : List ℕ} → c ≡ clock t + 1 → t′ ≡ setTxn (set t clockAt c) (s .0) noTxn → l′ ≡ release base (s .0) l

@@ -14,13 +14,16 @@ ghost use Rattle.rules.specs.Answers.{outcome, Commits, Ends};
 ghost use Rattle.rules.specs.Step.{done};
 ghost use Rattle.deeds.specs.Asked.{Trimmed};
 
-// A query ends: its row goes, and the versions go that none but it read.
+// A query ends: its row goes, and the versions go that none but it read. Answered are the sum of the
+// weights of its reads, and their count.
 pub fn ends(txns: &mut [u64], versions: &mut [u64], slot: Slot) -> Answer
     requires { ⌜ Trimmed (now txns) (now versions) × (slot .0 < base .slots) × T (liveQuery (txn (now txns) (slot .0))) ⌝ }
     ensures { λ r. ⌜ ((l : List ℕ) → outcome r (now (txns .exit)) l (now (versions .exit)) ≡ done base (Ends slot) (tables (now (txns .entry)) l (now (versions .entry)))) ⌝ }
 {
+    let reads = rows::read_count(&txns[..], slot);
+    let weights = rows::weight_sum(&txns[..], slot);
     let _left = leaves(txns, versions, slot);
-    Answer::granted()
+    Answer::found(weights, reads)
 }
 
 // An update commits under the stamp after the clock: its working values become versions, its locks

@@ -25,7 +25,7 @@ pub fn done(deed: Deed, txns: &mut [u64], locks: &mut [u64], versions: &mut [u64
         Deed::Refused(why) => Answer::refused(why),
         Deed::Waits(slot, lock, item) => begins::waits(txns, &locks[..], slot, lock, item),
         Deed::Begins(slot, kind, start) => begins::begins(txns, slot, kind, start),
-        Deed::ReadsByStart(slot, item) => reads::by_start(&txns[..], &versions[..], slot, item),
+        Deed::ReadsByStart(slot, item) => reads::by_start(txns, &versions[..], slot, item),
         Deed::ReadsOwn(slot, item) => reads::own(txns, &locks[..], slot, item),
         Deed::ReadsNewest(slot, item) => reads::newest(txns, &versions[..], slot, item),
         Deed::TakesShared(slot, item) => {

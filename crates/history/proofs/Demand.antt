@@ -8,12 +8,14 @@ use Rattle.rules.specs.Answers.{Call}
 use Rattle.history.specs.Serial.{Serializes}
 use Rattle.history.specs.Undisturbed.{ReadsAsBegun, Undisturbed}
 use Rattle.history.specs.Ended.{EndedForEver}
+use Rattle.history.specs.Weighed.{EndWeighs}
 use Rattle.history.specs.Beside.{Beside}
 use Rattle.history.proofs.Theorem.{serializes}
 use Rattle.history.proofs.Query.{reads-as-begun, undisturbed}
 use Rattle.history.proofs.Happens.{run-good}
 use Rattle.history.proofs.Ended.{run-never-bad, ended-for-ever}
 use Rattle.history.proofs.Numbers.{upward}
+use Rattle.history.proofs.Weighed.{end-weighs}
 
 -- ---- of all sizes
 module _ (S : Sizes) (enough : S .slots ≤ S .places) (room : 1 ≤ S .places) where
@@ -34,6 +36,9 @@ module _ (S : Sizes) (enough : S .slots ≤ S .places) (room : 1 ≤ S .places) 
     ended-for-ever S enough room,
   )
 
+  pub weighed-sizes : EndWeighs S
+  weighed-sizes = end-weighs S enough room
+
 -- ---- of the appliance's
 pub demand-3 : ((cs : List Call) → Serializes base cs) × Undisturbed base
 demand-3 = demand-3-sizes base (omega arith) (omega arith)
@@ -44,3 +49,7 @@ demand-2-query = reads-sizes base (omega arith) (omega arith)
 
 pub demand-3-beside : ((cs : List Call) → Beside base cs) × EndedForEver base
 demand-3-beside = beside-sizes base (omega arith) (omega arith)
+
+-- request E8: "A query's commit or abort answers the sum as value and the count as looked"
+pub weighed : EndWeighs base
+weighed = weighed-sizes base (omega arith) (omega arith)

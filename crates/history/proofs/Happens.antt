@@ -16,6 +16,7 @@ use Rattle.rules.specs.Tables.{Tables, clock, txn, live, anUpdate, aQuery, fres
 use Rattle.rules.specs.Good.{Good}
 use Rattle.rules.specs.Answers.{Call, Commit, Outcome, says, granted, refuses, code, Refusal, BadTables, Deed, Wait}
 use Rattle.rules.specs.Step.{queryRead, committed, settledCommitted, aborted, judged, done, act, step}
+use Rattle.rules.specs.Changed.{lookedAt}
 use Rattle.rules.proofs.Tests.{is-true, is-false, eq-make}
 use Rattle.rules.proofs.Steps.{acts}
 use Rattle.rules.proofs.EqualRows.{live-number, update-live, query-live, settled-live}
@@ -129,7 +130,7 @@ module _ (S : Sizes) (enough : S .slots ≤ S .places) (G : Tables) (g : Good S 
   happens c d (readNewest n s x U h) = plainly c _ _ refl (newest-turn S G g n s x (U .caller) (U .known) (U .update) h) (λ u w. refl)
   happens c d (readShared n s x U h f) = plainly c _ _ refl (shared-turn S G g n s x (U .caller) (U .known) (U .update) f) (λ u w. refl)
   happens c d (readSettled n s x C p b h) = plainly c _ _ refl (past-turn S G g n s x C b p h) (λ u w. refl)
-  happens c d (readByStart n s x C q b own free) = plainly c _ _ refl (start-read-turn S G g n s x C q b own free) (λ u w. refl)
+  happens c d (readByStart n s x C q b own free) = plainly c _ _ refl (start-read-turn S G g n s x (lookedAt S G s x) C q b own free) (λ u w. refl)
   happens c d (wroteOwn n s x v U h) = plainly c _ _ refl (own-write-turn S G g n s x (U .caller) (U .known) (U .update) v h) (λ u w. refl)
   happens c d (wroteSettled n s x v C p b h) = plainly c _ _ refl (past-write-turn S G g n s x C b v p h) (λ u w. refl)
   happens c d (wroteTaken n s x v U h alone q) = plainly c _ _ refl (taken-turn S G g n s x (U .caller) (U .known) (U .update) v alone) (λ u w. refl)

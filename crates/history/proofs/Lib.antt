@@ -23,6 +23,7 @@ pub mod Theorem
 pub mod Standing
 pub mod Replies
 pub mod Ended
+pub mod Weighed
 pub mod Stamps
 pub mod Numbers
 pub mod Reading

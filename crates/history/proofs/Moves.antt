@@ -16,7 +16,7 @@ use Rattle.rules.specs.Versions.{newest}
 use Rattle.rules.specs.Waits.{noted}
 use Rattle.rules.specs.Good.{Good}
 use Rattle.rules.specs.Answers.{Call}
-use Rattle.rules.specs.Step.{withTxns, begun, cleared, locked, replaced, sharedToo, taken, holdsBack, heldBack}
+use Rattle.rules.specs.Step.{withTxns, begun, counted, cleared, locked, replaced, sharedToo, taken, holdsBack, heldBack}
 use Rattle.rules.proofs.Tests.{or-left, or-right, and-both, ne-make, is-true, is-false, true-is, false-is, same?}
 use Rattle.rules.proofs.Counts.{→someBelow}
 use Rattle.rules.proofs.Bits.{withBit-here}
@@ -27,7 +27,7 @@ use Rattle.rules.proofs.Decisions.{never-both}
 use Rattle.history.specs.Happened.{got, put, Happening, updateBegan, queryBegan, accessed, nothing}
 use Rattle.history.proofs.Invariant.{Row, Sees}
 use Rattle.history.proofs.Turns.{Same, New, byLock, byOwn, byStart as by-start, Turn, quiet, updateBegins, queryBegins, reads, writes}
-use Rattle.history.proofs.Tables.{same-row, Quiet, noted-quiet, cleared-quiet, begun-here, begun-there, begun-last, begun-clock}
+use Rattle.history.proofs.Tables.{same-row, Quiet, noted-quiet, counted-quiet, cleared-quiet, begun-here, begun-there, begun-last, begun-clock}
 use Rattle.history.proofs.Tables.{SameHold, same-hold, shared-hold, replaced-hold, taken-hold}
 use Rattle.history.proofs.Leaving.{readAt, reads-newest}
 use Rattle.history.proofs.Seen.{seen, row-by, locks-by, sees-by}
@@ -66,7 +66,7 @@ module _ (S : Sizes) (G : Tables) (g : Good S G) where
   pub refused-turn : {c : Call} → TurnTo G c nothing
   refused-turn = quiet unchanged
 
-  -- ---- the awaited fields are not seen
+  -- ---- the awaited fields are not seen, nor what is counted of reads
   module _ (t′ : List ℕ) (q : Quiet t t′) (l′ : List ℕ) where
     abbrev G₁ : Tables
     G₁ = tables t′ l′ v
@@ -91,14 +91,14 @@ module _ (S : Sizes) (G : Tables) (g : Good S G) where
   pub wait-turn : {c : Call} (s k x : ℕ) → s < S .slots → TurnTo (withTxns G (noted S t l s k x)) c nothing
   wait-turn s k x i = quiet (awaited-same (noted S t l s k x) (noted-quiet S t (g .txnsExact) s i l k x) l still)
 
-  -- ---- a read by a start
+  -- ---- a read by a start, which looks at k versions
   pub start-read-turn :
-      {c : Call} (n s x : ℕ) → Caller S G n s → T (byStart (txn t s)) → x < S .items → (T (holdsExclusive (lock l x) s) → ⊥)
-      → heldBack S t l x s ≡ false → TurnTo G c (accessed n (got x (readAt S v ((txn t s) .start) x)))
+      {c : Call} (n s x k : ℕ) → Caller S G n s → T (byStart (txn t s)) → x < S .items → (T (holdsExclusive (lock l x) s) → ⊥)
+      → heldBack S t l x s ≡ false → TurnTo (withTxns G (counted t s k)) c (accessed n (got x (readAt S v ((txn t s) .start) x)))
   unfolding heldBack holdsBack
-  start-read-turn n s x C q b own free =
+  start-read-turn n s x k C q b own free =
       let z = reader-live (txn t s) q in
-      reads n s x _ (C .name) b unchanged (by-start ((C .inside, z .0), z .1) (λ r a m w. other r a m w (same? r s)) refl)
+      reads n s x _ (C .name) b (awaited-same (counted t s k) (counted-quiet S t (g .txnsExact) s (C .inside) k) l still) (by-start ((C .inside, z .0), z .1) (λ r a m w. other r a m w (same? r s)) refl)
     where
       other :
           (r : ℕ) → ((r < S .slots) × T (live (txn t r))) × ((txn t r) .kind ≡ aSettled) → (txn t r) .start ≤ (txn t s) .start

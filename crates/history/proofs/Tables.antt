@@ -17,10 +17,11 @@ use Rattle.rules.specs.Versions.{noVersion, pairs, versionsIn, versionsOf, newe
 use Rattle.rules.specs.Waits.{awaitsOn, rankFor, raised, noted, closedUp}
 use Rattle.rules.specs.Good.{Good}
 use Rattle.rules.specs.Changed.{leaving}
-use Rattle.rules.specs.Step.{sharedToo, replaced, taken, begun, cleared}
+use Rattle.rules.specs.Step.{sharedToo, replaced, taken, begun, counted, cleared}
 use Rattle.rules.proofs.Tests.{or-cases, or-left, or-right, is-false, true-is, false-is, same?}
 use Rattle.rules.proofs.Bits.{withBit-here, withBit-there, withoutBit-there}
 use Rattle.rules.proofs.Views.{awaiting, lastNumber-setTxn, clock-setTxn, txn-setTxn, txn-setTxn-other, txn-top, lock-release}
+use Rattle.rules.proofs.Counting.{counted-same, counted-last, counted-clock}
 use Rattle.rules.proofs.Noting.{noted-known, noted-last, noted-clock, noted-there, noted-out, noted-here, closed-row, closed-out}
 use Rattle.rules.proofs.Waited.{cleared-last, cleared-clock, cleared-here, cleared-as-closed}
 use Rattle.rules.proofs.Decisions.{exclusive-one}
@@ -41,7 +42,7 @@ same-but-rank p e = record { number-is = ap (λ (o : Txn). o .number) e; kind-is
 same-but-wait : {t t′ : List ℕ} {r : ℕ} (k x p : ℕ) → txn t′ r ≡ awaiting (txn t r) k x p → SameRow t t′ r
 same-but-wait k x p e = record { number-is = ap (λ (o : Txn). o .number) e; kind-is = ap (λ (o : Txn). o .kind) e; start-is = ap (λ (o : Txn). o .start) e }
 
--- ---- a wait is noted or cleared: nothing of this is seen
+-- ---- a wait is noted or cleared, a read is counted: nothing of this is seen
 pub record Quiet (t t′ : List ℕ) : Type 0 where
   pub rows : (r : ℕ) → SameRow t t′ r
   pub last : lastNumber t′ ≡ lastNumber t
@@ -71,6 +72,20 @@ module _ (S : Sizes) (t : List ℕ) (size : length t ≡ txnWords S) (s : ℕ) (
             last = noted-last S t l s k x (false-is e);
             clock-is = noted-clock S t l s k x (false-is e);
           }
+
+  -- request E8
+  pub counted-quiet : (k : ℕ) → Quiet t (counted t s k)
+  counted-quiet k =
+      record {
+        rows = λ r.
+            record {
+              number-is = counted-same t s k S size inside (λ (o : Txn). o .number) (λ o n w. refl) r;
+              kind-is = counted-same t s k S size inside (λ (o : Txn). o .kind) (λ o n w. refl) r;
+              start-is = counted-same t s k S size inside (λ (o : Txn). o .start) (λ o n w. refl) r;
+            };
+        last = counted-last t s k;
+        clock-is = counted-clock t s k;
+      }
 
   closed-same : (r : ℕ) → (r < S .slots) ⊎ (S .slots ≤ r) → SameRow t (closedUp S t s) r
   closed-same r (inl i) = same-but-rank (leaving t s (txn t r)) (closed-row S t s size r i)

@@ -1,7 +1,8 @@
 -- "a query reads the newest version committed when it began"; "Calls by others after a query began never alter the numbers it reads."
 -- Since request E6 "Demand 2's query reads the newest version stamped up to its start", which one past its writing when the query began
 -- may still commit, and demand 3's last sentence "now speaks of granted reads, and supposes that each transaction past its writing when
--- the query began, if it commits in either run, commits in both with the same values."
+-- the query began, if it commits in either run, commits in both with the same values." Request E8: it "covers reads only"; what a query's
+-- end answers goes by the places of the versions that it read (Weighed), and others' commits move these.
 use Prim.Native.Nat.{ℕ, _<_}
 use mathlib.Core.Bool.{Bool, false, _||_, cond}
 use mathlib.Core.List.{List, [], _∷_, _++_}

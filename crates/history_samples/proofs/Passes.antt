@@ -7,12 +7,14 @@ use mathlib.Core.Path.{_≡_, refl, sym, ap, subst, _∙_}
 use lib.Dec.{T}
 use native.Mathlib.Omega.{arith}
 use Rattle.names.specs.Sizes.{base}
+use Rattle.names.specs.Answers.{plain, found}
+use Rattle.names.specs.Words.{heldAtLast}
 use Rattle.rules.specs.Words.{implies, everyBelow, someBelow, countBelow, firstFrom, every, some, tabulateFrom, row, everyRow, mapRows, bit, withBit, withoutBit}
-use Rattle.rules.specs.Tables.{txn, setTxn, setAwaited, reranked, live, liveUpdate, liveQuery, liveSettled, mayHold, byStart, slotOf, freeSlot, startsFrom, starts, lock, setLock, holdsShared, holdsExclusive, holds, exclusivesOf, released, release, unshare, fresh}
+use Rattle.rules.specs.Tables.{txn, setTxn, setAwaited, setReads, reranked, live, liveUpdate, liveQuery, liveSettled, mayHold, byStart, slotOf, freeSlot, startsFrom, starts, lock, setLock, holdsShared, holdsExclusive, holds, exclusivesOf, released, release, unshare, fresh}
 use Rattle.rules.specs.Versions.{pairs, versionsIn, versionsOf, pairWords, rowOf, stampAt, newest, place, choice, readBySome, keptFrom, kept, rewritten}
 use Rattle.rules.specs.Waits.{awaits, awaitsOn, waitersOn, exchangersOn, rankFor, raised, lowered, noted, closedUp, conflicts, ahead, blocks, blocked, waitsFor, marked, spread, rounds, reached, circleAt, noCircle}
 use Rattle.rules.specs.Locks.{heldBy, decide, anotherShares, anotherExcludes, anotherAhead, decision}
-use Rattle.rules.specs.Step.{begun, beginBy, conflicted, cleared, locked, cellDeed, access, awaitsOther, writesFurther, holdsBack, heldBack, startRead, writesPast, queryRead, readBy, writeBy, withNew, committedUnder, committed, settledCommitted, ended, commitUpdate, commitBy, aborted, settledAborted, settled, abortBy, settleBy, judged, done, act}
+use Rattle.rules.specs.Step.{begun, beginBy, conflicted, cleared, locked, cellDeed, access, awaitsOther, writesFurther, holdsBack, heldBack, startRead, writesPast, counted, queryRead, readBy, writeBy, withNew, committedUnder, committed, settledCommitted, ended, commitUpdate, commitBy, aborted, settledAborted, settled, abortBy, settleBy, judged, done, act}
 use Rattle.rules.specs.Answers.{Call, BeginQuery}
 use Rattle.rules.specs.Tables.{Tables}
 use Rattle.rules.proofs.Fresh.{fresh-good}
@@ -21,12 +23,12 @@ use Rattle.history.specs.Happened.{got, put, Happening, emptyCommitted, onlyEnd
 use Rattle.history.specs.Serial.{zeros, agrees, final, accessOf, grantedTo, placeOf, insert, insertAll, entriesFrom, numbersOf, order, oneByOne, serial}
 use Rattle.history.proofs.Played.{played, playedEnd, run-played, end-played}
 use Rattle.history_samples.specs.Samples.{serializes, runPasses, mixed, pastWriting, withoutStamp, settledLater, settledSooner, byClock, agreesIn, emptyUpdate, endedQuery, stored, lateSnapshot, timelySnapshot, lostUpdate, keptUpdate, dirtyRead, hasty, patient}
-use Rattle.history_samples.specs.Samples.{quietly, among, undisturbed, settledBefore, thenCommits, thenAborts, thenRewrites, updateAlone, updateAfter, readsAlone, readsAfter}
+use Rattle.history_samples.specs.Samples.{endsMoved, endsUnmoved, lastAnswer, quietly, among, undisturbed, settledBefore, thenCommits, thenAborts, thenRewrites, updateAlone, updateAfter, readsAlone, readsAfter}
 
 -- what happens in a run from fresh tables, as it is computed: whoever unfolds this computes with all the rules and with the definitions of
 -- demand 3
 unfoldable computed : List Call → List Event
-unfolding played playedEnd names did told happened begunWith happeningsAfter allOf agrees final accessOf grantedTo clockAfter placeOf insert insertAll entriesFrom numbersOf order oneByOne serial serializes agreesIn implies everyBelow someBelow countBelow firstFrom every some tabulateFrom row everyRow mapRows bit withBit withoutBit txn setTxn setAwaited reranked live liveUpdate liveQuery liveSettled mayHold byStart slotOf freeSlot startsFrom starts lock setLock holdsShared holdsExclusive holds exclusivesOf released release unshare fresh pairs versionsIn versionsOf pairWords rowOf stampAt newest place choice readBySome keptFrom kept rewritten awaits awaitsOn waitersOn exchangersOn rankFor raised lowered noted closedUp conflicts ahead blocks blocked waitsFor marked spread rounds reached circleAt noCircle heldBy decide anotherShares anotherExcludes anotherAhead decision begun beginBy conflicted cleared locked cellDeed access awaitsOther writesFurther holdsBack heldBack startRead writesPast queryRead readBy writeBy withNew committedUnder committed settledCommitted ended commitUpdate commitBy aborted settledAborted settled abortBy settleBy judged done act
+unfolding played playedEnd names did told happened begunWith happeningsAfter allOf agrees final accessOf grantedTo clockAfter placeOf insert insertAll entriesFrom numbersOf order oneByOne serial serializes agreesIn implies everyBelow someBelow countBelow firstFrom every some tabulateFrom row everyRow mapRows bit withBit withoutBit txn setTxn setAwaited setReads reranked live liveUpdate liveQuery liveSettled mayHold byStart slotOf freeSlot startsFrom starts lock setLock holdsShared holdsExclusive holds exclusivesOf released release unshare fresh pairs versionsIn versionsOf pairWords rowOf stampAt newest place choice readBySome keptFrom kept rewritten awaits awaitsOn waitersOn exchangersOn rankFor raised lowered noted closedUp conflicts ahead blocks blocked waitsFor marked spread rounds reached circleAt noCircle heldBy decide anotherShares anotherExcludes anotherAhead decision begun beginBy conflicted cleared locked cellDeed access awaitsOther writesFurther holdsBack heldBack startRead writesPast heldAtLast counted queryRead readBy writeBy withNew committedUnder committed settledCommitted ended commitUpdate commitBy aborted settledAborted settled abortBy settleBy judged done act
 computed cs = played base cs (fresh base)
 
 abbrev playedHappenings : List Call → List Happening
@@ -174,6 +176,20 @@ query-alone = reads-so 1 (BeginQuery ∷ quietly) ∙ refl
 query-among : grantedTo 1 (happenings base (BeginQuery ∷ among)) ≡ undisturbed
 unfolding computed among undisturbed
 query-among = reads-so 1 (BeginQuery ∷ among) ∙ refl
+
+-- ---- request E8: its end is disturbed. The reads give the same numbers in both runs; the second looks at two versions in the one and at one in
+-- the other
+moved-reads : grantedTo 2 (happenings base endsMoved) ≡ grantedTo 2 (happenings base endsUnmoved)
+unfolding computed endsMoved endsUnmoved
+moved-reads = reads-so 2 endsMoved ∙ refl ∙ sym (reads-so 2 endsUnmoved)
+
+end-moved : lastAnswer plain (run base endsMoved (fresh base)) ≡ found 3 2
+unfolding computed endsMoved lastAnswer
+end-moved = ap (lastAnswer plain) (run-so endsMoved) ∙ refl
+
+end-unmoved : lastAnswer plain (run base endsUnmoved (fresh base)) ≡ found 2 2
+unfolding computed endsUnmoved lastAnswer
+end-unmoved = ap (lastAnswer plain) (run-so endsUnmoved) ∙ refl
 
 -- ---- request E6: where one past its writing ends otherwise, so does the query's read
 reads-commit : grantedTo 2 (happenings base thenCommits) ≡ got 5 77 ∷ []

@@ -4,6 +4,7 @@ use mathlib.Core.Bool.{Bool, _&&_}
 use mathlib.Core.List.{List, [], _∷_}
 use lib.Dec.{eqb}
 use lib.ListN.{getD}
+use Rattle.names.specs.declared.Answer.{Answer}
 use Rattle.names.specs.Sizes.{base}
 use Rattle.rules.specs.Words.{everyBelow}
 use Rattle.rules.specs.Tables.{Tables, fresh}
@@ -134,6 +135,19 @@ unfoldable pub among : List Call
 among =
     BeginUpdate ∷ Write 2 5 77 ∷ Read 1 5 ∷ Commit 2 ∷ BeginQuery ∷ Write 1 5 3 ∷ BeginUpdate ∷ Write 4 5 78 ∷ Commit 4 ∷ Read 1 64
     ∷ Commit 3 ∷ BeginUpdate ∷ Write 5 5 79 ∷ Read 1 5 ∷ Abort 5 ∷ Commit 1 ∷ BeginQuery ∷ Read 1 5 ∷ []
+
+-- ---- request E8, "covers reads only": query 2 reads the item 5 twice and ends, and update 1, which wrote it, commits between the reads or
+-- not
+unfoldable pub endsUnmoved : List Call
+endsUnmoved = BeginUpdate ∷ BeginQuery ∷ Write 1 5 77 ∷ Read 2 5 ∷ Read 2 5 ∷ Commit 2 ∷ []
+
+unfoldable pub endsMoved : List Call
+endsMoved = BeginUpdate ∷ BeginQuery ∷ Write 1 5 77 ∷ Read 2 5 ∷ Commit 1 ∷ Read 2 5 ∷ Commit 2 ∷ []
+
+-- the answer to the last call, a if there is none
+unfoldable pub lastAnswer : Answer → List Event → Answer
+lastAnswer a [] = a
+lastAnswer a (e ∷ es) = lastAnswer (e .answer) es
 
 -- ---- why it is supposed that one past its writing ends alike in both runs: update 1 settles, query 2 begins and reads what 1 holds, after
 -- 1 has committed, after it has aborted, and after it has committed another value

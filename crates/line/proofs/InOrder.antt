@@ -14,12 +14,14 @@ use Rattle.rules.specs.Tables.{Tables, tables, txnWords, Txn, txn, setTxn, noTx
 use Rattle.rules.specs.Waits.{awaits, awaitsOn, noted, closedUp}
 use Rattle.rules.specs.Good.{Good}
 use Rattle.rules.specs.Answers.{Outcome, Call, Deed}
-use Rattle.rules.specs.Step.{act, judged, done, queryRead, begun, cleared, locked, committedUnder, committed, settledCommitted, ended, aborted, settledAborted, settled}
+use Rattle.rules.specs.Step.{act, judged, done, queryRead, begun, counted, cleared, locked, committedUnder, committed, settledCommitted, ended, aborted, settledAborted, settled}
+use Rattle.rules.specs.Changed.{lookedAt}
 use Rattle.rules.specs.Promises.{after}
 use Rattle.rules.proofs.Tests.{true-is, false-is}
 use Rattle.rules.proofs.EqualRanks.{awaits→, awaitsOn→}
 use Rattle.rules.proofs.Views.{txn-setTxn, txn-setTxn-other, txn-top}
 use Rattle.rules.proofs.Noting.{noted-known, closed-length, closed-row}
+use Rattle.rules.proofs.Counting.{counted-same}
 use Rattle.rules.proofs.Waited.{only-this, cleared-there, cleared-idle}
 use Rattle.rules.proofs.Judged.{way}
 use Rattle.rules.proofs.Keeps.{keeps}
@@ -91,6 +93,14 @@ module _
             let n : T (awaits (txn t r)) → ⊥ = λ f. false-is e (only-this t r q y (w .free) f .1) in
             λ v z o. came-kept S G g x r q y (w .caller .inside) (w .some) n (G .versions) .order a b i j (idle-apart t r n a h) (idle-apart t r n b k) h k o
 
+    -- ---- a read of slot r is counted: no rank moves
+    counts : (r q : ℕ) → r < S .slots → Stood (counted t r q)
+    counts r q inside v w o =
+        let e = counted-same t r q S (g .txnsExact) inside (λ (m : Txn). m .rank) (λ m n s. refl) in
+        let ea = e a in
+        let eb = e b in
+        omega arith
+
     -- ---- every way
     stood : (c : Call) (d : Deed) → Way S G c d → Stood ((done S d G) .after .txns)
     unfolding done queryRead begun locked committedUnder committed settledCommitted ended aborted settledAborted settled
@@ -103,7 +113,7 @@ module _
     stood c d (readShared n r y U e f) v w o = clears r (U .caller .inside) v w o
     stood c d (keptWaiting r C q) v w o = o
     stood c d (readSettled n r y C p l e) v w o = clears r (C .inside) v w o
-    stood c d (readByStart n r y C q l e f) v w o = o
+    stood c d (readByStart n r y C q l e f) v w o = counts r (lookedAt S G r y) (C .inside) v w o
     stood c d (wroteOwn n r y z U e) v w o = clears r (U .caller .inside) v w o
     stood c d (wroteSettled n r y z C p l e) v w o = clears r (C .inside) v w o
     stood c d (wroteTaken n r y z U e f m) v w o = clears r (U .caller .inside) v w o

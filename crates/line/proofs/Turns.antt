@@ -10,20 +10,21 @@ use lib.Dec.{T, leb, eqb→eq}
 use borrow.Author.Tests.{lt-leb, ne-eqb}
 use Rattle.names.specs.declared.Sizes.{Sizes}
 use Rattle.names.specs.Layout.{clockAt}
-use Rattle.rules.specs.Tables.{Tables, tables, Txn, txn, live, Lock, lock, setLock, holds, holdsShared, holdsExclusive}
+use Rattle.rules.specs.Tables.{Tables, tables, Txn, txn, live, byStart, Lock, lock, setLock, holds, holdsShared, holdsExclusive}
 use Rattle.rules.specs.Tables.{clock, setTxn, newTxn, aSettled, noLock, sharedLock, exclusiveLock, exclusivesOf, unshare}
 use Rattle.rules.specs.Waits.{awaits, awaitsOn, rankFor, raised, noted, conflicts}
 use Rattle.rules.specs.Good.{Good}
 use Rattle.rules.specs.Locks.{Asked, toRead, toWrite, wanted}
 use Rattle.rules.specs.Answers.{Outcome, Call, BeginUpdate, BeginQuery, Read, Write, Commit, Abort, Settle, Deed, granted, code, Wait}
-use Rattle.rules.specs.Step.{step, done, cleared, locked, replaced, sharedToo, taken, queryRead, withTxns, writesFurther, settled}
+use Rattle.rules.specs.Step.{step, done, cleared, locked, replaced, sharedToo, taken, queryRead, withTxns, counted, writesFurther, settled}
 use Rattle.rules.specs.Conditions.{Caller, Updater, Names, Wants}
+use Rattle.rules.specs.Changed.{lookedAt}
 use Rattle.rules.specs.Promises.{codeOf, after, Conflicting}
 use Rattle.rules.proofs.Tests.{true-is, false-is, or-left, or-right, same?}
 use Rattle.rules.proofs.Carried.{NoMore}
 use Rattle.rules.proofs.Callers.{caller-found}
 use Rattle.rules.proofs.EqualRanks.{awaits→, awaitsOn→}
-use Rattle.rules.proofs.Views.{awaiting, lock-setLock, lock-unshare, txn-setTxn, txn-setTxn-other, txn-top}
+use Rattle.rules.proofs.Views.{awaiting, reading, lock-setLock, lock-unshare, txn-setTxn, txn-setTxn-other, txn-top}
 use Rattle.rules.proofs.Walks.{→ahead, →blocks}
 use Rattle.rules.proofs.Decisions.{conflicts-cases}
 use Rattle.rules.proofs.Grants.{conflicts-fewer, shared-others, replaced-others, taken-others}
@@ -32,6 +33,7 @@ use Rattle.rules.proofs.Waited.{only-this, cleared-here, cleared-there, cleared
 use Rattle.rules.proofs.Granted.{granted-exactly}
 use Rattle.rules.proofs.InOrder.{raised-before}
 use Rattle.rules.proofs.Settles.{unshared-fewer}
+use Rattle.rules.proofs.Counting.{counted-there, counted-same}
 use Rattle.rules.proofs.Ways.{Way, Waiter, refused, waited, beganUpdate, beganQuery, readOwn, readNewest, readShared, readSettled, readByStart}
 use Rattle.rules.proofs.Ways.{wroteOwn, wroteSettled, wroteTaken, committedUpdate, committedEmpty, committedSettled, committedQuery, abortedUpdate, abortedSettled, abortedQuery, settledUpdate, keptWaiting}
 use Rattle.line.specs.Served.{Exchange}
@@ -177,6 +179,20 @@ module _
         lock-now : x ≡ y → lock ((locked S r y h′ G) .locks) x ≡ h′
         unfolding locked
         lock-now e = same-item e
+
+    -- ---- a read by a start is counted: the reader awaits nothing, and no lock changes
+    counts-only : (r k : ℕ) → r < S .slots → T (byStart (txn t r)) → s ≢ r → Good S (withTxns G (counted t r k)) → J (withTxns G (counted t r k))
+    counts-only r k i q d g′ =
+        carried S D a n s x G (withTxns G (counted t r k)) g′ I r d
+        (rows-kept S G (withTxns G (counted t r k)) g x r i (counted-there t r k) (λ b e. same-locks (lock l x) b))
+        (no-more (withTxns G (counted t r k)) r (same (λ (w : Txn). w .number) (λ w n s. refl)) (λ h. subst T lives h)
+        (λ v. awaits→ (txn (counted t r k) r) v (same (λ (w : Txn). w .awaitedLock) (λ w n s. refl) ∙ g .txnGood r i .readerIdle q)) (same-locks (lock l x) r))
+      where
+        same : {A : Type 0} (h : Txn → A) → ((w : Txn) (n s : ℕ) → h (reading w n s) ≡ h w) → h (txn (counted t r k) r) ≡ h (txn t r)
+        same h e = counted-same t r k S (g .txnsExact) i h e r
+
+        lives : live (txn (counted t r k) r) ≡ live (txn t r)
+        lives = unfold live in (same live (λ w n s. refl))
 
     -- ---- a wait
     module _
@@ -355,7 +371,8 @@ module _
     turn c d (keptWaiting r C q) e quiet none g′ = I
     turn c d (readSettled m r y C p i h) e quiet none g′ =
         clears-only r (C .inside) (apart c quiet none m r refl C (ap (λ (o : Outcome). o .answer .code) e)) g′
-    turn c d (readByStart m r y C q i h f) e quiet none g′ = I
+    turn c d (readByStart m r y C q i h f) e quiet none g′ =
+        counts-only r (lookedAt S G r y) (C .inside) q (apart c quiet none m r refl C (ap (λ (o : Outcome). o .answer .code) e)) g′
     turn c d (wroteOwn m r y v U h) e quiet none g′ =
         replaces r y v (U .caller .inside) (U .known) (apart c quiet none m r refl (U .caller) (ap (λ (o : Outcome). o .answer .code) e)) g′
     turn c d (wroteSettled m r y v C p i h) e quiet none g′ =

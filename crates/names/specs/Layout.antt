@@ -2,8 +2,8 @@
 -- words of a kind and of an awaited lock mean. names/src/layout.rt has the same for the code.
 use Prim.Native.Nat.{ℕ}
 
--- ---- "Transactions ..: last number given; clock (stamp of the latest update commit); then 16 rows", of six words since request E4, and
--- 32 rows since request E5. Since request E6 the clock is the stamp that was given last, at a commit or at a settle
+-- ---- "Transactions ..: last number given; clock (stamp of the latest update commit); then 16 rows", of six words since request E4 and of
+-- eight since request E8, and 32 rows since request E5. Since request E6 the clock is the stamp that was given last, at a commit or at a settle
 abbrev pub lastNumberAt : ℕ
 lastNumberAt = 0
 
@@ -34,8 +34,15 @@ txnItemAt = 4
 abbrev pub txnRankAt : ℕ
 txnRankAt = 5
 
+-- request E8: "a read count and a weight sum"
+abbrev pub txnCountAt : ℕ
+txnCountAt = 6
+
+abbrev pub txnSumAt : ℕ
+txnSumAt = 7
+
 abbrev pub txnRow : ℕ
-txnRow = 6
+txnRow = 8
 
 -- the kinds
 abbrev pub anUpdate : ℕ

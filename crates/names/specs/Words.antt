@@ -1,4 +1,4 @@
--- What a word says as a stamp, an item or a transaction's number.
+-- What a word says as a stamp, an item or a transaction's number, and where a count is held.
 use Prim.Native.Nat.{ℕ, _+_}
 use mathlib.Core.Bool.{cond, _||_}
 use lib.Dec.{eqb, ltb}
@@ -22,3 +22,7 @@ itemOf w = cond (ltb w (base .items)) (Known (record { 0 = w })) Unknown
 -- "from 1 to 4,294,967,295"
 unfoldable pub numberOf : ℕ → NumberOf
 numberOf w = cond (eqb w 0 || ltb lastWord w) Impossible (Possible (record { 0 = w }))
+
+-- request E8, "held at 4,294,967,295 once there": up to there a number is itself
+unfoldable pub heldAtLast : ℕ → ℕ
+heldAtLast n = cond (ltb lastWord n) lastWord n

@@ -61,7 +61,8 @@ pub enum Deed {
     Waits(Slot, u64, Item),
     // A transaction of this kind begins, with this start.
     Begins(Slot, u64, Stamp),
-    // A query, or one past its writing, reads the newest version up to its start.
+    // A query, or one past its writing, reads the newest version up to its start. A query's read is
+    // counted.
     ReadsByStart(Slot, Item),
     // An update reads: its own working value, the newest value, or that under a new shared lock. Its own
     // working value is read past its writing too.

@@ -23,7 +23,11 @@ pub const TXN_ITEM_AT: usize = 4;
 
 pub const TXN_RANK_AT: usize = 5;
 
-pub const TXN_ROW: usize = 6;
+pub const TXN_COUNT_AT: usize = 6;
+
+pub const TXN_SUM_AT: usize = 7;
+
+pub const TXN_ROW: usize = 8;
 
 pub const TXN_WORDS: usize = TXN_HEAD + TXN_ROW * (SLOTS as usize);
 

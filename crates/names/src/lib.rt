@@ -22,6 +22,7 @@ pub use layout::NO_LOCK;
 pub use layout::QUERY_KIND;
 pub use layout::SETTLED_KIND;
 pub use layout::SHARED_LOCK;
+pub use layout::TXN_COUNT_AT;
 pub use layout::TXN_HEAD;
 pub use layout::TXN_ITEM_AT;
 pub use layout::TXN_KIND_AT;
@@ -29,6 +30,7 @@ pub use layout::TXN_LOCK_AT;
 pub use layout::TXN_RANK_AT;
 pub use layout::TXN_ROW;
 pub use layout::TXN_START_AT;
+pub use layout::TXN_SUM_AT;
 pub use layout::TXN_WORDS;
 pub use layout::UPDATE_KIND;
 pub use layout::VERSION_COUNT_AT;
@@ -40,7 +42,8 @@ pub use layout::VERSION_WORDS;
 ghost use mathlib.Core.Path.{_≡_};
 ghost use Rattle.names.specs.Sizes.{base};
 ghost use Rattle.names.specs.Answers.{refusal, plain, numbered, found};
-ghost use Rattle.names.specs.Words.{nextStamp, itemOf, numberOf};
+ghost use Prim.Native.Nat.{_+_};
+ghost use Rattle.names.specs.Words.{nextStamp, itemOf, numberOf, heldAtLast};
 
 // Live transactions at most, items, and versions an item at most.
 pub const SLOTS: u64 = 32;
@@ -52,8 +55,21 @@ pub const PLACES: u64 = 32;
 // Items that one update may hold exclusively at most.
 pub const QUOTA: u64 = 32;
 
-// The greatest transaction number and the greatest stamp.
+// The greatest transaction number and the greatest stamp, and where counts and sums are held.
 pub const LAST_WORD: u64 = 4294967295;
+
+// A sum that is held at the last word once there.
+pub fn held_sum(a: u64, b: u64) -> u64
+    ensures { λ r. ⌜ r ≡ heldAtLast (a + b) ⌝ }
+{
+    if LAST_WORD < a {
+        return LAST_WORD;
+    }
+    if LAST_WORD - a < b {
+        return LAST_WORD;
+    }
+    a + b
+}
 
 // The sizes that the definitions go by.
 pub struct Sizes {

@@ -7,6 +7,7 @@ use names::SETTLED_KIND;
 use names::SLOTS;
 use names::Slot;
 use names::Stamp;
+use names::TXN_COUNT_AT;
 use names::TXN_HEAD;
 use names::TXN_ITEM_AT;
 use names::TXN_KIND_AT;
@@ -14,12 +15,13 @@ use names::TXN_LOCK_AT;
 use names::TXN_RANK_AT;
 use names::TXN_ROW;
 use names::TXN_START_AT;
+use names::TXN_SUM_AT;
 ghost use mathlib.Core.Path.{_≡_};
 ghost use Prim.Native.Nat.{_+_, _<_};
 ghost use lib.ListN.{length, getD, set};
 ghost use Rattle.names.specs.Sizes.{base};
 ghost use Rattle.names.specs.Layout.{txnRow, txnRankAt};
-ghost use Rattle.rules.specs.Tables.{txnWords, lastNumber, clock, txnAt, txn, setTxn, setAwaited, noTxn, slotOf, freeSlot, newTxn, aSettled};
+ghost use Rattle.rules.specs.Tables.{txnWords, lastNumber, clock, txnAt, txn, setTxn, setAwaited, setReads, noTxn, slotOf, freeSlot, newTxn, aSettled};
 ghost use Rattle.rows.specs.Founds.{foundAt};
 
 // Where a search ended.
@@ -147,6 +149,32 @@ pub fn set_awaited(txns: &mut [u64], slot: Slot, lock: u64, item: Item, rank: u6
     txns[at + TXN_LOCK_AT] = lock;
     txns[at + TXN_ITEM_AT] = item.0;
     txns[at + TXN_RANK_AT] = rank;
+}
+
+// How many reads of a query were counted.
+pub fn read_count(txns: &[u64], slot: Slot) -> u64
+    requires { ⌜ (length (now txns) ≡ txnWords base) × (slot .0 < base .slots) ⌝ }
+    ensures { λ r. ⌜ r ≡ (txn (now (txns .entry)) (slot .0)) .readCount ⌝ }
+{
+    row_word(txns, slot, TXN_COUNT_AT)
+}
+
+// The sum of the weights of these reads.
+pub fn weight_sum(txns: &[u64], slot: Slot) -> u64
+    requires { ⌜ (length (now txns) ≡ txnWords base) × (slot .0 < base .slots) ⌝ }
+    ensures { λ r. ⌜ r ≡ (txn (now (txns .entry)) (slot .0)) .weightSum ⌝ }
+{
+    row_word(txns, slot, TXN_SUM_AT)
+}
+
+// The count and the sum, written.
+pub fn set_reads(txns: &mut [u64], slot: Slot, count: u64, sum: u64)
+    requires { ⌜ (length (now txns) ≡ txnWords base) × (slot .0 < base .slots) ⌝ }
+    ensures { λ _. ⌜ now (txns .exit) ≡ setReads (now (txns .entry)) (slot .0) count sum ⌝ }
+{
+    let at = TXN_HEAD + TXN_ROW * (slot.0 as usize);
+    txns[at + TXN_COUNT_AT] = count;
+    txns[at + TXN_SUM_AT] = sum;
 }
 
 // The row of a slot goes: each of its words becomes 0.

@@ -21,7 +21,7 @@ use Rattle.rules.proofs.Counts.{count-none}
 use Rattle.rules.proofs.Views.{awaiting, setAwaited-row, length-setTxn, lastNumber-setTxn, clock-setTxn, txn-setTxn, txn-setTxn-other}
 use Rattle.rules.proofs.EqualRows.{live-number, update-live, settled-live, reader-live, update-holds}
 use Rattle.rules.proofs.EqualRanks.{awaits→, →awaits, awaitsOn→, →awaitsOn}
-use Rattle.rules.proofs.Carried.{no-more-same, txn-carried, row-reranked, lock-carried, versions-carried, settled-carried}
+use Rattle.rules.proofs.Carried.{same-reads, no-more-same, txn-carried, row-reranked, lock-carried, versions-carried, settled-carried}
 use Rattle.rules.proofs.Quotas.{quotas-but-rank}
 use Rattle.rules.proofs.Walks.{→waits-for}
 use Rattle.rules.proofs.Lines.{leaving-idle, left-ranks, left-links}
@@ -89,7 +89,7 @@ module _
     start′ = same (λ (w : Txn). w .start) (λ w k x p. refl) (λ w p. refl)
 
     new-row : GoodTxn S t′ (G .locks) s R
-    unfolding liveUpdate byStart liveSettled live
+    unfolding liveUpdate byStart mayHold liveSettled live
     new-row =
         let o = g .txnGood s inside in
         let a = update-live (txn t s) update in
@@ -105,6 +105,7 @@ module _
           itemKnown = may .known;
           itemUnused = may .none;
           rankUnused = unused;
+          readsGood = same-reads (txn t s) R refl refl refl (o .readsGood);
           awaitsShared = may .shared;
           awaitsExclusive = may .exclusive;
         }

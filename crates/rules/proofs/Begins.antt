@@ -19,7 +19,7 @@ use Rattle.rules.proofs.Tests.{same?}
 use Rattle.rules.proofs.Views.{length-setTxn, lastNumber-setTxn, clock-setTxn, txn-setTxn, txn-setTxn-other, txn-top}
 use Rattle.rules.proofs.EqualRows.{update-live, settled-live, holder-live, reader-live, free-number}
 use Rattle.rules.proofs.Quotas.{exclusives-none, quotas-but}
-use Rattle.rules.proofs.Carried.{no-more-same, txn-carried, lock-carried, versions-carried, settled-carried}
+use Rattle.rules.proofs.Carried.{no-reads, no-more-same, txn-carried, lock-carried, versions-carried, settled-carried}
 use Rattle.rules.proofs.EqualRanks.{awaits→}
 use Rattle.rules.proofs.Lines.{same-leaving, left-ranks, left-links}
 use Rattle.rules.proofs.Deadlock.{fewer-no-circle}
@@ -84,6 +84,7 @@ module _ (S : Sizes) (G : Tables) (g : Good S G) (k q s : ℕ) (inside : s < S .
         itemKnown = λ d. absurd (d refl);
         itemUnused = λ e. refl;
         rankUnused = λ e. refl;
+        readsGood = no-reads R refl refl;
         awaitsShared = λ e. absurd (omega arith);
         awaitsExclusive = λ e. absurd (omega arith);
       }

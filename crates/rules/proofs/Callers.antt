@@ -13,7 +13,7 @@ use Rattle.rules.specs.Good.{Good}
 use Rattle.rules.specs.Answers.{Call}
 pub use Rattle.rules.specs.Conditions.{Caller, Free}
 use Rattle.rules.specs.Conditions.{Names, CallerIn}
-use Rattle.rules.proofs.EqualRows.{holder-live, reader-live, live-settled}
+use Rattle.rules.proofs.EqualRows.{holder-live, reader-live, live-query, live-settled}
 use Rattle.rules.proofs.Tests.{and-left, and-right, and-both, true-is, not-make, not-use, eq-make, same?, false-is}
 use Rattle.rules.proofs.Counts.{first-le, first-passes, first-least}
 
@@ -169,6 +169,20 @@ query-not-update t s q u = let k = query-kind t s q in let m = update-kind t s u
 pub update-alive : (t : List ℕ) (s : ℕ) → T (liveUpdate (txn t s)) → T (live (txn t s))
 unfolding liveUpdate
 update-alive t s h = and-left (live (txn t s)) _ h
+
+-- who reads by a start is a query or past its writing
+pub reader-cases :
+    (S : Sizes) (G : Tables) → Good S G → (s : ℕ) → s < S .slots → T (byStart (txn (G .txns) s))
+    → T (liveQuery (txn (G .txns) s)) ⊎ T (liveSettled (txn (G .txns) s))
+reader-cases S G g s i q = go (g .txnGood s i .kindListed)
+  where
+    r : Txn
+    r = txn (G .txns) s
+
+    go : (r .kind ≡ anUpdate) ⊎ ((r .kind ≡ aQuery) ⊎ (r .kind ≡ aSettled)) → T (liveQuery r) ⊎ T (liveSettled r)
+    go (inl e) = absurd (reader-live r q .1 e)
+    go (inr (inl e)) = inl (live-query r (reader-live r q .0) e)
+    go (inr (inr e)) = inr (live-settled r (reader-live r q .0) e)
 
 -- who reads by a start and holds an item exclusively is past its writing
 pub reader-holds :

@@ -1,5 +1,5 @@
 -- What each call does where nothing refuses it, as one equation.
-use Prim.Native.Nat.{ℕ, suc, _+_, _<_}
+use Prim.Native.Nat.{ℕ, _+_, _<_}
 use mathlib.Core.Path.{_≡_, _∙_}
 use mathlib.Core.Logic.{_≢_}
 use mathlib.Core.Bool.{true, false}
@@ -10,12 +10,13 @@ use Rattle.names.specs.declared.Sizes.{Sizes}
 use Rattle.names.specs.Sizes.{lastWord}
 use Rattle.rules.specs.Tables.{Tables, lastNumber, clock, txn, liveUpdate, liveQuery, byStart, anUpdate, aQuery, aSettled, noLock, sharedLock, exclusiveLock}
 use Rattle.rules.specs.Tables.{slotOf, freeSlot, lock, holdsExclusive, exclusivesOf}
-use Rattle.rules.specs.Versions.{versionsOf, place, choice}
+use Rattle.rules.specs.Versions.{versionsOf, choice}
 use Rattle.rules.specs.Good.{Good}
 use Rattle.rules.specs.Locks.{toRead, toWrite}
 use Rattle.rules.specs.Answers.{Call, BeginUpdate, BeginQuery, Read, Write, Commit, Abort, says, granted, refuses, QuotaSpent}
 use Rattle.rules.specs.Step.{step, act, judged, done, beginBy, begun, readBy, writeBy, commitUpdate, commitBy, abortBy, queryRead, access, awaitsOther, heldBack, startRead, writesPast, writesFurther}
-use Rattle.rules.specs.Step.{committed, ended, aborted}
+use Rattle.rules.specs.Step.{withTxns, counted, committed, ended, aborted}
+use Rattle.rules.specs.Changed.{lookedAt}
 use Rattle.rules.proofs.Steps.{acts}
 use Rattle.rules.proofs.Callers.{Caller, caller-found, query-kind, update-kind}
 use Rattle.rules.proofs.EqualRows.{reader-live, query-reads}
@@ -57,8 +58,8 @@ module _ (S : Sizes) (G : Tables) (g : Good S G) where
         ≡ says granted
         ((choice ((txn (G .txns) s) .start) (versionsOf S (G .versions) x)) .value)
         0
-        (suc (place ((txn (G .txns) s) .start) (versionsOf S (G .versions) x)))
-        G
+        (lookedAt S G s x)
+        (withTxns G (counted (G .txns) s (lookedAt S G s x)))
     unfolding act judged done readBy startRead queryRead awaitsOther
     start-reads reader x known other free =
         on-good (Read n x)
@@ -80,11 +81,11 @@ module _ (S : Sizes) (G : Tables) (g : Good S G) where
       none : eqb ((txn (G .txns) s) .awaitedLock) noLock ≡ true
       none = eq-eqb ((txn (G .txns) s) .awaitedLock) noLock (g .txnGood s (C .inside) .readerIdle (query-reads (txn (G .txns) s) query))
 
-      pub query-commits : step S (Commit n) G ≡ says granted 0 0 0 (ended S s G)
+      pub query-commits : step S (Commit n) G ≡ says granted ((txn (G .txns) s) .weightSum) 0 ((txn (G .txns) s) .readCount) (ended S s G)
       unfolding act judged done commitBy
       query-commits = on-good (Commit n) ∙ rw (found, within, none, a-query)
 
-      pub query-aborts : step S (Abort n) G ≡ says granted 0 0 0 (ended S s G)
+      pub query-aborts : step S (Abort n) G ≡ says granted ((txn (G .txns) s) .weightSum) 0 ((txn (G .txns) s) .readCount) (ended S s G)
       unfolding act judged done abortBy
       query-aborts = on-good (Abort n) ∙ rw (found, within, a-query)
 

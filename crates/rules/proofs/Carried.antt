@@ -8,11 +8,25 @@ use lib.ListN.{length}
 use lib.Dec.{T}
 use borrow.Author.Tests.{le-leb}
 use Rattle.names.specs.declared.Sizes.{Sizes}
+use Rattle.names.specs.Sizes.{lastWord}
 use Rattle.rules.specs.Tables.{Tables, lastNumber, clock, Txn, txn, noTxn, withRank, live, liveUpdate, liveSettled, mayHold, byStart, Lock, lock}
 use Rattle.rules.specs.Tables.{holdsShared, holdsExclusive, holds, noLock}
 use Rattle.rules.specs.Versions.{Version, versionsIn, versionsOf, stampAt, place}
-use Rattle.rules.specs.Good.{GoodTxn, GoodLock, GoodVersions, GoodSettled}
+use Rattle.rules.specs.Good.{GoodReads, GoodTxn, GoodLock, GoodVersions, GoodSettled}
 use Rattle.rules.proofs.Tests.{same?, or-cases, or-left, or-right}
+
+-- request E8: a row with no reads, and one with the reads of another that may hold where it may
+pub no-reads : (r : Txn) → r .readCount ≡ 0 → r .weightSum ≡ 0 → GoodReads r
+no-reads r n w = record { countMost = omega arith; sumMost = omega arith; updateCount = λ h. n; updateSum = λ h. w }
+
+pub same-reads : (r q : Txn) → q .readCount ≡ r .readCount → q .weightSum ≡ r .weightSum → mayHold q ≡ mayHold r → GoodReads r → GoodReads q
+same-reads r q n w e g =
+    record {
+      countMost = let a = g .countMost in omega arith;
+      sumMost = let a = g .sumMost in omega arith;
+      updateCount = λ h. n ∙ g .updateCount (subst T e h);
+      updateSum = λ h. w ∙ g .updateSum (subst T e h);
+    }
 
 -- a free row is a good one, whatever stands in the tables
 pub free-row : (S : Sizes) (t l : List ℕ) (s : ℕ) → GoodTxn S t l s noTxn
@@ -30,16 +44,17 @@ free-row S t l s =
       itemKnown = λ d. absurd (d refl);
       itemUnused = λ e. refl;
       rankUnused = λ e. refl;
+      readsGood = no-reads noTxn refl refl;
       awaitsShared = λ e. absurd (omega arith);
       awaitsExclusive = λ e. absurd (omega arith);
     }
 
 -- a good row with another rank is a good one, if it is 0 where nothing is awaited
 pub row-reranked : (S : Sizes) (t l : List ℕ) (s p : ℕ) (r : Txn) → (r .awaitedLock ≡ noLock → p ≡ 0) → GoodTxn S t l s r → GoodTxn S t l s (withRank r p)
-unfolding byStart liveSettled liveUpdate live
+unfolding byStart mayHold liveSettled liveUpdate live
 row-reranked S t l s p r z g =
     record {
-      free = λ e. let f = g .free e in λ i. record { number = (f i) .number; kind = (f i) .kind; start = (f i) .start; awaitedLock = (f i) .awaitedLock; awaitedItem = (f i) .awaitedItem; rank = z (ap (λ (w : Txn). w .awaitedLock) f) i };
+      free = λ e. let f = g .free e in λ i. record { number = (f i) .number; kind = (f i) .kind; start = (f i) .start; awaitedLock = (f i) .awaitedLock; awaitedItem = (f i) .awaitedItem; rank = z (ap (λ (w : Txn). w .awaitedLock) f) i; readCount = (f i) .readCount; weightSum = (f i) .weightSum };
       given = g .given;
       kindListed = g .kindListed;
       lockListed = g .lockListed;
@@ -50,6 +65,7 @@ row-reranked S t l s p r z g =
       itemKnown = g .itemKnown;
       itemUnused = g .itemUnused;
       rankUnused = z;
+      readsGood = same-reads r (withRank r p) refl refl refl (g .readsGood);
       awaitsShared = g .awaitsShared;
       awaitsExclusive = g .awaitsExclusive;
     }
@@ -96,6 +112,7 @@ module _ (S : Sizes) (t t′ : List ℕ) where
         itemKnown = g .itemKnown;
         itemUnused = g .itemUnused;
         rankUnused = g .rankUnused;
+        readsGood = g .readsGood;
         awaitsShared = λ e h. g .awaitsShared e (no-more-holds s _ _ (n (λ z. absurd (omega arith))) h);
         awaitsExclusive = λ e h. g .awaitsExclusive e (n (λ z. absurd (omega arith)) .exclusive h);
       }

@@ -8,11 +8,12 @@ use native.Mathlib.Omega.{arith}
 use lib.Dec.{T, eqb, leb, ltb, eqb→eq, leb→le, le→leb, ltb→lt, lt→ltb}
 use borrow.Author.Tests.{eq-eqb, ne-eqb}
 use Rattle.names.specs.declared.Sizes.{Sizes}
+use Rattle.names.specs.Sizes.{lastWord}
 use Rattle.rules.specs.Words.{implies, bit}
 use Rattle.rules.specs.Tables.{lastNumber, clock, Txn, txn, noTxn, live, liveUpdate, liveQuery, liveSettled, mayHold, byStart}
 use Rattle.rules.specs.Tables.{anUpdate, aQuery, aSettled, noLock, sharedLock, exclusiveLock, Lock, lock, holdsShared, holdsExclusive, holds}
-use Rattle.rules.specs.Good.{GoodTxn, GoodLock}
-use Rattle.rules.specs.Tested.{freeZero, listed, startGood, awaitedGood, awaiterGood, txnGood, holdersLive, lockGood}
+use Rattle.rules.specs.Good.{GoodReads, GoodTxn, GoodLock}
+use Rattle.rules.specs.Tested.{allZero, freeZero, listed, startGood, awaitedGood, readsGood, awaiterGood, txnGood, holdersLive, lockGood}
 use Rattle.rules.proofs.Tests.{and-left, and-right, and-both, or-cases, or-left, or-right, implies-use, implies-make}
 use Rattle.rules.proofs.Tests.{not-make, not-use, eq-make, ne-make, ne-use, same?}
 use Rattle.rules.proofs.Counts.{everyBelow→, →everyBelow}
@@ -98,13 +99,34 @@ query-reads r u = let k = query-live r u in live-reader r (k .0) (λ e. let z = 
 pub settled-reads : (r : Txn) → T (liveSettled r) → T (byStart r)
 settled-reads r u = let k = settled-live r u in live-reader r (k .0) (λ e. let z = k .1 in omega arith)
 
+-- ---- request E8: the read count and the weight sum of a row
+module _ (r : Txn) where
+  reads→Good : T (readsGood r) → GoodReads r
+  unfolding readsGood
+  reads→Good a =
+      let a₁ = and-right (leb (r .readCount) lastWord) _ a in
+      let none = and-right (leb (r .weightSum) lastWord) _ a₁ in
+      record {
+        countMost = leb→le (r .readCount) lastWord (and-left (leb (r .readCount) lastWord) _ a);
+        sumMost = leb→le (r .weightSum) lastWord (and-left (leb (r .weightSum) lastWord) _ a₁);
+        updateCount = λ h. eqb→eq (r .readCount) 0 (and-left (eqb (r .readCount) 0) _ (implies-use (mayHold r) _ none h));
+        updateSum = λ h. eqb→eq (r .weightSum) 0 (and-right (eqb (r .readCount) 0) _ (implies-use (mayHold r) _ none h));
+      }
+
+  Good→reads : GoodReads r → T (readsGood r)
+  unfolding readsGood
+  Good→reads g =
+      and-both (leb (r .readCount) lastWord) _ (le→leb (r .readCount) lastWord (g .countMost))
+      (and-both (leb (r .weightSum) lastWord) _ (le→leb (r .weightSum) lastWord (g .sumMost))
+      (implies-make (mayHold r) _ (λ h. and-both (eqb (r .readCount) 0) _ (eq-make (r .readCount) 0 (g .updateCount h)) (eq-make (r .weightSum) 0 (g .updateSum h)))))
+
 -- ---- a transaction row
 module _ (S : Sizes) (t l : List ℕ) (s : ℕ) (r : Txn) where
   abbrev h : Lock
   h = lock l (r .awaitedItem)
 
   pub txn→Good : T (txnGood S t l s r) → GoodTxn S t l s r
-  unfolding txnGood freeZero listed startGood awaitedGood awaiterGood live
+  unfolding txnGood freeZero allZero listed startGood awaitedGood awaiterGood live
   txn→Good a =
       let a₁ = and-right (freeZero r) _ a in
       let a₂ = and-right (leb (r .number) (lastNumber t)) _ a₁ in
@@ -113,7 +135,8 @@ module _ (S : Sizes) (t l : List ℕ) (s : ℕ) (r : Txn) where
       let b₁ = and-left (listed r) _ a₂ in
       let b₂ = and-left (startGood (clock t) r) _ a₃ in
       let b₃ = and-left (awaitedGood S r) _ a₄ in
-      let b₄ = and-right (awaitedGood S r) _ a₄ in
+      let a₅ = and-right (awaitedGood S r) _ a₄ in
+      let b₄ = and-right (readsGood r) _ a₅ in
       let started = and-right (implies (liveUpdate r) (eqb (r .start) 0)) _ b₂ in
       let reads = and-left (implies (byStart r) (leb (r .start) (clock t) && eqb (r .awaitedLock) noLock)) _ started in
       let u = implies (eqb (r .awaitedLock) sharedLock) (not (holds h s)) in
@@ -129,6 +152,7 @@ module _ (S : Sizes) (t l : List ℕ) (s : ℕ) (r : Txn) where
         itemKnown = λ d. ltb→lt (r .awaitedItem) (S .items) (rw (ne-eqb (r .awaitedLock) noLock d) at b₃);
         itemUnused = λ e. eqb→eq (r .awaitedItem) 0 (and-left (eqb (r .awaitedItem) 0) _ (rw (eq-eqb (r .awaitedLock) noLock e) at b₃));
         rankUnused = λ e. eqb→eq (r .rank) 0 (and-right (eqb (r .awaitedItem) 0) _ (rw (eq-eqb (r .awaitedLock) noLock e) at b₃));
+        readsGood = reads→Good r (and-left (readsGood r) _ a₅);
         awaitsShared = λ e. not-use (holds h s) (implies-use (eqb (r .awaitedLock) sharedLock) _ (and-left u _ b₄) (eq-make (r .awaitedLock) sharedLock e));
         awaitsExclusive = λ e. not-use (holdsExclusive h s) (implies-use (eqb (r .awaitedLock) exclusiveLock) _ (and-right u _ b₄) (eq-make (r .awaitedLock) exclusiveLock e));
       }
@@ -141,7 +165,7 @@ module _ (S : Sizes) (t l : List ℕ) (s : ℕ) (r : Txn) where
           go (inr d) (inl e) = inr (inl e)
           go (inr d) (inr f) = inr (inr (omega arith))
 
-      zeros : r .number ≡ 0 → T (eqb (r .kind) 0 && (eqb (r .start) 0 && (eqb (r .awaitedLock) 0 && (eqb (r .awaitedItem) 0 && eqb (r .rank) 0)))) → r ≡ noTxn
+      zeros : r .number ≡ 0 → T (allZero r) → r ≡ noTxn
       zeros e z =
           let z₁ = and-right (eqb (r .kind) 0) _ z in
           let z₂ = and-right (eqb (r .start) 0) _ z₁ in
@@ -150,11 +174,15 @@ module _ (S : Sizes) (t l : List ℕ) (s : ℕ) (r : Txn) where
           let a = eqb→eq (r .awaitedLock) 0 (and-left (eqb (r .awaitedLock) 0) _ z₂) in
           let z₃ = and-right (eqb (r .awaitedLock) 0) _ z₂ in
           let x = eqb→eq (r .awaitedItem) 0 (and-left (eqb (r .awaitedItem) 0) _ z₃) in
-          let p = eqb→eq (r .rank) 0 (and-right (eqb (r .awaitedItem) 0) _ z₃) in
-          λ i. record { number = e i; kind = k i; start = q i; awaitedLock = a i; awaitedItem = x i; rank = p i }
+          let z₄ = and-right (eqb (r .awaitedItem) 0) _ z₃ in
+          let p = eqb→eq (r .rank) 0 (and-left (eqb (r .rank) 0) _ z₄) in
+          let z₅ = and-right (eqb (r .rank) 0) _ z₄ in
+          let n = eqb→eq (r .readCount) 0 (and-left (eqb (r .readCount) 0) _ z₅) in
+          let w = eqb→eq (r .weightSum) 0 (and-right (eqb (r .readCount) 0) _ z₅) in
+          λ i. record { number = e i; kind = k i; start = q i; awaitedLock = a i; awaitedItem = x i; rank = p i; readCount = n i; weightSum = w i }
 
   pub Good→txn : GoodTxn S t l s r → T (txnGood S t l s r)
-  unfolding txnGood freeZero listed startGood awaitedGood awaiterGood live
+  unfolding txnGood freeZero allZero listed startGood awaitedGood awaiterGood live
   Good→txn g =
       and-both (freeZero r) _ free
       (and-both (leb (r .number) (lastNumber t)) _ (le→leb (r .number) (lastNumber t) (g .given))
@@ -167,20 +195,21 @@ module _ (S : Sizes) (t l : List ℕ) (s : ℕ) (r : Txn) where
       (implies-make (byStart r) _ (λ z. and-both (leb (r .start) (clock t)) _ (le→leb (r .start) (clock t) (g .readerStart z)) (eq-make (r .awaitedLock) noLock (g .readerIdle z))))
       (implies-make (liveSettled r) _ (λ z. le→leb 1 (r .start) (g .settledStart z)))))
       (and-both (awaitedGood S r) _ (awaited (same? (r .awaitedLock) noLock))
+      (and-both (readsGood r) _ (Good→reads r (g .readsGood))
       (and-both (implies (eqb (r .awaitedLock) sharedLock) (not (holds h s))) _
       (implies-make (eqb (r .awaitedLock) sharedLock) _ (λ z. not-make (holds h s) (g .awaitsShared (eqb→eq (r .awaitedLock) sharedLock z))))
-      (implies-make (eqb (r .awaitedLock) exclusiveLock) _ (λ z. not-make (holdsExclusive h s) (g .awaitsExclusive (eqb→eq (r .awaitedLock) exclusiveLock z)))))))))
+      (implies-make (eqb (r .awaitedLock) exclusiveLock) _ (λ z. not-make (holdsExclusive h s) (g .awaitsExclusive (eqb→eq (r .awaitedLock) exclusiveLock z))))))))))
     where
       kinds : (r .kind ≡ anUpdate) ⊎ ((r .kind ≡ aQuery) ⊎ (r .kind ≡ aSettled)) → r .kind ≤ aSettled
       kinds (inl e) = omega arith
       kinds (inr (inl e)) = omega arith
       kinds (inr (inr e)) = omega arith
 
-      free : T (implies (not (not (eqb (r .number) 0))) (eqb (r .kind) 0 && (eqb (r .start) 0 && (eqb (r .awaitedLock) 0 && (eqb (r .awaitedItem) 0 && eqb (r .rank) 0)))))
+      free : T (implies (not (not (eqb (r .number) 0))) (allZero r))
       free = implies-make (not (not (eqb (r .number) 0))) _ (λ z. go (same? (r .number) 0) z)
         where
-          go : (r .number ≡ 0) ⊎ (r .number ≢ 0) → T (not (not (eqb (r .number) 0))) → T (eqb (r .kind) 0 && (eqb (r .start) 0 && (eqb (r .awaitedLock) 0 && (eqb (r .awaitedItem) 0 && eqb (r .rank) 0))))
-          go (inl e) z = subst (λ (w : Txn). T (eqb (w .kind) 0 && (eqb (w .start) 0 && (eqb (w .awaitedLock) 0 && (eqb (w .awaitedItem) 0 && eqb (w .rank) 0))))) (sym (g .free e)) tt
+          go : (r .number ≡ 0) ⊎ (r .number ≢ 0) → T (not (not (eqb (r .number) 0))) → T (allZero r)
+          go (inl e) z = subst (λ (w : Txn). T (allZero w)) (sym (g .free e)) tt
           go (inr d) z = absurd (not-use (not (eqb (r .number) 0)) z (ne-make (r .number) 0 d))
 
       awaited : (r .awaitedLock ≡ noLock) ⊎ (r .awaitedLock ≢ noLock) → T (cond (eqb (r .awaitedLock) noLock) (eqb (r .awaitedItem) 0 && eqb (r .rank) 0) (ltb (r .awaitedItem) (S .items)))

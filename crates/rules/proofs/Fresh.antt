@@ -82,6 +82,8 @@ module _ (S : Sizes) (room : 1 ≤ S .places) where
         awaitedLock = zeros n (txnAt s + 3) i;
         awaitedItem = zeros n (txnAt s + 4) i;
         rank = zeros n (txnAt s + 5) i;
+        readCount = zeros n (txnAt s + 6) i;
+        weightSum = zeros n (txnAt s + 7) i;
       }
 
   not-live : (s : ℕ) → T (live (txn ((fresh S) .txns) s)) → ⊥

@@ -10,6 +10,7 @@ use Rattle.rules.specs.Tables.{Tables, lastNumber, txn, lock, holdsExclu
 use Rattle.rules.specs.Good.{Good}
 use Rattle.rules.specs.Answers.{Call, Outcome, Deed}
 use Rattle.rules.specs.Step.{act, judged, done, queryRead}
+use Rattle.rules.specs.Changed.{lookedAt}
 use Rattle.rules.specs.Promises.{StaysGood}
 use Rattle.rules.proofs.Steps.{acts}
 use Rattle.rules.proofs.Begins.{begun-good}
@@ -17,6 +18,7 @@ use Rattle.rules.proofs.Waited.{only-this, waited-good, cleared-good}
 use Rattle.rules.proofs.Grants.{relocked-good, locked-good, shared-too, shared-others, shared-keeps, replaced-too, replaced-others, replaced-keeps, taken-good, taken-others, taken-keeps}
 use Rattle.rules.proofs.Ends.{ended-good, aborted-good, committed-good, settled-commit-good, settled-abort-good}
 use Rattle.rules.proofs.Settles.{settled-good}
+use Rattle.rules.proofs.Counting.{counted-good}
 use Rattle.rules.proofs.EqualRows.{settled-reads}
 use Rattle.rules.proofs.Changes.{past-unchanged, past-replaced}
 use Rattle.rules.proofs.Judged.{way}
@@ -50,7 +52,7 @@ module _ (S : Sizes) (enough : S .slots ≤ S .places) (G : Tables) (g : Good S 
       (λ k. inl (unfold holdsExclusive in k))
   way-keeps c d (keptWaiting s C q) = g
   way-keeps c d (readSettled n s x C p i h) = subst (Good S) (sym (past-unchanged S G g s (C .inside) p)) g
-  way-keeps c d (readByStart n s x C q i o b) = g
+  way-keeps c d (readByStart n s x C q i o b) = counted-good S G g s (C .inside) q (lookedAt S G s x)
   way-keeps c d (wroteOwn n s x v U h) =
       locked-good S G g s x (U .caller .inside) (U .update) (U .known) _
       (replaced-too S t (lock l x) (g .lockGood x (U .known)) s v h)

@@ -32,6 +32,7 @@ pub mod Grants
 pub mod Leaves
 pub mod Ends
 pub mod Settles
+pub mod Counting
 pub mod Steps
 pub mod Callers
 pub mod Decisions

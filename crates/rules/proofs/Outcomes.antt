@@ -3,24 +3,26 @@
 use Prim.Native.Nat.{ℕ, suc, _+_, _≤_, _<_}
 use mathlib.Core.Path.{_≡_, sym, subst}
 use mathlib.Core.Logic.{_⊎_, inl, inr}
+use mathlib.Core.Bool.{false}
 use native.Mathlib.Omega.{arith}
 use lib.Dec.{T}
 use Rattle.names.specs.declared.Sizes.{Sizes}
-use Rattle.rules.specs.Tables.{Tables, lastNumber, clock, txn, liveUpdate, liveQuery, anUpdate, aQuery, sharedLock, exclusiveLock}
+use Rattle.rules.specs.Tables.{Tables, lastNumber, clock, txn, liveUpdate, liveQuery, liveSettled, byStart, anUpdate, aQuery, sharedLock, exclusiveLock}
 use Rattle.rules.specs.Tables.{lock, setLock, holds, holdsShared, holdsExclusive}
 use Rattle.rules.specs.Versions.{versionsOf, newest, place, choice}
 use Rattle.rules.specs.Good.{Good}
 use Rattle.rules.specs.Tested.{good}
 use Rattle.rules.specs.Answers.{Call, BeginUpdate, BeginQuery, Read, Write, Commit, Abort, Settle, Outcome, says, granted, code, refuses, BadTables, Deed}
-use Rattle.rules.specs.Step.{step, act, judged, done, begun, queryRead}
+use Rattle.rules.specs.Step.{step, act, judged, done, begun, queryRead, heldBack}
 use Rattle.rules.specs.Step.{withLocks, locked, replaced, sharedToo, taken, committed, ended, aborted}
-use Rattle.rules.specs.Changed.{Granted, updateBegins, queryBegins, ownRead, sharedRead, sharedTaken, settledOwnRead, startReads, valueReplaced, settledReplaced}
+use Rattle.rules.specs.Changed.{lookedAt, Granted, updateBegins, queryBegins, ownRead, sharedRead, sharedTaken, settledOwnRead, queryReads, settledReads, valueReplaced, settledReplaced}
 use Rattle.rules.specs.Changed.{sharedExchanged, exclusiveTaken, updateCommits, emptyCommits, settledCommits, queryCommits, updateAborts, settledAborts, updateSettles, queryAborts}
 use Rattle.rules.specs.Promises.{GrantedChanges}
 use Rattle.rules.proofs.Tests.{or-left, or-right, true-is}
 use Rattle.rules.proofs.Equal.{good→Good}
 use Rattle.rules.proofs.Steps.{cond-case}
-use Rattle.rules.proofs.Callers.{Caller, Free}
+use Rattle.rules.proofs.Callers.{Caller, Free, reader-cases}
+use Rattle.rules.proofs.Counting.{query-counted, settled-uncounted}
 use Rattle.rules.proofs.Changes.{setLock-changes, begun-changes, locked-changes, aborted-changes}
 use Rattle.rules.proofs.Changes.{own-unchanged, replace-unchanged, past-unchanged, past-replaced, settled-changes}
 use Rattle.rules.proofs.ChangedVersions.{committed-changes, ended-changes, settled-commit-changes, settled-abort-changes}
@@ -39,6 +41,18 @@ module _ (S : Sizes) (enough : S .slots ≤ S .places) (G : Tables) (g : Good S 
       → Granted S G (Write n x v) (says granted 0 0 0 (locked S s x (taken (lock (G .locks) x) s v) G))
   takes n s x v U (inl h) = sharedExchanged n x v s U h (locked-changes S G g s (U .caller .inside) x (U .known) (taken (lock (G .locks) x) s v))
   takes n s x v U (inr h) = exclusiveTaken n x v s U h (locked-changes S G g s (U .caller .inside) x (U .known) (taken (lock (G .locks) x) s v))
+
+  -- a read by a start: a query's is counted, that of one past its writing changes nothing
+  reads :
+      (n s x : ℕ) → Caller S G n s → T (byStart (txn (G .txns) s)) → x < S .items → (T (holdsExclusive (lock (G .locks) x) s) → ⊥)
+      → heldBack S (G .txns) (G .locks) x s ≡ false → T (liveQuery (txn (G .txns) s)) ⊎ T (liveSettled (txn (G .txns) s))
+      → Granted S G (Read n x) (queryRead S s x G)
+  unfolding queryRead
+  reads n s x C q i o b (inl u) = queryReads n x s C u i b (query-counted S G g s (C .inside) q (lookedAt S G s x) u)
+  reads n s x C q i o b (inr p) =
+      subst (λ (H : Tables). Granted S G (Read n x) (says granted ((choice ((txn (G .txns) s) .start) (versionsOf S (G .versions) x)) .value) 0 (lookedAt S G s x) H))
+      (sym (settled-uncounted S G g s (C .inside) q (lookedAt S G s x) p))
+      (settledReads n x s C p i o b)
 
   way-shown : (c : Call) (d : Deed) → Way S G c d → Shown S G c (done S d G)
   unfolding done queryRead
@@ -60,7 +74,7 @@ module _ (S : Sizes) (enough : S .slots ≤ S .places) (G : Tables) (g : Good S 
   way-shown c d (readSettled n s x C p i h) z =
       subst (λ (H : Tables). Granted S G (Read n x) (says granted ((lock (G .locks) x) .working) 0 0 H)) (sym (past-unchanged S G g s (C .inside) p))
       (settledOwnRead n x s C p i h)
-  way-shown c d (readByStart n s x C q i o b) z = startReads n x s C q i o b
+  way-shown c d (readByStart n s x C q i o b) z = reads n s x C q i o b (reader-cases S G g s (C .inside) q)
   way-shown c d (wroteOwn n s x v U h) z =
       subst (λ (H : Tables). Granted S G (Write n x v) (says granted 0 0 0 H))
       (sym (replace-unchanged S G g s (U .caller .inside) x (U .known) v h (U .free)))

@@ -23,7 +23,7 @@ use Rattle.rules.proofs.Tests.{same?}
 use Rattle.rules.proofs.Bits.{withoutBit-here, withoutBit-there, bit-none, no-bits}
 use Rattle.rules.proofs.Views.{length-setTxn, lastNumber-setTxn, clock-setTxn, txn-setTxn, txn-setTxn-other, txn-top, lock-unshare, length-unshare}
 use Rattle.rules.proofs.EqualRows.{update-live, settled-live, holder-live, reader-live, update-holds, settled-holds, live-settled, settled-reads, live-number, number-live}
-use Rattle.rules.proofs.Carried.{NoMore, no-more-same, txn-carried, lock-carried, versions-carried, settled-carried}
+use Rattle.rules.proofs.Carried.{NoMore, no-reads, no-more-same, txn-carried, lock-carried, versions-carried, settled-carried}
 use Rattle.rules.proofs.Quotas.{exclusives-fewer, quota-carried, quotas-but}
 use Rattle.rules.proofs.EqualRanks.{awaits→, awaitsOn→, waiter-inside}
 use Rattle.rules.proofs.Lines.{same-leaving, left-ranks, left-links}
@@ -188,6 +188,7 @@ module _
           itemKnown = λ d. absurd (d refl);
           itemUnused = λ e. refl;
           rankUnused = λ e. refl;
+          readsGood = no-reads R refl refl;
           awaitsShared = λ e. absurd (omega arith);
           awaitsExclusive = λ e. absurd (omega arith);
         }

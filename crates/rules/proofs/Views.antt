@@ -12,9 +12,9 @@ use lib.Seq.{getD-set-same, getD-set-other, set-getD, set-set, set-comm}
 use lib.Dec.{ltb}
 use borrow.Author.Tests.{ltb-true, ltb-false}
 use Rattle.names.specs.declared.Sizes.{Sizes}
-use Rattle.names.specs.Layout.{txnHead, txnNumberAt, txnKindAt, txnStartAt, txnLockAt, txnItemAt, txnRankAt, txnRow}
+use Rattle.names.specs.Layout.{txnHead, txnNumberAt, txnKindAt, txnStartAt, txnLockAt, txnItemAt, txnRankAt, txnCountAt, txnSumAt, txnRow}
 use Rattle.rules.specs.Words.{row}
-use Rattle.rules.specs.Tables.{behind, wordsFrom, putFrom, Txn, txnIn, txnWordsOf, txn, setTxn, noTxn, newTxn, txnAt, txnWords, lastNumber, clock, setAwaited, withRank, reranked}
+use Rattle.rules.specs.Tables.{behind, wordsFrom, putFrom, Txn, txnIn, txnWordsOf, txn, setTxn, noTxn, newTxn, txnAt, txnWords, lastNumber, clock, setAwaited, setReads, withRank, reranked}
 use Rattle.rules.specs.Tables.{Lock, lock, setLock, lockRow, lockWords, lockIn, lockWordsOf, released, release, unshared, unshare}
 use Rattle.rules.specs.Changed.{NoRank}
 use Rattle.rules.proofs.Rows.{row-word, row-mapRows, length-mapRows}
@@ -154,6 +154,27 @@ setAwaited-row t s k x p =
     ∙ ap (λ (u : List ℕ). set u (txnAt s + txnItemAt) x)
     (put-set (txnAt s) ws t 0 txnLockAt k (omega arith)
     ∙ ap (λ (u : List ℕ). set u (txnAt s + txnLockAt) k) (put-words (txnAt s) txnRow t 0))))
+  where
+    ws : List ℕ
+    ws = wordsFrom t (txnAt s) 0 txnRow
+
+-- to write a row back changes nothing
+pub setTxn-same : (t : List ℕ) (s : ℕ) → setTxn t s (txn t s) ≡ t
+unfolding setTxn txn
+setTxn-same t s = put-words (txnAt s) txnRow t 0
+
+-- request E8: the row with another read count and weight sum, and that to write these two is to write that row
+abbrev pub reading : Txn → ℕ → ℕ → Txn
+reading r n w = txnIn (set (set (txnWordsOf r) txnCountAt n) txnSumAt w)
+
+pub setReads-row : (t : List ℕ) (s n w : ℕ) → setReads t s n w ≡ setTxn t s (reading (txn t s) n w)
+unfolding setReads setTxn txn
+setReads-row t s n w =
+    sym
+    (put-set (txnAt s) (set ws txnCountAt n) t 0 txnSumAt w (omega arith)
+    ∙ ap (λ (u : List ℕ). set u (txnAt s + txnSumAt) w)
+    (put-set (txnAt s) ws t 0 txnCountAt n (omega arith)
+    ∙ ap (λ (u : List ℕ). set u (txnAt s + txnCountAt) n) (put-words (txnAt s) txnRow t 0)))
   where
     ws : List ℕ
     ws = wordsFrom t (txnAt s) 0 txnRow

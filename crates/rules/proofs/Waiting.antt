@@ -16,6 +16,7 @@ use Rattle.rules.specs.Answers.{Outcome, Call, BeginUpdate, BeginQuery, 
 use Rattle.rules.specs.Answers.{Wait, Deadlock, UnknownTransaction, UnknownItem, QueryMayNotWrite, StillWaiting, NoSlot, NumbersSpent, ClockSpent, BadTables, QuotaSpent, PastWriting}
 use Rattle.rules.specs.Step.{act, step, judged, done, begun, cleared, locked, committedUnder, committed, settledCommitted, ended, aborted, settledAborted, settled, awaitsOther, queryRead, withTxns}
 use Rattle.rules.specs.Conditions.{Caller, Free, Updater, CallerIn, ConflictIn, Names, Wants, Circle, When, order, Answered}
+use Rattle.rules.specs.Changed.{lookedAt}
 use Rattle.rules.specs.Promises.{codeOf, after, SameButRank, StaysWaiting, OthersLeave, RepeatedWaits}
 use Rattle.rules.proofs.Tests.{false-is, true-is, ne-make, same?}
 use Rattle.rules.proofs.Views.{txn-setTxn-other, txn-top}
@@ -23,6 +24,7 @@ use Rattle.rules.proofs.EqualRows.{query-reads, settled-reads}
 use Rattle.rules.proofs.EqualRanks.{→awaits, awaitsOn→, →awaitsOn}
 use Rattle.rules.proofs.Noting.{noted-known, noted-there, closed-row}
 use Rattle.rules.proofs.Waited.{only-this, cleared-there}
+use Rattle.rules.proofs.Counting.{counted-there}
 use Rattle.rules.proofs.Steps.{acts}
 use Rattle.rules.proofs.Callers.{caller-found}
 use Rattle.rules.proofs.Deadlock.{repeated}
@@ -33,7 +35,7 @@ use Rattle.rules.proofs.Refused.{NotedDown, HeldSilently, wait-is}
 use Rattle.rules.proofs.Answered.{answered}
 
 -- ---- a call names one transaction at most, and wants one lock
-named? : (c : Call) (m : ℕ) → Names c m ⊎ (Names c m → ⊥)
+pub named? : (c : Call) (m : ℕ) → Names c m ⊎ (Names c m → ⊥)
 named? BeginUpdate m = inr (λ h. h)
 named? BeginQuery m = inr (λ h. h)
 named? (Read n x) m = same? n m
@@ -127,7 +129,7 @@ module _ (S : Sizes) (G : Tables) (g : Good S G) (s : ℕ) (inside : s < S .slot
     other-row c d (readShared n r x U h f) o = cleared-other r (named c o n r refl (U .caller)) (U .caller .inside)
     other-row c d (keptWaiting r C q) o = same-row refl
     other-row c d (readSettled n r x C p i h) o = cleared-other r (named c o n r refl C) (C .inside)
-    other-row c d (readByStart n r x C q i b e) o = same-row refl
+    other-row c d (readByStart n r x C q i b e) o = same-row (counted-there t r (lookedAt S G r x) s (named c o n r refl C))
     other-row c d (wroteOwn n r x v U h) o = cleared-other r (named c o n r refl (U .caller)) (U .caller .inside)
     other-row c d (wroteSettled n r x v C p i h) o = cleared-other r (named c o n r refl C) (C .inside)
     other-row c d (wroteTaken n r x v U h f m) o = cleared-other r (named c o n r refl (U .caller)) (U .caller .inside)

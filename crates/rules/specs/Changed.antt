@@ -8,14 +8,15 @@ use mathlib.Core.List.{List, _∷_}
 use lib.ListN.{length, getD}
 use lib.Dec.{T}
 use Rattle.names.specs.declared.Sizes.{Sizes}
-use Rattle.names.specs.Layout.{lastNumberAt, clockAt, txnRow, txnLockAt, txnItemAt, txnRankAt}
+use Rattle.names.specs.Words.{heldAtLast}
+use Rattle.names.specs.Layout.{lastNumberAt, clockAt, txnRow, txnLockAt, txnItemAt, txnRankAt, txnCountAt, txnSumAt}
 use Rattle.rules.specs.Words.{row}
 use Rattle.rules.specs.Tables.{Tables, txnAt, lockRow, versionRow, lastNumber, clock, Txn, txn, noTxn, newTxn, noLock, anUpdate, aQuery, aSettled}
-use Rattle.rules.specs.Tables.{sharedLock, exclusiveLock, liveUpdate, liveQuery, liveSettled, byStart, starts, Lock, lock, setLock, holds, holdsShared, holdsExclusive, exclusivesOf, released, unshared}
+use Rattle.rules.specs.Tables.{sharedLock, exclusiveLock, liveUpdate, liveQuery, liveSettled, starts, Lock, lock, setLock, holds, holdsShared, holdsExclusive, exclusivesOf, released, unshared}
 use Rattle.rules.specs.Waits.{awaits, lowered}
 use Rattle.rules.specs.Versions.{Version, versionsOf, newest, place, choice, rowOf, kept}
 use Rattle.rules.specs.Answers.{Call, BeginUpdate, BeginQuery, Read, Write, Commit, Abort, Settle, Outcome, says, granted}
-use Rattle.rules.specs.Step.{heldBack, begun, locked, replaced, sharedToo, taken, withLocks, withNew, committed, settledCommitted, ended, aborted, settledAborted, settled}
+use Rattle.rules.specs.Step.{heldBack, begun, counted, locked, replaced, sharedToo, taken, withTxns, withLocks, withNew, committed, settledCommitted, ended, aborted, settledAborted, settled}
 use Rattle.rules.specs.Conditions.{Caller, Free, Updater}
 
 -- ---- what is said of two lists of words, t before and t′ after
@@ -61,6 +62,13 @@ pub record RowAndRanksChanged (S : Sizes) (s : ℕ) (r : Txn) (f : Txn → ℕ) 
 abbrev pub leaving : List ℕ → ℕ → Txn → ℕ
 leaving t s q = cond (awaits (txn t s)) (lowered ((txn t s) .awaitedItem) ((txn t s) .rank) q) (q .rank)
 
+-- request E8: the read count of row s is n and its weight sum w afterwards, and no other word changes
+pub record ReadsChanged (s n w : ℕ) (t t′ : List ℕ) : Type 0 where
+  pub size : length t′ ≡ length t
+  pub count : getD t′ (txnAt s + txnCountAt) 0 ≡ n
+  pub sum : getD t′ (txnAt s + txnSumAt) 0 ≡ w
+  pub others : (j : ℕ) → j ≢ txnAt s + txnCountAt → j ≢ txnAt s + txnSumAt → getD t′ j 0 ≡ getD t j 0
+
 -- the lock of item x is h afterwards, and no other word changes
 pub record LockChanged (x : ℕ) (h : Lock) (l l′ : List ℕ) : Type 0 where
   pub size : length l′ ≡ length l
@@ -91,6 +99,17 @@ pub record Begun (s k q : ℕ) (G G′ : Tables) : Type 0 where
   pub txns : WordAndRowChanged lastNumberAt (lastNumber (G .txns) + 1) s (newcomer G k q) (G .txns) (G′ .txns)
   pub locks : G′ .locks ≡ G .locks
   pub versions : G′ .versions ≡ G .versions
+
+-- request E8: a query's read, which looked at k versions, is counted: two words of its row, and nothing else at all
+pub record Counted (s k : ℕ) (G G′ : Tables) : Type 0 where
+  pub txns :
+      ReadsChanged s (heldAtLast ((txn (G .txns) s) .readCount + 1)) (heldAtLast ((txn (G .txns) s) .weightSum + k)) (G .txns) (G′ .txns)
+  pub locks : G′ .locks ≡ G .locks
+  pub versions : G′ .versions ≡ G .versions
+
+-- how many versions slot s looks at where it reads the item x by its start
+abbrev pub lookedAt : Sizes → Tables → ℕ → ℕ → ℕ
+lookedAt S G s x = suc (place ((txn (G .txns) s) .start) (versionsOf S (G .versions) x))
 
 -- "A grant clears the awaited fields.", and the lock of item x is h
 pub record Locked (S : Sizes) (s x : ℕ) (h : Lock) (G G′ : Tables) : Type 0 where
@@ -171,16 +190,22 @@ pub data Granted (S : Sizes) (G : Tables) : Call → Outcome → Type 0 where
   settledOwnRead :
       (n x s : ℕ) → Caller S G n s → T (liveSettled (txn (G .txns) s)) → x < S .items → T (holdsExclusive (lock (G .locks) x) s)
       → Granted S G (Read n x) (says granted ((lock (G .locks) x) .working) 0 0 G)
-  -- "the newest version whose stamp is at most its start", by a query or by one past its writing: no word changes
-  startReads :
-      (n x s : ℕ) → Caller S G n s → T (byStart (txn (G .txns) s)) → x < S .items
-      → (T (holdsExclusive (lock (G .locks) x) s) → ⊥) → heldBack S (G .txns) (G .locks) x s ≡ false
+  -- "the newest version whose stamp is at most its start": a query's read is counted
+  queryReads :
+      (n x s : ℕ) → Caller S G n s → T (liveQuery (txn (G .txns) s)) → x < S .items → heldBack S (G .txns) (G .locks) x s ≡ false
+      → Counted s (lookedAt S G s x) G (withTxns G (counted (G .txns) s (lookedAt S G s x)))
       → Granted S G (Read n x)
       (says granted
       ((choice ((txn (G .txns) s) .start) (versionsOf S (G .versions) x)) .value)
       0
-      (suc (place ((txn (G .txns) s) .start) (versionsOf S (G .versions) x)))
-      G)
+      (lookedAt S G s x)
+      (withTxns G (counted (G .txns) s (lookedAt S G s x))))
+  -- request E6, "reads by that stamp": no word changes
+  settledReads :
+      (n x s : ℕ) → Caller S G n s → T (liveSettled (txn (G .txns) s)) → x < S .items
+      → (T (holdsExclusive (lock (G .locks) x) s) → ⊥) → heldBack S (G .txns) (G .locks) x s ≡ false
+      → Granted S G (Read n x)
+      (says granted ((choice ((txn (G .txns) s) .start) (versionsOf S (G .versions) x)) .value) 0 (lookedAt S G s x) G)
   -- "replace the working value": the transactions and the versions are the very same lists
   valueReplaced :
       (n x v s : ℕ) → Updater S G n s exclusiveLock x → T (holdsExclusive (lock (G .locks) x) s)
@@ -209,10 +234,10 @@ pub data Granted (S : Sizes) (G : Tables) : Call → Outcome → Type 0 where
   emptyCommits :
       (n s : ℕ) → Caller S G n s → T (liveUpdate (txn (G .txns) s)) → exclusivesOf S (G .locks) s ≡ 0 → Aborted S s G (aborted S s G)
       → Granted S G (Commit n) (says granted 0 (clock (G .txns)) 0 (aborted S s G))
-  -- "A query only ends."
+  -- "A query only ends."; request E8: "answers the sum as value and the count as looked"
   queryCommits :
       (n s : ℕ) → Caller S G n s → T (liveQuery (txn (G .txns) s)) → Ended S s G (ended S s G)
-      → Granted S G (Commit n) (says granted 0 0 0 (ended S s G))
+      → Granted S G (Commit n) (says granted ((txn (G .txns) s) .weightSum) 0 ((txn (G .txns) s) .readCount) (ended S s G))
   -- request E6: "Its commit puts versions under that stamp, answers it and takes no new one"
   settledCommits :
       (n s : ℕ) → Caller S G n s → T (liveSettled (txn (G .txns) s))
@@ -233,4 +258,4 @@ pub data Granted (S : Sizes) (G : Tables) : Call → Outcome → Type 0 where
   -- "for a query is the same as commit"
   queryAborts :
       (n s : ℕ) → Caller S G n s → T (liveQuery (txn (G .txns) s)) → Ended S s G (ended S s G)
-      → Granted S G (Abort n) (says granted 0 0 0 (ended S s G))
+      → Granted S G (Abort n) (says granted ((txn (G .txns) s) .weightSum) 0 ((txn (G .txns) s) .readCount) (ended S s G))

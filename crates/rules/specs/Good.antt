@@ -15,6 +15,15 @@ use Rattle.rules.specs.Tables.{anUpdate, aQuery, aSettled, noLock, share
 use Rattle.rules.specs.Versions.{versionsIn, versionsOf, stampAt, place}
 use Rattle.rules.specs.Waits.{awaits, awaitsOn, waitersOn, waitsFor, Walk}
 
+-- ---- request E8: the clauses on the read count and the weight sum of the row r
+pub record GoodReads (r : Txn) : Type 0 where
+  -- "both held at 4,294,967,295 once there"
+  pub countMost : r .readCount ≤ lastWord
+  pub sumMost : r .weightSum ≤ lastWord
+  -- "and both 0 for every update", past its writing or not
+  pub updateCount : T (mayHold r) → r .readCount ≡ 0
+  pub updateSum : T (mayHold r) → r .weightSum ≡ 0
+
 -- ---- the clauses on the row r of slot s; t and l are the words of the transactions and of the locks
 pub record GoodTxn (S : Sizes) (t l : List ℕ) (s : ℕ) (r : Txn) : Type 0 where
   -- "A free row is all zeros"
@@ -35,6 +44,8 @@ pub record GoodTxn (S : Sizes) (t l : List ℕ) (s : ℕ) (r : Txn) : Type 0 whe
   pub itemUnused : r .awaitedLock ≡ noLock → r .awaitedItem ≡ 0
   -- request E4: the rank is "0 if it awaits nothing"
   pub rankUnused : r .awaitedLock ≡ noLock → r .rank ≡ 0
+  -- request E8
+  pub readsGood : GoodReads r
   -- "who awaits shared holds nothing on that item, who awaits exclusive does not hold it exclusively"
   pub awaitsShared : r .awaitedLock ≡ sharedLock → T (holds (lock l (r .awaitedItem)) s) → ⊥
   pub awaitsExclusive : r .awaitedLock ≡ exclusiveLock → T (holdsExclusive (lock l (r .awaitedItem)) s) → ⊥

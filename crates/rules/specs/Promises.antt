@@ -15,7 +15,7 @@ use Rattle.rules.specs.Waits.{awaitsOn, waitersOn, rankFor, raised, bloc
 use Rattle.rules.specs.Good.{Good}
 use Rattle.rules.specs.Locks.{Asked, toRead, toWrite, wanted}
 use Rattle.rules.specs.Answers.{Call, Read, Write, Abort, Outcome, says, granted, code, Wait, Deadlock}
-use Rattle.rules.specs.Step.{step, holdsBack, heldBack, writesFurther, withNew, committed, settledCommitted, ended, settledAborted}
+use Rattle.rules.specs.Step.{step, holdsBack, heldBack, writesFurther, withTxns, counted, withNew, committed, settledCommitted, ended, settledAborted}
 use Rattle.rules.specs.Conditions.{Caller, CallerIn, Updater, Names, Wants, NeedsLock, Circle, order, Answered}
 use Rattle.rules.specs.Changed.{AwaitedChanged, Granted}
 
@@ -232,15 +232,17 @@ unfoldable pub later : ℕ → List ℕ → ℕ
 later q [] = 0
 later q (s ∷ qs) = let rest = later q qs in cond (ltb q s) (suc rest) rest
 
--- "No lock": no word changes. "It is at most 2 plus the number of live queries with a later start."; request E6 counts those past their
--- writing among them. Read by a query, or by one past its writing that does not hold the item, where nobody holds it back
+-- "No lock": no word changes but, since request E8, those in which a query's read is counted. "It is at most 2 plus the number of live
+-- queries with a later start."; request E6 counts those past their writing among them. Read by a query, or by one past its writing that
+-- does not hold the item, where nobody holds it back
 abbrev pub StartReads : Sizes → Type 0
 StartReads S =
     (G : Tables) (n s x : ℕ) → Good S G → Caller S G n s → T (byStart (txn (G .txns) s)) → x < S .items
     → (T (holdsExclusive (lock (G .locks) x) s) → ⊥) → heldBack S (G .txns) (G .locks) x s ≡ false
     → let q = (txn (G .txns) s) .start in
     let vs = versionsOf S (G .versions) x in
-    (k : ℕ) × NewestUpTo q vs k × (step S (Read n x) G ≡ says granted ((getD vs k noVersion) .value) 0 (suc k) G)
+    (k : ℕ) × NewestUpTo q vs k
+    × (step S (Read n x) G ≡ says granted ((getD vs k noVersion) .value) 0 (suc k) (withTxns G (counted (G .txns) s (suc k))))
     × (suc k ≤ 2 + later q (starts S (G .txns)))
 
 -- "every row keeps its newest version and those that some live query reads, and no others": the versions vs of item x, as they are in

@@ -8,8 +8,9 @@ use lib.Dec.{eqb, leb}
 use Rattle.names.specs.declared.Sizes.{Sizes}
 use Rattle.names.specs.Sizes.{firstStamp, lastWord}
 use Rattle.names.specs.Layout.{lastNumberAt, clockAt}
+use Rattle.names.specs.Words.{heldAtLast}
 use Rattle.rules.specs.Words.{someBelow, withBit, withoutBit}
-use Rattle.rules.specs.Tables.{Tables, tables, lastNumber, clock, txn, setTxn, setAwaited, noTxn, newTxn, anUpdate, aQuery, aSettled, noLock, liveSettled}
+use Rattle.rules.specs.Tables.{Tables, tables, lastNumber, clock, txn, setTxn, setAwaited, setReads, noTxn, newTxn, anUpdate, aQuery, aSettled, noLock, liveSettled}
 use Rattle.rules.specs.Tables.{slotOf, freeSlot, starts, Lock, lock, setLock, holdsExclusive, exclusivesOf, release, unshare, sharedLock, exclusiveLock}
 use Rattle.rules.specs.Versions.{Version, versionsOf, newest, place, choice, rewritten}
 use Rattle.rules.specs.Waits.{noted, closedUp, circleAt}
@@ -194,13 +195,23 @@ abbrev pub taken : Lock → ℕ → ℕ → Lock
 taken h s v = record { shared = withoutBit (h .shared) s; exclusive = suc s; working = v }
 
 -- ---- Read by a query, and since request E6 by one past its writing
+-- request E8, "the first version in a row weighs 1, .. the nth n, summed over a query's reads since begin and divided by their number":
+-- the transactions with a read by slot s counted that looked at k versions. Both are "0 for every update", so one past its writing is not
+-- counted
+unfoldable pub counted : List ℕ → ℕ → ℕ → List ℕ
+counted t s k =
+    cond (eqb ((txn t s) .kind) aQuery)
+    (setReads t s (heldAtLast ((txn t s) .readCount + 1)) (heldAtLast ((txn t s) .weightSum + k)))
+    t
+
 -- "The value is that of the newest version whose stamp is at most its start. .. The looked count is the place of that version in its
 -- row, from 1."
 unfoldable pub queryRead : Sizes → ℕ → ℕ → Tables → Outcome
 queryRead S s x G =
     let q = (txn (G .txns) s) .start in
     let vs = versionsOf S (G .versions) x in
-    says granted ((choice q vs) .value) 0 (suc (place q vs)) G
+    let k = suc (place q vs) in
+    says granted ((choice q vs) .value) 0 k (withTxns G (counted (G .txns) s k))
 
 -- ---- Commit
 -- "For each item it holds exclusively the commit rewrites that item's row .. with the new pair in front.": the versions
@@ -266,7 +277,8 @@ done S (TakesExclusive s x v) G = says granted 0 0 0 (locked S (s .0) (x .0) (ta
 done S (Commits s) G = says granted 0 (clock (G .txns) + 1) 0 (committed S (s .0) G)
 -- request E7: "commits without a new stamp, answers the present clock". Its locks and its row go, as at an abort: it wrote nothing
 done S (CommitsEmpty s) G = says granted 0 (clock (G .txns)) 0 (aborted S (s .0) G)
-done S (Ends s) G = says granted 0 0 0 (ended S (s .0) G)
+-- request E8: "A query's commit or abort answers the sum as value and the count as looked"
+done S (Ends s) G = says granted ((txn (G .txns) (s .0)) .weightSum) 0 ((txn (G .txns) (s .0)) .readCount) (ended S (s .0) G)
 done S (Aborts s) G = says granted 0 0 0 (aborted S (s .0) G)
 -- "the stamp is answered as number"
 done S (Settles s) G = says granted 0 (clock (G .txns) + 1) 0 (settled S (s .0) G)

@@ -7,7 +7,7 @@ use lib.ListN.{getD, set, drop, replicate}
 use lib.Dec.{eqb}
 use Rattle.names.specs.declared.Sizes.{Sizes}
 pub use Rattle.names.specs.Layout.{anUpdate, aQuery, aSettled, noLock, sharedLock, exclusiveLock, lockRow}
-use Rattle.names.specs.Layout.{lastNumberAt, clockAt, txnHead, txnNumberAt, txnKindAt, txnStartAt, txnLockAt, txnItemAt, txnRankAt, txnRow}
+use Rattle.names.specs.Layout.{lastNumberAt, clockAt, txnHead, txnNumberAt, txnKindAt, txnStartAt, txnLockAt, txnItemAt, txnRankAt, txnCountAt, txnSumAt, txnRow}
 use Rattle.names.specs.Layout.{lockSharedAt, lockExclusiveAt, lockWorkingAt, versionStampAt, versionPair}
 use Rattle.rules.specs.Words.{countBelow, firstFrom, mapRows, bit, withoutBit}
 
@@ -49,7 +49,8 @@ abbrev pub txnWords : Sizes → ℕ
 txnWords S = txnAt (S .slots)
 
 -- "number (0 is free), kind (0 update, 1 query), start stamp (0 for an update), awaited lock (0 none, 1 shared, 2 exclusive),
--- awaited item (0 if none)"; request E4: "a word for its rank on the awaited item"; request E6: "kind 2 and that stamp as start"
+-- awaited item (0 if none)"; request E4: "a word for its rank on the awaited item"; request E6: "kind 2 and that stamp as start";
+-- request E8: "Each transaction row gains a read count and a weight sum"
 pub record Txn : Type 0 where
   pub number : ℕ
   pub kind : ℕ
@@ -57,6 +58,8 @@ pub record Txn : Type 0 where
   pub awaitedLock : ℕ
   pub awaitedItem : ℕ
   pub rank : ℕ
+  pub readCount : ℕ
+  pub weightSum : ℕ
 
 -- the words of a row as a transaction, and back
 abbrev pub txnIn : List ℕ → Txn
@@ -68,10 +71,12 @@ txnIn ws =
       awaitedLock = getD ws txnLockAt 0;
       awaitedItem = getD ws txnItemAt 0;
       rank = getD ws txnRankAt 0;
+      readCount = getD ws txnCountAt 0;
+      weightSum = getD ws txnSumAt 0;
     }
 
 abbrev pub txnWordsOf : Txn → List ℕ
-txnWordsOf r = r .number ∷ r .kind ∷ r .start ∷ r .awaitedLock ∷ r .awaitedItem ∷ r .rank ∷ []
+txnWordsOf r = r .number ∷ r .kind ∷ r .start ∷ r .awaitedLock ∷ r .awaitedItem ∷ r .rank ∷ r .readCount ∷ r .weightSum ∷ []
 
 -- the row of slot s, read and written
 unfoldable pub txn : List ℕ → ℕ → Txn
@@ -84,6 +89,10 @@ setTxn t s r = putFrom t (txnAt s) 0 (txnWordsOf r)
 unfoldable pub setAwaited : List ℕ → ℕ → ℕ → ℕ → ℕ → List ℕ
 setAwaited t s k x p = set (set (set t (txnAt s + txnLockAt) k) (txnAt s + txnItemAt) x) (txnAt s + txnRankAt) p
 
+-- request E8: the read count and the weight sum alone
+unfoldable pub setReads : List ℕ → ℕ → ℕ → ℕ → List ℕ
+setReads t s n w = set (set t (txnAt s + txnCountAt) n) (txnAt s + txnSumAt) w
+
 -- a row with another rank
 abbrev pub withRank : Txn → ℕ → Txn
 withRank r p =
@@ -94,6 +103,8 @@ withRank r p =
       awaitedLock = r .awaitedLock;
       awaitedItem = r .awaitedItem;
       rank = p;
+      readCount = r .readCount;
+      weightSum = r .weightSum;
     }
 
 -- the ranks alone: in each of the first n rows the one that f gives
@@ -103,10 +114,10 @@ reranked (suc n) f t = set (reranked n f t) (txnAt n + txnRankAt) (f (txn t n))
 
 -- a free row, and the row of one that begins: its number, its kind and its start
 abbrev pub noTxn : Txn
-noTxn = record { number = 0; kind = 0; start = 0; awaitedLock = 0; awaitedItem = 0; rank = 0 }
+noTxn = record { number = 0; kind = 0; start = 0; awaitedLock = 0; awaitedItem = 0; rank = 0; readCount = 0; weightSum = 0 }
 
 abbrev pub newTxn : ℕ → ℕ → ℕ → Txn
-newTxn n k q = record { number = n; kind = k; start = q; awaitedLock = noLock; awaitedItem = 0; rank = 0 }
+newTxn n k q = record { number = n; kind = k; start = q; awaitedLock = noLock; awaitedItem = 0; rank = 0; readCount = 0; weightSum = 0 }
 
 unfoldable pub live : Txn → Bool
 live r = not (eqb (r .number) 0)

@@ -23,11 +23,16 @@ unfoldable pub topsMost : List ℕ → Bool
 topsMost t = leb (lastNumber t) lastWord && leb (clock t) lastWord
 
 -- ---- one row of the transactions
--- "A free row is all zeros"
+-- "A free row is all zeros": its words but for the number
+unfoldable pub allZero : Txn → Bool
+allZero r =
+    eqb (r .kind) 0
+    && (eqb (r .start) 0
+    && (eqb (r .awaitedLock) 0
+    && (eqb (r .awaitedItem) 0 && (eqb (r .rank) 0 && (eqb (r .readCount) 0 && eqb (r .weightSum) 0)))))
+
 unfoldable pub freeZero : Txn → Bool
-freeZero r =
-    implies (not (live r))
-    (eqb (r .kind) 0 && (eqb (r .start) 0 && (eqb (r .awaitedLock) 0 && (eqb (r .awaitedItem) 0 && eqb (r .rank) 0))))
+freeZero r = implies (not (live r)) (allZero r)
 
 -- "kinds and awaited locks are as listed"
 unfoldable pub listed : Txn → Bool
@@ -44,6 +49,12 @@ startGood now r =
 unfoldable pub awaitedGood : Sizes → Txn → Bool
 awaitedGood S r = cond (eqb (r .awaitedLock) noLock) (eqb (r .awaitedItem) 0 && eqb (r .rank) 0) (ltb (r .awaitedItem) (S .items))
 
+-- request E8: the count and the sum are "held at 4,294,967,295 once there, and both 0 for every update"
+unfoldable pub readsGood : Txn → Bool
+readsGood r =
+    leb (r .readCount) lastWord
+    && (leb (r .weightSum) lastWord && implies (mayHold r) (eqb (r .readCount) 0 && eqb (r .weightSum) 0))
+
 -- "who awaits shared holds nothing on that item, who awaits exclusive does not hold it exclusively"
 unfoldable pub awaiterGood : ℕ → Txn → Lock → Bool
 awaiterGood s r h =
@@ -55,7 +66,8 @@ unfoldable pub txnGood : Sizes → List ℕ → List ℕ → ℕ → Txn → Boo
 txnGood S t l s r =
     freeZero r
     && (leb (r .number) (lastNumber t)
-    && (listed r && (startGood (clock t) r && (awaitedGood S r && awaiterGood s r (lock l (r .awaitedItem))))))
+    && (listed r
+    && (startGood (clock t) r && (awaitedGood S r && (readsGood r && awaiterGood s r (lock l (r .awaitedItem)))))))
 
 -- "live numbers are distinct"
 unfoldable pub distinct : Sizes → List ℕ → Bool

@@ -1,18 +1,18 @@
 -- The pass over the transaction rows: what each kind of row is tested for, and what is known after some rows.
 use Prim.Native.Nat.{ℕ, _+_, _<_, _≤_}
-use mathlib.Core.Path.{_≡_, refl, sym, ap, _∙_}
+use mathlib.Core.Path.{_≡_, refl, sym, ap, ap₂, _∙_}
 use mathlib.Core.Logic.{_≢_, _⊎_, inl, inr}
 use mathlib.Core.Bool.{Bool, true, false, _&&_, _||_, not, cond}
 use mathlib.Core.List.{List}
 use native.Mathlib.Omega.{arith}
 use lib.Bits.{bitOr}
-use lib.Dec.{eqb, leb, ltb}
+use lib.Dec.{T, eqb, leb, ltb, eqb→eq}
 use borrow.Author.Tests.{eq-eqb, ne-eqb, eqb-true, le-leb, lt-leb, lt-ltb}
-use Rattle.names.specs.Sizes.{base}
+use Rattle.names.specs.Sizes.{base, lastWord}
 use Rattle.rules.specs.Words.{implies, everyBelow}
-use Rattle.rules.specs.Tables.{lastNumber, clock, Txn, txn, live, liveUpdate, liveSettled, byStart, aQuery, aSettled, noLock, exclusiveLock}
-use Rattle.rules.specs.Tested.{topsMost, freeZero, listed, startGood, awaitedGood}
-use Rattle.rules.proofs.Tests.{is-true, is-false, true-is, and-left, and-right, implies-make, same?}
+use Rattle.rules.specs.Tables.{lastNumber, clock, Txn, txn, live, liveUpdate, liveSettled, mayHold, byStart, aQuery, aSettled, noLock, exclusiveLock}
+use Rattle.rules.specs.Tested.{topsMost, allZero, freeZero, listed, startGood, awaitedGood, readsGood}
+use Rattle.rules.proofs.Tests.{iff-eq, is-true, is-false, true-is, and-left, and-right, and-both, implies-make, same?}
 use Rattle.rules.proofs.Counts.{→everyBelow}
 use Rattle.rules.proofs.EqualRows.{live-number}
 use Rattle.words.proofs.Turns.{every-more}
@@ -21,12 +21,17 @@ use Rattle.words.proofs.SlotWords.{oneShifted}
 use Rattle.shapes.proofs.Masks.{slots-yes, slots-no}
 
 -- ---- truth tables
-free-law : (k₀ s₀ a₀ x₀ k₁ a₂ xᵢ : Bool) → (k₀ ≡ true → k₁ ≡ true) → (a₀ ≡ true → a₂ ≡ true) → (k₀ && s₀ && a₀ && x₀) ≡ ((k₀ && (s₀ && (a₀ && x₀))) && ((k₁ && a₂) && cond a₀ x₀ xᵢ))
-free-law false s₀ a₀ x₀ k₁ a₂ xᵢ f g = refl
-free-law true false a₀ x₀ k₁ a₂ xᵢ f g = refl
-free-law true true false x₀ k₁ a₂ xᵢ f g = refl
-free-law true true true false k₁ a₂ xᵢ f g = refl
-free-law true true true true k₁ a₂ xᵢ f g = rw (f refl, g refl)
+free-law :
+    (k₀ s₀ a₀ x p c w k₁ a₂ xᵢ R : Bool) → (k₀ ≡ true → k₁ ≡ true) → (a₀ ≡ true → a₂ ≡ true) → ((c && w) ≡ true → R ≡ true)
+    → (k₀ && s₀ && a₀ && (x && p) && (c && w)) ≡ ((k₀ && (s₀ && (a₀ && (x && (p && (c && w)))))) && ((k₁ && a₂) && (cond a₀ (x && p) xᵢ && R)))
+free-law false s₀ a₀ x p c w k₁ a₂ xᵢ R f g h = refl
+free-law true false a₀ x p c w k₁ a₂ xᵢ R f g h = refl
+free-law true true false x p c w k₁ a₂ xᵢ R f g h = refl
+free-law true true true false p c w k₁ a₂ xᵢ R f g h = refl
+free-law true true true true false c w k₁ a₂ xᵢ R f g h = refl
+free-law true true true true true false w k₁ a₂ xᵢ R f g h = refl
+free-law true true true true true true false k₁ a₂ xᵢ R f g h = refl
+free-law true true true true true true true k₁ a₂ xᵢ R f g h = rw (f refl, g refl, h refl)
 
 update-law : (n s₀ a₂ xᵢ a₀ x₀ : Bool) → (x₀ ≡ true → xᵢ ≡ true) → (n && s₀ && a₂ && xᵢ && (not a₀ || x₀)) ≡ (n && (a₂ && ((s₀ && true) && cond a₀ x₀ xᵢ)))
 update-law false s₀ a₂ xᵢ a₀ x₀ f = refl
@@ -62,9 +67,9 @@ settled-law true true true false x₀ true xᵢ f = refl
 settled-law true true true false x₀ false xᵢ f = refl
 settled-law true true true true x₀ a₂ xᵢ f = rw (f refl)
 
-kind-law : (n s a₀ x₀ : Bool) → (n && false && s && a₀ && x₀) ≡ (n && false)
-kind-law true s a₀ x₀ = refl
-kind-law false s a₀ x₀ = refl
+kind-law : (n s a₀ x₀ z : Bool) → (n && false && s && a₀ && x₀ && z) ≡ (n && false)
+kind-law true s a₀ x₀ z = refl
+kind-law false s a₀ x₀ z = refl
 
 and-turn : (a b c : Bool) → ((a && b) && c) ≡ (a && (c && b))
 and-turn false b c = refl
@@ -73,45 +78,129 @@ and-turn true true false = refl
 and-turn true false true = refl
 and-turn true false false = refl
 
+-- the reads come last: what is asked of a live row but for them, and of them
+reads-last : (n l s a R : Bool) → (n && (l && (s && (a && R)))) ≡ ((n && (l && (s && a))) && R)
+reads-last false l s a R = refl
+reads-last true false s a R = refl
+reads-last true true false a R = refl
+reads-last true true true a R = refl
+
+and-true : (b : Bool) → (b && true) ≡ b
+and-true true = refl
+and-true false = refl
+
+-- ---- request E8: the read count and the weight sum of a row
+module _ (r : Txn) where
+  zero-most : (n : ℕ) → T (eqb n 0) → T (leb n lastWord)
+  zero-most n h = true-is (le-leb n lastWord (let z = eqb→eq n 0 h in omega arith))
+
+  -- no reads are within every bound
+  within :
+      T (eqb (r .readCount) 0 && eqb (r .weightSum) 0)
+      → T (leb (r .readCount) lastWord && (leb (r .weightSum) lastWord && (eqb (r .readCount) 0 && eqb (r .weightSum) 0)))
+  within h =
+      and-both (leb (r .readCount) lastWord) _ (zero-most (r .readCount) (and-left (eqb (r .readCount) 0) _ h))
+      (and-both (leb (r .weightSum) lastWord) _ (zero-most (r .weightSum) (and-right (eqb (r .readCount) 0) _ h)) h)
+
+  zero-reads : (eqb (r .readCount) 0 && eqb (r .weightSum) 0) ≡ true → readsGood r ≡ true
+  unfolding readsGood
+  zero-reads e =
+      let w = within (true-is e) in
+      let v = and-right (leb (r .readCount) lastWord) _ w in
+      is-true (readsGood r)
+      (and-both (leb (r .readCount) lastWord) _ (and-left (leb (r .readCount) lastWord) _ w)
+      (and-both (leb (r .weightSum) lastWord) _ (and-left (leb (r .weightSum) lastWord) _ v) (implies-make (mayHold r) _ (λ z. true-is e))))
+
+  holder-reads : mayHold r ≡ true → (eqb (r .readCount) 0 && eqb (r .weightSum) 0) ≡ readsGood r
+  unfolding readsGood implies
+  holder-reads e =
+      rw e
+      (iff-eq _ _ within
+      (λ h. and-right (leb (r .weightSum) lastWord) _ (and-right (leb (r .readCount) lastWord) _ h)))
+
+  other-reads : mayHold r ≡ false → (leb (r .readCount) lastWord && leb (r .weightSum) lastWord) ≡ readsGood r
+  unfolding readsGood implies
+  other-reads e = rw e (ap (λ (b : Bool). leb (r .readCount) lastWord && b) (sym (and-true (leb (r .weightSum) lastWord))))
+
+-- who may hold: an update, past its writing or not, and no other
+module _ (r : Txn) (d : r .number ≢ 0) where
+  update-holds : r .kind ≡ 0 → mayHold r ≡ true
+  unfolding mayHold liveUpdate live
+  update-holds e = rw (ne-eqb (r .number) 0 d, eq-eqb (r .kind) 0 e)
+
+  settled-holds : r .kind ≡ 2 → mayHold r ≡ true
+  unfolding mayHold liveUpdate liveSettled live
+  settled-holds e = rw (ne-eqb (r .number) 0 d, ne-eqb (r .kind) 0 (λ z. omega arith), eq-eqb (r .kind) 2 e)
+
+  none-holds : r .kind ≢ 0 → r .kind ≢ 2 → mayHold r ≡ false
+  unfolding mayHold liveUpdate liveSettled live
+  none-holds e f = rw (ne-eqb (r .number) 0 d, ne-eqb (r .kind) 0 e, ne-eqb (r .kind) 2 f)
+
 -- ---- the three kinds of rows
 module _ (t : List ℕ) (r : Txn) where
   small : r .awaitedLock ≡ 0 → leb (r .awaitedLock) exclusiveLock ≡ true
   small e = le-leb (r .awaitedLock) exclusiveLock (omega arith)
 
-  pub free-same : r .number ≡ 0 → freeOk (r .kind) (r .start) (r .awaitedLock) (r .awaitedItem) (r .rank) ≡ rowGood base t r
-  unfolding rowGood freeZero listed startGood awaitedGood live liveUpdate liveSettled byStart implies
+  -- what is awaited, as the rules test it; that it is none
+  abbrev awaited : Bool
+  awaited = cond (eqb (r .awaitedLock) 0) (eqb (r .awaitedItem) 0 && eqb (r .rank) 0) (ltb (r .awaitedItem) (base .items))
+
+  abbrev unranked : Bool
+  unranked = eqb (r .awaitedItem) 0 && eqb (r .rank) 0
+
+  pub free-same : r .number ≡ 0 → freeOk (r .kind) (r .start) (r .awaitedLock) (r .awaitedItem) (r .rank) (r .readCount) (r .weightSum) ≡ rowGood base t r
+  unfolding rowGood freeZero allZero listed startGood awaitedGood live liveUpdate liveSettled byStart implies
   free-same e =
       rw (eq-eqb (r .number) 0 e, le-leb (r .number) (lastNumber t) (omega arith))
-      (free-law (eqb (r .kind) 0) (eqb (r .start) 0) (eqb (r .awaitedLock) 0) (eqb (r .awaitedItem) 0 && eqb (r .rank) 0) (leb (r .kind) aSettled) (leb (r .awaitedLock) exclusiveLock) (ltb (r .awaitedItem) (base .items))
+      (free-law (eqb (r .kind) 0) (eqb (r .start) 0) (eqb (r .awaitedLock) 0) (eqb (r .awaitedItem) 0) (eqb (r .rank) 0) (eqb (r .readCount) 0) (eqb (r .weightSum) 0)
+      (leb (r .kind) aSettled) (leb (r .awaitedLock) exclusiveLock) (ltb (r .awaitedItem) (base .items)) (readsGood r)
       (λ z. le-leb (r .kind) aSettled (let k = eqb-true (r .kind) 0 z in omega arith))
-      (λ z. small (eqb-true (r .awaitedLock) 0 z)))
+      (λ z. small (eqb-true (r .awaitedLock) 0 z))
+      (zero-reads r))
 
-  pub update-same : r .number ≢ 0 → r .kind ≡ 0 → updateOk (lastNumber t) (r .number) (r .start) (r .awaitedLock) (r .awaitedItem) (r .rank) ≡ rowGood base t r
+  pub update-same :
+      r .number ≢ 0 → r .kind ≡ 0
+      → updateOk (lastNumber t) (r .number) (r .start) (r .awaitedLock) (r .awaitedItem) (r .rank) (r .readCount) (r .weightSum) ≡ rowGood base t r
   unfolding rowGood freeZero listed startGood awaitedGood live liveUpdate liveSettled byStart implies
   update-same d e =
       rw (ne-eqb (r .number) 0 d, eq-eqb (r .kind) 0 e, ne-eqb (r .kind) 2 (λ z. omega arith), le-leb (r .kind) aSettled (omega arith))
-      (update-law (leb (r .number) (lastNumber t)) (eqb (r .start) 0) (leb (r .awaitedLock) exclusiveLock) (ltb (r .awaitedItem) (base .items)) (eqb (r .awaitedLock) 0) (eqb (r .awaitedItem) 0 && eqb (r .rank) 0)
+      (ap₂ _&&_
+      (update-law (leb (r .number) (lastNumber t)) (eqb (r .start) 0) (leb (r .awaitedLock) exclusiveLock) (ltb (r .awaitedItem) (base .items)) (eqb (r .awaitedLock) 0) unranked
       (λ z. lt-ltb (r .awaitedItem) (base .items) (let k = eqb-true (r .awaitedItem) 0 (is-true (eqb (r .awaitedItem) 0) (and-left (eqb (r .awaitedItem) 0) (eqb (r .rank) 0) (true-is z))) in omega arith)))
+      (holder-reads r (update-holds r d e))
+      ∙ sym (reads-last (leb (r .number) (lastNumber t)) (leb (r .awaitedLock) exclusiveLock) (eqb (r .start) 0 && true) awaited (readsGood r)))
 
-  pub settled-same : r .number ≢ 0 → r .kind ≡ 2 → settledOk (lastNumber t) (clock t) (r .number) (r .start) (r .awaitedLock) (r .awaitedItem) (r .rank) ≡ rowGood base t r
+  pub settled-same :
+      r .number ≢ 0 → r .kind ≡ 2
+      → settledOk (lastNumber t) (clock t) (r .number) (r .start) (r .awaitedLock) (r .awaitedItem) (r .rank) (r .readCount) (r .weightSum) ≡ rowGood base t r
   unfolding rowGood freeZero listed startGood awaitedGood live liveUpdate liveSettled byStart implies
   settled-same d e =
       rw (ne-eqb (r .number) 0 d, ne-eqb (r .kind) 0 (λ z. omega arith), eq-eqb (r .kind) 2 e, le-leb (r .kind) aSettled (omega arith))
-      (settled-law (leb (r .number) (lastNumber t)) (leb 1 (r .start)) (leb (r .start) (clock t)) (eqb (r .awaitedLock) 0) (eqb (r .awaitedItem) 0 && eqb (r .rank) 0) (leb (r .awaitedLock) exclusiveLock) (ltb (r .awaitedItem) (base .items))
+      (ap₂ _&&_
+      (settled-law (leb (r .number) (lastNumber t)) (leb 1 (r .start)) (leb (r .start) (clock t)) (eqb (r .awaitedLock) 0) unranked (leb (r .awaitedLock) exclusiveLock) (ltb (r .awaitedItem) (base .items))
       (λ z. small (eqb-true (r .awaitedLock) 0 z)))
+      (holder-reads r (settled-holds r d e))
+      ∙ sym (reads-last (leb (r .number) (lastNumber t)) (leb (r .awaitedLock) exclusiveLock) ((leb (r .start) (clock t) && eqb (r .awaitedLock) 0) && leb 1 (r .start)) awaited (readsGood r)))
 
-  pub query-same : r .number ≢ 0 → r .kind ≢ 0 → r .kind ≢ 2 → queryOk (lastNumber t) (clock t) (r .number) (r .kind) (r .start) (r .awaitedLock) (r .awaitedItem) (r .rank) ≡ rowGood base t r
+  pub query-same :
+      r .number ≢ 0 → r .kind ≢ 0 → r .kind ≢ 2
+      → queryOk (lastNumber t) (clock t) (r .number) (r .kind) (r .start) (r .awaitedLock) (r .awaitedItem) (r .rank) (r .readCount) (r .weightSum) ≡ rowGood base t r
   unfolding rowGood freeZero listed startGood awaitedGood live liveUpdate liveSettled byStart implies
   query-same d e f = go (same? (r .kind) 1)
     where
-      go : (r .kind ≡ 1) ⊎ (r .kind ≢ 1) → queryOk (lastNumber t) (clock t) (r .number) (r .kind) (r .start) (r .awaitedLock) (r .awaitedItem) (r .rank) ≡ rowGood base t r
+      go :
+          (r .kind ≡ 1) ⊎ (r .kind ≢ 1)
+          → queryOk (lastNumber t) (clock t) (r .number) (r .kind) (r .start) (r .awaitedLock) (r .awaitedItem) (r .rank) (r .readCount) (r .weightSum) ≡ rowGood base t r
       go (inl q) =
           rw (ne-eqb (r .number) 0 d, ne-eqb (r .kind) 0 e, eq-eqb (r .kind) 1 q, ne-eqb (r .kind) 2 f, le-leb (r .kind) aSettled (omega arith))
-          (query-law (leb (r .number) (lastNumber t)) (leb (r .start) (clock t)) (eqb (r .awaitedLock) 0) (eqb (r .awaitedItem) 0 && eqb (r .rank) 0) (leb (r .awaitedLock) exclusiveLock) (ltb (r .awaitedItem) (base .items))
+          (ap₂ _&&_
+          (query-law (leb (r .number) (lastNumber t)) (leb (r .start) (clock t)) (eqb (r .awaitedLock) 0) unranked (leb (r .awaitedLock) exclusiveLock) (ltb (r .awaitedItem) (base .items))
           (λ z. small (eqb-true (r .awaitedLock) 0 z)))
+          (other-reads r (none-holds r d e f))
+          ∙ sym (reads-last (leb (r .number) (lastNumber t)) (leb (r .awaitedLock) exclusiveLock) ((leb (r .start) (clock t) && eqb (r .awaitedLock) 0) && true) awaited (readsGood r)))
       go (inr q) =
           rw (ne-eqb (r .number) 0 d, ne-eqb (r .kind) 1 q, lt-leb (r .kind) aSettled (omega arith))
-          (kind-law (leb (r .number) (lastNumber t)) (leb (r .start) (clock t)) (eqb (r .awaitedLock) 0) (eqb (r .awaitedItem) 0 && eqb (r .rank) 0))
+          (kind-law (leb (r .number) (lastNumber t)) (leb (r .start) (clock t)) (eqb (r .awaitedLock) 0) unranked (leb (r .readCount) lastWord && leb (r .weightSum) lastWord))
 
 -- which of them is a live update
 module _ (r : Txn) where
@@ -159,10 +248,6 @@ pub record Passed (t : List ℕ) (ok : Bool) (updates waiting settled i : ℕ) :
   pub ofUpdates : updates ≡ slotsThat i (λ s. liveUpdate (txn t s))
   pub ofWaiting : waiting ≡ slotsThat i (λ s. waits (txn t s))
   pub ofSettled : settled ≡ slotsThat i (λ s. liveSettled (txn t s))
-
-and-true : (b : Bool) → (b && true) ≡ b
-and-true true = refl
-and-true false = refl
 
 pub passed-begin : (t : List ℕ) → Passed t (topsMost t) 0 0 0 0
 unfolding everyBelow slotsThat

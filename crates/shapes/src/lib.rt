@@ -15,6 +15,7 @@ use names::LAST_NUMBER_AT;
 use names::NO_LOCK;
 use names::QUERY_KIND;
 use names::SETTLED_KIND;
+use names::TXN_COUNT_AT;
 use names::TXN_HEAD;
 use names::TXN_ITEM_AT;
 use names::TXN_KIND_AT;
@@ -22,6 +23,7 @@ use names::TXN_LOCK_AT;
 use names::TXN_RANK_AT;
 use names::TXN_ROW;
 use names::TXN_START_AT;
+use names::TXN_SUM_AT;
 use names::UPDATE_KIND;
 
 const SLOTS: usize = names::SLOTS as usize;
@@ -37,25 +39,40 @@ pub struct Seen {
 }
 
 // A free row is all zeros.
-fn free_ok(kind: u64, start: u64, wanted: u64, item: u64, rank: u64) -> bool
-    ensures { λ r. ⌜ r ≡ freeOk kind start wanted item rank ⌝ }
+fn free_ok(kind: u64, start: u64, wanted: u64, item: u64, rank: u64, count: u64, sum: u64) -> bool
+    ensures { λ r. ⌜ r ≡ freeOk kind start wanted item rank count sum ⌝ }
 {
-    (kind == 0) & (start == 0) & (wanted == 0) & ((item == 0) & (rank == 0))
+    (kind == 0)
+        & (start == 0)
+        & (wanted == 0)
+        & ((item == 0) & (rank == 0))
+        & ((count == 0) & (sum == 0))
 }
 
 // A live update has a number that was given and no start; it may await a lock on an item, with a
-// rank there.
-fn update_ok(last: u64, number: u64, start: u64, wanted: u64, item: u64, rank: u64) -> bool
-    ensures { λ r. ⌜ r ≡ updateOk last number start wanted item rank ⌝ }
+// rank there. Its reads are not counted.
+fn update_ok(
+    last: u64,
+    number: u64,
+    start: u64,
+    wanted: u64,
+    item: u64,
+    rank: u64,
+    count: u64,
+    sum: u64,
+) -> bool
+    ensures { λ r. ⌜ r ≡ updateOk last number start wanted item rank count sum ⌝ }
 {
     (number <= last)
         & (start == 0)
         & (wanted <= EXCLUSIVE_LOCK)
         & (item < names::ITEMS)
         & (!(wanted == NO_LOCK) | ((item == 0) & (rank == 0)))
+        & ((count == 0) & (sum == 0))
 }
 
-// A live query has a number that was given and a start that was; it awaits nothing.
+// A live query has a number that was given and a start that was; it awaits nothing. The count of its
+// reads and the sum of their weights are held at the last word.
 fn query_ok(
     last: u64,
     clock: u64,
@@ -65,17 +82,21 @@ fn query_ok(
     wanted: u64,
     item: u64,
     rank: u64,
+    count: u64,
+    sum: u64,
 ) -> bool
-    ensures { λ r. ⌜ r ≡ queryOk last clock number kind start wanted item rank ⌝ }
+    ensures { λ r. ⌜ r ≡ queryOk last clock number kind start wanted item rank count sum ⌝ }
 {
     (number <= last)
         & (kind == QUERY_KIND)
         & (start <= clock)
         & (wanted == NO_LOCK)
         & ((item == 0) & (rank == 0))
+        & ((count <= names::LAST_WORD) & (sum <= names::LAST_WORD))
 }
 
-// One past its writing has a number and a stamp that were given; it awaits nothing.
+// One past its writing has a number and a stamp that were given; it awaits nothing, and its reads
+// are not counted.
 fn settled_ok(
     last: u64,
     clock: u64,
@@ -84,13 +105,16 @@ fn settled_ok(
     wanted: u64,
     item: u64,
     rank: u64,
+    count: u64,
+    sum: u64,
 ) -> bool
-    ensures { λ r. ⌜ r ≡ settledOk last clock number start wanted item rank ⌝ }
+    ensures { λ r. ⌜ r ≡ settledOk last clock number start wanted item rank count sum ⌝ }
 {
     (number <= last)
         & ((1 <= start) & (start <= clock))
         & (wanted == NO_LOCK)
         & ((item == 0) & (rank == 0))
+        & ((count == 0) & (sum == 0))
 }
 
 // One pass over the transaction rows.
@@ -113,21 +137,36 @@ pub fn rows(txns: &[u64]) -> Seen
         let wanted = txns[at + TXN_LOCK_AT];
         let item = txns[at + TXN_ITEM_AT];
         let rank = txns[at + TXN_RANK_AT];
+        let count = txns[at + TXN_COUNT_AT];
+        let sum = txns[at + TXN_SUM_AT];
         if number == 0 {
-            ok = ok & free_ok(kind, start, wanted, item, rank);
+            ok = ok & free_ok(kind, start, wanted, item, rank, count, sum);
         } else {
             if kind == UPDATE_KIND {
-                ok = ok & update_ok(last, number, start, wanted, item, rank);
+                ok = ok & update_ok(last, number, start, wanted, item, rank, count, sum);
                 updates = updates | (1 << slot);
                 if wanted != NO_LOCK {
                     waiting = waiting | (1 << slot);
                 }
             } else {
                 if kind == SETTLED_KIND {
-                    ok = ok & settled_ok(last, clock, number, start, wanted, item, rank);
+                    ok = ok
+                        & settled_ok(last, clock, number, start, wanted, item, rank, count, sum);
                     settled = settled | (1 << slot);
                 } else {
-                    ok = ok & query_ok(last, clock, number, kind, start, wanted, item, rank);
+                    ok = ok
+                        & query_ok(
+                            last,
+                            clock,
+                            number,
+                            kind,
+                            start,
+                            wanted,
+                            item,
+                            rank,
+                            count,
+                            sum,
+                        );
                 }
             }
         }

@@ -11,8 +11,9 @@ use Rattle.starred_row.specs.FullRow.{trialI, fullRow}
 use Rattle.starred_quotas.specs.Quotas.{trialQ, trialR}
 use Rattle.starred_waiters.specs.Waiters.{nobodyStands, secondStands, trialS, trialT, exchangerAhead, trialU, closedUpLine, trialV}
 use Rattle.starred_settled.specs.Settled.{endXY, endAA, trialX, trialY, trialAA}
+use Rattle.starred_weighed.specs.Weighed.{trialAB, belowLimit, trialAC, trialAD, atLimit, trialAE, beyondLimit, trialAF}
 
--- "A. The run above."
+-- "A. The run above.", and of request E8 "trial A's `commit 2` now prints `0 3 0 2`"
 unfoldable pub trialA : List Line
 trialA =
     (BeginUpdate ⇒ (0, 0, 1, 0))
@@ -21,7 +22,7 @@ trialA =
     ∷ (Read 2 5 ⇒ (0, 0, 0, 1))
     ∷ (Commit 1 ⇒ (0, 0, 1, 0))
     ∷ (Read 2 5 ⇒ (0, 0, 0, 2))
-    ∷ (Commit 2 ⇒ (0, 0, 0, 0))
+    ∷ (Commit 2 ⇒ (0, 3, 0, 2))
     ∷ (Read 2 5 ⇒ (3, 0, 0, 0))
     ∷ []
 
@@ -119,7 +120,7 @@ trialL = (BeginUpdate ⇒ (10, 0, 0, 0)) ∷ []
 unfoldable pub uncounted : Sizes → Tables
 uncounted S = tables ((fresh S) .txns) ((fresh S) .locks) (set ((fresh S) .versions) (versionRow S) 0)
 
--- ---- the list of them, and of those of requests E2, E4, E6 and E7; the ends of C, E and F are those of E4. A keeper of the sizes S
+-- ---- the list of them, and of those of requests E2, E4, E6, E7 and E8; the ends of C, E and F are those of E4. A keeper of the sizes S
 unfoldable pub trials : Sizes → List Trial
 trials S =
     (record { from = fresh S; script = trialA; end = anyEnd })
@@ -143,4 +144,9 @@ trials S =
     ∷ (record { from = fresh S; script = trialX; end = endXY S })
     ∷ (record { from = fresh S; script = trialY; end = endXY S })
     ∷ (record { from = fresh S; script = trialAA; end = endAA S })
+    ∷ (record { from = fresh S; script = trialAB; end = anyEnd })
+    ∷ (record { from = belowLimit S; script = trialAC; end = anyEnd })
+    ∷ (record { from = belowLimit S; script = trialAD; end = anyEnd })
+    ∷ (record { from = atLimit S; script = trialAE; end = anyEnd })
+    ∷ (record { from = beyondLimit S; script = trialAF; end = anyEnd })
     ∷ []

@@ -11,7 +11,7 @@ use Rattle.rules.specs.Words.{bit, implies}
 use Rattle.rules.specs.Tables.{txnWords, lockWords, lastNumber, clock, Txn, txn, live, liveUpdate, anUpdate, aQuery, aSettled, noLock, sharedLock, exclusiveLock}
 use Rattle.rules.specs.Tables.{lock, holds, holdsShared, holdsExclusive}
 use Rattle.rules.specs.Good.{GoodTxn}
-use Rattle.rules.specs.Tested.{topsMost, freeZero, listed, startGood, awaitedGood, awaiterGood, txnGood, lockGood}
+use Rattle.rules.specs.Tested.{topsMost, freeZero, listed, startGood, awaitedGood, readsGood, awaiterGood, txnGood, lockGood}
 use Rattle.rules.proofs.Tests.{and-right, and-both, or-cases, or-right, not-make, implies-make, ne-make, false-is}
 use Rattle.rules.proofs.Counts.{everyBelow→}
 use Rattle.rules.proofs.Bits.{bit-none}
@@ -22,16 +22,17 @@ use Rattle.waiting.specs.Waiting.{Readable, Awaiting}
 use Rattle.shapes.proofs.Masks.{slots-at, slots-lt}
 
 -- ---- the rules' test of a row, in two parts
-and-out : (a b c d e f : Bool) → (a && (b && (c && (d && (e && f))))) ≡ ((a && (b && (c && (d && e)))) && f)
-and-out false b c d e f = refl
-and-out true false c d e f = refl
-and-out true true false d e f = refl
-and-out true true true false e f = refl
-and-out true true true true e f = refl
+and-out : (a b c d e f g : Bool) → (a && (b && (c && (d && (e && (f && g)))))) ≡ ((a && (b && (c && (d && (e && f))))) && g)
+and-out false b c d e f g = refl
+and-out true false c d e f g = refl
+and-out true true false d e f g = refl
+and-out true true true false e f g = refl
+and-out true true true true false f g = refl
+and-out true true true true true f g = refl
 
 pub row-parts : (t l : List ℕ) (s : ℕ) (r : Txn) → txnGood base t l s r ≡ (rowGood base t r && awaiterGood s r (lock l (r .awaitedItem)))
 unfolding txnGood rowGood
-row-parts t l s r = and-out (freeZero r) (leb (r .number) (lastNumber t)) (listed r) (startGood (clock t) r) (awaitedGood base r) (awaiterGood s r (lock l (r .awaitedItem)))
+row-parts t l s r = and-out (freeZero r) (leb (r .number) (lastNumber t)) (listed r) (startGood (clock t) r) (awaitedGood base r) (readsGood r) (awaiterGood s r (lock l (r .awaitedItem)))
 
 -- nobody holds a lock in no words
 unheld : (s x : ℕ) → T (holds (lock [] x) s) → ⊥

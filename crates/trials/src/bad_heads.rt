@@ -38,35 +38,35 @@ on 0
 lend 0 192 4160
 damage: no words of transactions
 on 0
-lend 193 192 4160
-damage: 193 words of transactions
+lend 257 192 4160
+damage: 257 words of transactions
 on 0
-lend 195 192 4160
-damage: 195 words of transactions
+lend 259 192 4160
+damage: 259 words of transactions
 on 0
-lend 194 0 4160
+lend 258 0 4160
 damage: no words of locks
 on 0
-lend 194 191 4160
+lend 258 191 4160
 damage: 191 words of locks
 on 0
-lend 194 193 4160
+lend 258 193 4160
 damage: 193 words of locks
 on 0
-lend 194 192 0
+lend 258 192 0
 damage: no words of versions
 on 0
-lend 194 192 4159
+lend 258 192 4159
 damage: 4159 words of versions
 on 0
-lend 194 192 4161
+lend 258 192 4161
 damage: 4161 words of versions
 on 0
 lend 0 0 0
 damage: no words at all
 on 0
-lend 194 192 4160
-good: 194, 192 and 4160 words
+lend 258 192 4160
+good: 258, 192 and 4160 words
 ",
         tally,
     )

@@ -16,7 +16,7 @@ query: 0 0 2 0
 read 2 5: 0 0 0 1
 commit 1: 0 0 1 0
 read 2 5: 0 0 0 2
-commit 2: 0 0 0 0
+commit 2: 0 3 0 2
 read 2 5: 3 0 0 0
 trial B: the first item, the last, and the one after it
 query: 0 0 1 0

@@ -1,4 +1,4 @@
-// The trials of document 01, all of them, and those of requests E2 and E4 to E7, on the keeper as it is
+// The trials of document 01, all of them, and those of requests E2 and E4 to E8, on the keeper as it is
 // compiled; then every kind of damage to good tables, one by one.
 //
 // A line for each step says what was expected and what was found, and ends in DIFFERS where the two
@@ -6,6 +6,7 @@
 // from document 01 and not from what the keeper answers.
 mod bad_heads;
 mod bad_items;
+mod bad_reads;
 mod bad_settled;
 mod bad_slots;
 mod damage;
@@ -16,6 +17,7 @@ mod line;
 mod locks;
 mod play;
 mod quota;
+mod reading;
 mod sample;
 mod say;
 mod set;
@@ -32,13 +34,15 @@ fn trials(tally: Tally) -> Tally {
     t = stamps::j_to_l(stamps::i(t));
     t = limits::p(limits::o(limits::m_and_n(t)));
     t = waiters::w(waiters::s_to_v(quota::r(quota::q(t))));
-    empty::aa(settling::z(settling::x_and_y(t)))
+    t = empty::aa(settling::z(settling::x_and_y(t)));
+    reading::ac(reading::ab(t))
 }
 
 fn damages(tally: Tally) -> Tally {
     let mut t = bad_slots::slots(bad_heads::heads(tally));
     t = quota::held(31, quota::held(15, quota::held(0, t)));
     t = bad_settled::settled(31, bad_settled::settled(15, bad_settled::settled(0, t)));
+    t = bad_reads::reads(31, bad_reads::reads(15, bad_reads::reads(0, t)));
     bad_items::items(t)
 }
 

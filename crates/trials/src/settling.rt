@@ -51,7 +51,7 @@ view locks 5 1: 0
 read 3 5: 0 55 0 1
 read 4 5: 0 55 0 1
 settle 3: 5 0 0 0
-commit 3: 0 0 0 0
+commit 3: 0 3 0 3
 commit 4: 0 0 2 0
 trial Y: two past their writing, the later commits first and the earlier aborts
 update: 0 0 1 0
@@ -74,7 +74,7 @@ read 1 6: 0 0 0 2
 query: 0 0 4 0
 read 4 6: 0 63 0 1
 read 4 5: 1 0 0 0
-commit 3: 0 0 0 0
+commit 3: 0 1 0 1
 view versions 6 0: 2
 abort 1: 0 0 0 0
 view versions 6 0: 1

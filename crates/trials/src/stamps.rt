@@ -174,12 +174,12 @@ write 63 0 500: 0 0 0 0
 commit 63: 0 0 32 0
 view versions 0 0: 32
 read 1 0: 0 0 0 32
-commit 33: 0 0 0 0
+commit 33: 0 16 0 1
 view versions 0 0: 31
 read 1 0: 0 0 0 31
 read 31 0: 0 114 0 16
 read 35 0: 0 116 0 15
-abort 1: 0 0 0 0
+abort 1: 0 126 0 4
 view versions 0 0: 30
 ",
         tally,
@@ -205,8 +205,8 @@ write 3 0 6: 0 0 0 0
 commit 3: 9 0 0 0
 read 3 0: 0 6 0 0
 read 4 0: 0 5 0 1
-commit 2: 0 0 0 0
-commit 4: 0 0 0 0
+commit 2: 0 2 0 1
+commit 4: 0 1 0 1
 commit 3: 9 0 0 0
 update: 0 0 5 0
 read 5 0: 1 0 0 0

@@ -202,7 +202,7 @@ same-length-5 c = search needs
 
 returns-4 : tie.Need-returns-4
 returns-4 c =
-    told (before (c .before .before .before .before .before .before .before .before .before)) (c .before .before .before .before .deed4 .given .1) (c .by-start .ensures ((before (c .before .before .before .before .before .before .before .before .before)) .locks))
+    told (before (c .before .before .before .before .before .before .before .before .before .before .before)) (c .before .before .before .before .before .before .deed4 .given .1) (c .before .before .by-start .ensures ((before (c .before .before .before .before .before .before .before .before .before .before .before)) .locks))
 
 same-length-6 : tie.Need-same-length-6
 same-length-6 c = search needs

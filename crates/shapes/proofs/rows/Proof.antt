@@ -92,6 +92,24 @@ mul-rank c = omega arith
 shared-slice-read-rank : tie.Need-shared-slice-read-rank Inv-loop μ-loop
 shared-slice-read-rank c = omega arith
 
+add-count : tie.Need-add-count Inv-loop μ-loop
+add-count c = omega arith
+
+mul-count : tie.Need-mul-count Inv-loop μ-loop
+mul-count c = omega arith
+
+shared-slice-read-count : tie.Need-shared-slice-read-count Inv-loop μ-loop
+shared-slice-read-count c = omega arith
+
+add-sum : tie.Need-add-sum Inv-loop μ-loop
+add-sum c = omega arith
+
+mul-sum : tie.Need-mul-sum Inv-loop μ-loop
+mul-sum c = omega arith
+
+shared-slice-read-sum : tie.Need-shared-slice-read-sum Inv-loop μ-loop
+shared-slice-read-sum c = omega arith
+
 free-ok-requires : tie.Need-free-ok-requires Inv-loop μ-loop
 free-ok-requires c κs = tt
 
@@ -122,10 +140,10 @@ loop-less c = omega arith
 loop-again : tie.Need-loop-again Inv-loop μ-loop
 unfolding txn
 loop-again c =
-    let t = c .before .before .before .before .before .before .before .before .before .before .before .before .args .txns .now in
-    let r = txn t (c .before .before .before .before .before .before .before .before .loop .slot) in
-    let h = c .before .before .before .before .before .before .before .before .loop .inv in
-    let l = c .before .before .before .before .before .before .before .loop-test .taken in
+    let t = c .before .before .before .before .before .before .before .before .before .before .before .before .before .before .args .txns .now in
+    let r = txn t (c .before .before .before .before .before .before .before .before .before .before .loop .slot) in
+    let h = c .before .before .before .before .before .before .before .before .before .before .loop .inv in
+    let l = c .before .before .before .before .before .before .before .before .before .loop-test .taken in
     ⊎-elim
     (λ w. passed-other t h l (w .2) (w .1 .ensures ∙ free-same t r (w .0 .taken)) (free-idle r (w .0 .taken)) (free-unsettled r (w .0 .taken)) (w .3) (w .4) (w .5))
     (⊎-elim
@@ -177,6 +195,12 @@ rows-spec =
     add-rank
     mul-rank
     shared-slice-read-rank
+    add-count
+    mul-count
+    shared-slice-read-count
+    add-sum
+    mul-sum
+    shared-slice-read-sum
     free-ok-requires
     update-ok-requires
     shl-updates

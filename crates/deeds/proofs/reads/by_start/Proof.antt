@@ -1,4 +1,4 @@
--- The version that a start reads.
+-- The version that a start reads; a query's read is counted.
 use Prim.Native.Nat.{ℕ}
 use mathlib.Core.Path.{sym, subst}
 use Rattle.choices.specs.Choosable.{Choosable}
@@ -12,14 +12,25 @@ start-requires c κs = search needs
 
 chosen-requires : tie.Need-chosen-requires
 chosen-requires c κs =
-    subst (λ (q : ℕ). Choosable (c .before .before .before .args .versions .now) (c .before .before .before .args .item .0) q) (sym (c .start .ensures)) (c .before .before .before .pre .2)
+    let a = c .before .before .before .before .args in
+    subst (λ (q : ℕ). Choosable (a .versions .now) (a .item .0) q) (sym (c .start .ensures)) (c .before .before .before .before .pre .2)
+
+count-requires : tie.Need-count-requires
+count-requires c κs = search needs
 
 found-requires : tie.Need-found-requires
 found-requires c κs = search needs
 
+same-length : tie.Need-same-length
+same-length c = search needs
+
 returns : tie.Need-returns
 returns c =
-    λ l. start-done (c .before .before .before .before .before .args .txns .now) l (c .before .before .before .before .before .args .versions .now) _ _ (c .before .before .start .ensures) (c .before .chosen .ensures .0) (c .before .chosen .ensures .1) (c .found .ensures)
+    let a = c .before .before .before .before .before .before .before .before .before .before .args in
+    let chosen = c .before .before .before .before .before .chosen .ensures in
+    λ l. start-done (a .txns .now) l (a .versions .now) _ _ (c .before .before .before .before .before .before .start .ensures) (chosen .0) (chosen .1) (c .before .before .before .count .ensures) (c .found .ensures)
 
 pub by-start-spec : {M : Type 1} → statement M
-by-start-spec = tie.close (tie.spec start-requires chosen-requires found-requires returns)
+by-start-spec =
+    tie.close
+    (tie.spec start-requires chosen-requires count-requires found-requires same-length returns)

@@ -1,0 +1,2 @@
+-- What passes.
+pub mod Pass

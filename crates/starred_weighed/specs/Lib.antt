@@ -1,0 +1,2 @@
+-- The trials of request E8.
+pub mod Weighed
