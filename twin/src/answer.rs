@@ -67,7 +67,8 @@ impl Answer {
         }
     }
 
-    /// A read with its value and where it was found.
+    /// A read with its value and where it was found; or a query's end with its weight
+    /// sum and its read count, which stand there (request E8).
     pub(crate) const fn found(value: u64, looked: u64) -> Answer {
         Answer {
             value,

@@ -232,8 +232,7 @@ impl View<'_> {
             return Answer::bare(code::STILL_WAITING);
         }
         if self.is_query(slot) {
-            self.end_reader(slot);
-            return Answer::granted();
+            return self.end_query(slot);
         }
         if self.is_settled(slot) {
             // The stamp was taken at the settle, so there is none to take now.
@@ -289,6 +288,9 @@ impl View<'_> {
             Some(slot) => slot,
             None => return Answer::bare(code::UNKNOWN_TRANSACTION),
         };
+        if self.is_query(slot) {
+            return self.end_query(slot);
+        }
         self.step_out(slot);
         self.let_go(slot);
         if self.is_writing(slot) {
@@ -297,6 +299,13 @@ impl View<'_> {
             self.end_reader(slot);
         }
         Answer::granted()
+    }
+
+    /// A query ends, one way or the other, and tells how old what it read was.
+    fn end_query(&mut self, slot: Slot) -> Answer {
+        let (reads, weight) = (self.txn(slot)[READS], self.txn(slot)[WEIGHT]);
+        self.end_reader(slot);
+        Answer::found(weight, reads)
     }
 
     /// The row of one that read by its start goes, and so does every version that

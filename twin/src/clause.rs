@@ -35,6 +35,10 @@ pub enum Clause {
     SettledStampTwice,
     SettledShares,
     SettledVersion,
+    ReadCount,
+    WeightSum,
+    UpdateReads,
+    UpdateWeight,
     Count,
     UnusedPairs,
     StampsFall,
@@ -45,7 +49,7 @@ pub enum Clause {
 }
 
 /// Each clause with its name on command lines and in reports, in their order.
-const NAMED: [(Clause, &str); 39] = [
+const NAMED: [(Clause, &str); 43] = [
     (Clause::Sizes, "sizes"),
     (Clause::LastNumber, "last-number"),
     (Clause::Clock, "clock"),
@@ -78,6 +82,10 @@ const NAMED: [(Clause, &str); 39] = [
     (Clause::SettledStampTwice, "settled-stamp-twice"),
     (Clause::SettledShares, "settled-shares"),
     (Clause::SettledVersion, "settled-version"),
+    (Clause::ReadCount, "read-count"),
+    (Clause::WeightSum, "weight-sum"),
+    (Clause::UpdateReads, "update-reads"),
+    (Clause::UpdateWeight, "update-weight"),
     (Clause::Count, "count"),
     (Clause::UnusedPairs, "unused-pairs"),
     (Clause::StampsFall, "stamps-fall"),

@@ -138,6 +138,12 @@ impl Tables<'_> {
                 let mut held = (0..ITEMS).filter(|&item| self.holds_exclusive(slot, item));
                 held.all(|item| self.stamps_of(item).iter().all(|&older| older < stamp))
             }),
+            // "A read count and a weight sum, both held at 4,294,967,295 once there,
+            Clause::ReadCount => self.live(|row| is_update(row) || row[READS] <= LAST),
+            Clause::WeightSum => self.live(|row| is_update(row) || row[WEIGHT] <= LAST),
+            // and both 0 for every update."
+            Clause::UpdateReads => self.live(|row| !is_update(row) || row[READS] == 0),
+            Clause::UpdateWeight => self.live(|row| !is_update(row) || row[WEIGHT] == 0),
             Clause::Count => self
                 .versions
                 .iter()
@@ -242,8 +248,7 @@ impl Tables<'_> {
 
     /// Past its writing or not.
     fn is_live_update(&self, slot: usize) -> bool {
-        let is_update = |kind: u64| kind == UPDATE || kind == SETTLED;
-        slot < SLOTS && self.txns[slot][NUMBER] != 0 && is_update(self.txns[slot][KIND])
+        slot < SLOTS && self.txns[slot][NUMBER] != 0 && is_update(self.txns[slot])
     }
 
     /// The awaited lock and item of a live slot, where they are as listed.
@@ -303,6 +308,11 @@ impl Tables<'_> {
             }
         }
     }
+}
+
+/// Past its writing or not.
+fn is_update(row: &[u64]) -> bool {
+    row[KIND] == UPDATE || row[KIND] == SETTLED
 }
 
 /// The largest of these stamps that is at most the start.

@@ -68,8 +68,9 @@ impl Crowd {
         for (slot, row) in Slot::all().zip(txns[TXN_HEAD..].chunks_exact(TXN_ROW)) {
             let (kind, start) = (row[KIND], row[START]);
             let (lock, item, rank) = (row[AWAITED_LOCK], row[AWAITED_ITEM], row[RANK]);
+            let (reads, weight) = (row[READS], row[WEIGHT]);
             if row[NUMBER] == 0 {
-                if kind | start | lock | item | rank != 0 {
+                if kind | start | lock | item | rank | reads | weight != 0 {
                     return None;
                 }
                 continue;
@@ -80,6 +81,11 @@ impl Crowd {
             }
             numbers[live] = number;
             live += 1;
+            // Only a query counts what it reads, and no further than to the last number.
+            let most = if kind == QUERY { LAST } else { 0 };
+            if reads > most || weight > most {
+                return None;
+            }
             match kind {
                 UPDATE if start == 0 => crowd.updates = crowd.updates.with(slot),
                 QUERY if start <= clock && lock == AWAITS_NONE => {

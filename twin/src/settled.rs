@@ -41,15 +41,26 @@ impl View<'_> {
     /// A read by a query, or by one past its writing, which sees its own working
     /// values. It waits for who will put a version there that it would have to
     /// read. That wait is noted nowhere: no word changes, and nobody waits for it.
-    pub(crate) fn read_by_start(&self, slot: Slot, item: Item) -> Answer {
+    /// A query counts what it is granted (request E8).
+    pub(crate) fn read_by_start(&mut self, slot: Slot, item: Item) -> Answer {
         match self.exclusive_holder(item) {
             Some(holder) if holder == slot => Answer::found(self.lock(item)[WORKING], 0),
             Some(holder) if self.will_put_one_for(holder, slot) => Answer::bare(code::WAIT),
             _ => {
                 let (value, place) = row::read_at(self.row(item), self.start(slot));
+                if self.is_query(slot) {
+                    self.weigh(slot, place);
+                }
                 Answer::found(value, place)
             }
         }
+    }
+
+    /// One read more, of the version at this place: both sums stop at the last number.
+    fn weigh(&mut self, slot: Slot, place: u64) {
+        let row = self.txn_mut(slot);
+        row[READS] = LAST.min(row[READS] + 1);
+        row[WEIGHT] = LAST.min(row[WEIGHT] + place);
     }
 
     pub(crate) fn exclusive_holder(&self, item: Item) -> Option<Slot> {

@@ -11,20 +11,21 @@ pub const PLACES: usize = 32;
 /// number by chance.
 pub const QUOTA: usize = 32;
 
-/// The last stamp, and the last transaction number.
+/// The last stamp, and the last transaction number; read count and weight sum are held
+/// there.
 pub const LAST: u64 = 4_294_967_295;
 
 /// Words of the transaction table before its rows: last number given, clock.
 pub const TXN_HEAD: usize = 2;
 /// Words of one transaction row: number, kind, start, awaited lock, awaited item,
-/// rank (request E4).
-pub const TXN_ROW: usize = 6;
+/// rank (request E4), read count and weight sum (request E8).
+pub const TXN_ROW: usize = 8;
 /// Words of one lock row: shared holders, exclusive holder, working value.
 pub const LOCK_ROW: usize = 3;
 /// Words of one version row: a count, then pairs of stamp and value.
 pub const VERSION_ROW: usize = 1 + 2 * PLACES;
 
-/// Words of the transaction table: 194.
+/// Words of the transaction table: 258.
 pub const TXN_WORDS: usize = TXN_HEAD + SLOTS * TXN_ROW;
 /// Words of the lock table: 192.
 pub const LOCK_WORDS: usize = ITEMS * LOCK_ROW;
@@ -43,6 +44,8 @@ pub const START: usize = 2;
 pub const AWAITED_LOCK: usize = 3;
 pub const AWAITED_ITEM: usize = 4;
 pub const RANK: usize = 5;
+pub const READS: usize = 6;
+pub const WEIGHT: usize = 7;
 
 /// Kinds of transaction. One that is settled is an update past its writing
 /// (request E6); its start is its stamp.
@@ -63,5 +66,5 @@ pub const WORKING: usize = 2;
 /// Place of the count in a version row; the pairs follow.
 pub const COUNT: usize = 0;
 
-const _: () = assert!(TXN_WORDS == 194 && LOCK_WORDS == 192 && VERSION_WORDS == 4160);
+const _: () = assert!(TXN_WORDS == 258 && LOCK_WORDS == 192 && VERSION_WORDS == 4160);
 const _: () = assert!(SLOTS <= PLACES && SLOTS < 64);

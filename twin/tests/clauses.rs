@@ -19,7 +19,7 @@ fn sizes() {
     let (txns, locks, versions) = (&keeper.txns[..], &keeper.locks[..], &keeper.versions[..]);
     let longer = |table: &[u64]| [table, &[0]].concat();
     assert!(twin::good(txns, locks, versions));
-    assert!(!twin::good(&txns[..193], locks, versions));
+    assert!(!twin::good(&txns[..257], locks, versions));
     assert!(!twin::good(&longer(txns), locks, versions));
     assert!(!twin::good(txns, &locks[..191], versions));
     assert!(!twin::good(txns, &longer(locks), versions));
@@ -27,7 +27,7 @@ fn sizes() {
     assert!(!twin::good(txns, locks, &longer(versions)));
     assert!(!twin::good(&[], &[], &[]));
     assert!(!twin::good(locks, txns, versions));
-    assert_eq!(broken(&txns[..193], locks, versions), [Clause::Sizes]);
+    assert_eq!(broken(&txns[..257], locks, versions), [Clause::Sizes]);
 }
 
 #[test]
@@ -100,6 +100,30 @@ fn awaited() {
     breaks(Clause::NothingAwaited, |k| {
         set_txn(k, WAITER, [50, UPDATE, 0, 0, 1, 0])
     });
+}
+
+#[test]
+fn reads_and_weights() {
+    let sums = [
+        (READS, Clause::ReadCount, Clause::UpdateReads),
+        (WEIGHT, Clause::WeightSum, Clause::UpdateWeight),
+    ];
+    for (place, above, there) in sums {
+        for slot in [OLD_QUERY, NEW_QUERY] {
+            // No sentence ties the one to the other.
+            for sum in [0, 1, LAST - 1, LAST] {
+                keeps(|k| *txn(k, slot, place) = sum);
+            }
+            for sum in [LAST + 1, 1 << 63, u64::MAX] {
+                breaks(above, |k| *txn(k, slot, place) = sum);
+            }
+        }
+        for slot in [LIVE_UPDATE, HOLDER, WAITER] {
+            for sum in [1, LAST, LAST + 1, u64::MAX] {
+                breaks(there, |k| *txn(k, slot, place) = sum);
+            }
+        }
+    }
 }
 
 #[test]

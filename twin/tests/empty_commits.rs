@@ -145,7 +145,7 @@ fn older_versions_stay_for_their_readers() {
     assert_eq!(t.read(1, X), [0, 0, 0, 3]);
     assert_eq!(t.read(3, X), [0, 5, 0, 2]);
     // A query's end still says no stamp.
-    assert_eq!(t.commit(3), GRANTED);
+    assert_eq!(t.commit(3), [0, 2, 0, 1]);
 }
 
 #[test]

@@ -20,7 +20,7 @@ fn run(input: &[u8]) -> String {
 #[test]
 fn the_run_of_the_document() {
     let input = b"update\nwrite 1 5 77\nquery\nread 2 5\ncommit 1\nread 2 5\ncommit 2\nread 2 5\n";
-    let output = "0 0 1 0\n0 0 0 0\n0 0 2 0\n0 0 0 1\n0 0 1 0\n0 0 0 2\n0 0 0 0\n3 0 0 0\n";
+    let output = "0 0 1 0\n0 0 0 0\n0 0 2 0\n0 0 0 1\n0 0 1 0\n0 0 0 2\n0 3 0 2\n3 0 0 0\n";
     assert_eq!(run(input), output);
     assert_eq!(run(&input[..input.len() - 1]), output);
 }

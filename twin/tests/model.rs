@@ -16,6 +16,8 @@ struct Txn {
     shared: BTreeSet<u64>,
     written: BTreeMap<u64, u64>,
     awaits: Option<(bool, u64)>,
+    /// The places of all versions that it was granted, of a query.
+    places: Vec<u64>,
 }
 
 impl Txn {
@@ -50,7 +52,7 @@ impl Model {
                 None => [3, 0, 0, 0],
                 Some(txn) if txn.awaits.is_some() => [6, 0, 0, 0],
                 Some(txn) if txn.is_settled => self.put(number, txn.start.unwrap()),
-                Some(txn) if txn.start.is_some() => self.end(number),
+                Some(txn) if txn.start.is_some() => self.end_query(number),
                 // With nothing written there is nothing to stamp.
                 Some(txn) if txn.written.is_empty() => self.put(number, self.clock),
                 Some(_) if self.clock == LAST => [9, 0, 0, 0],
@@ -73,9 +75,10 @@ impl Model {
                     [0, 0, self.clock, 0]
                 }
             },
-            Call::Abort { number } => match self.live.contains_key(&number) {
-                false => [3, 0, 0, 0],
-                true => self.end(number),
+            Call::Abort { number } => match self.live.get(&number) {
+                None => [3, 0, 0, 0],
+                Some(txn) if txn.start.is_some() && !txn.is_settled => self.end_query(number),
+                Some(_) => self.end(number),
             },
         }
     }
@@ -114,6 +117,14 @@ impl Model {
         [0, 0, 0, 0]
     }
 
+    /// A query's end tells how many versions it was granted, and their places' sum.
+    fn end_query(&mut self, number: u64) -> [u64; 4] {
+        let places = &self.live[&number].places;
+        let (count, sum) = (places.len() as u64, places.iter().sum());
+        let _ = self.end(number);
+        [0, sum, 0, count]
+    }
+
     fn access(&mut self, number: u64, item: u64, value: Option<u64>) -> [u64; 4] {
         let is_write = value.is_some();
         let txn = match self.live.get(&number) {
@@ -147,8 +158,12 @@ impl Model {
                 }
                 let (stamp, value) = self.at(item, start);
                 let kept = self.kept(item);
-                let place = kept.iter().position(|pair| pair.0 == stamp).unwrap();
-                return [0, value, 0, place as u64 + 1];
+                let place = 1 + kept.iter().position(|pair| pair.0 == stamp).unwrap() as u64;
+                let txn = self.live.get_mut(&number).unwrap();
+                if !txn.is_settled {
+                    txn.places.push(place);
+                }
+                return [0, value, 0, place];
             }
             (None, Some(awaited)) if awaited != (is_write, item) => return [6, 0, 0, 0],
             _ => {}
@@ -266,8 +281,10 @@ impl Model {
                 }
             };
             let kind = u64::from(txn.start.is_some()) + u64::from(txn.is_settled);
-            let row = [number, kind, txn.start.unwrap_or(0), lock, item, rank];
-            keeper.txns[2 + 6 * txn.slot..][..6].copy_from_slice(&row);
+            let start = txn.start.unwrap_or(0);
+            let (count, sum) = (txn.places.len() as u64, txn.places.iter().sum());
+            let row = [number, kind, start, lock, item, rank, count, sum];
+            keeper.txns[2 + 8 * txn.slot..][..8].copy_from_slice(&row);
             for &item in &txn.shared {
                 keeper.locks[3 * item as usize] |= 1 << txn.slot;
             }

@@ -87,6 +87,8 @@ fn it_awaits_nothing() {
         }
     }
     past_breaks(Clause::NothingAwaited, |k| *txn(k, PAST, AWAITED_ITEM) = 1);
+    past_breaks(Clause::UpdateReads, |k| *txn(k, PAST, READS) = 1);
+    past_breaks(Clause::UpdateWeight, |k| *txn(k, PAST, WEIGHT) = LAST);
     past_breaks(Clause::RankUnawaited, |k| *txn(k, PAST, RANK) = 1);
 }
 
@@ -185,7 +187,7 @@ fn it_is_a_reader_of_versions() {
     keeps(reads);
     breaks(Clause::UnreadVersion, |k| {
         reads(k);
-        set_txn(k, PAST, [0; TXN_ROW]);
+        set_txn(k, PAST, [0; READS]);
         set_lock(k, 20, [0; LOCK_ROW]);
         set_versions(k, 20, &[(3, 30)]);
     });

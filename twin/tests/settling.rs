@@ -42,7 +42,7 @@ fn it_changes_the_clock_the_row_and_the_shared_bits() {
         expected.locks[item * LOCK_ROW + SHARED] &= !1;
     }
     assert_eq!(t.0, expected);
-    assert_eq!(t.row(0), [1, 2, 1, 0, 0, 0]);
+    assert_eq!(t.row(0), [1, 2, 1, 0, 0, 0, 0, 0]);
     assert_eq!(t.lock(X), [0, 1, 5]);
     assert_eq!(t.lock(Y), [2, 0, 0]);
     assert_eq!(t.lock(0), [0, 0, 0]);
@@ -68,7 +68,7 @@ fn the_order_of_its_tests() {
     }
     assert_eq!(t.call(Call::Update), [0, 0, 4, 0]);
     assert_eq!(t.settle(4), CLOCK_SPENT);
-    assert_eq!(t.row(3), [4, 0, 0, 0, 0, 0]);
+    assert_eq!(t.row(3), [4, 0, 0, 0, 0, 0, 0, 0]);
     t.0.txns[CLOCK] = LAST - 1;
     assert_eq!(t.settle(4), [0, 0, LAST, 0]);
     t.0.versions[0] = 0;
@@ -152,7 +152,7 @@ fn its_commit_takes_no_new_stamp() {
     assert_eq!(committed(&mut t, Y, 6), 2);
     assert_eq!(t.commit(1), [0, 0, 1, 0]);
     assert_eq!((t.clock(), t.versions(X)), (2, vec![(1, 5)]));
-    assert_eq!((t.row(0), t.lock(X)), (&[0; 6][..], &[0; 3][..]));
+    assert_eq!((t.row(0), t.lock(X)), (&[0; TXN_ROW][..], &[0; 3][..]));
     assert_eq!(t.commit(1), UNKNOWN_TRANSACTION);
     // So it cannot be refused for want of one.
     let mut t = settled(2);
@@ -219,7 +219,7 @@ fn its_end_trims_every_row() {
     assert_eq!(t.abort(1), GRANTED);
     assert_eq!(t.versions(Y), [(3, 7)]);
     assert_eq!((t.versions(X), t.lock(X)), (vec![(0, 0)], &[0; 3][..]));
-    assert_eq!((t.clock(), t.row(0)), (3, &[0; 6][..]));
+    assert_eq!((t.clock(), t.row(0)), (3, &[0; TXN_ROW][..]));
 
     let mut t = reader_of_y();
     assert_eq!(t.commit(1), [0, 0, 1, 0]);

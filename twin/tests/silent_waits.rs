@@ -97,7 +97,7 @@ fn such_a_wait_is_never_followed_by_six() {
     assert_eq!(t.write(3, X, 1), QUERY_MAY_NOT_WRITE);
     assert_eq!(t.settle(3), QUERY_MAY_NOT_WRITE);
     t.waits_silently(3, X);
-    assert_eq!(t.commit(3), GRANTED);
+    assert_eq!(t.commit(3), [0, 1, 0, 1]);
     assert_eq!(t.call(Call::Query), [0, 0, 4, 0]);
     t.waits_silently(4, X);
     assert_eq!(t.abort(4), GRANTED);

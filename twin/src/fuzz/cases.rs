@@ -10,7 +10,7 @@ use super::scene::Scene;
 use super::settled;
 use super::small_case::{described, report};
 use super::stats::Stats;
-use super::{empty, jobs, monitors, settling, waiters};
+use super::{ages, empty, jobs, monitors, settling, waiters};
 use crate::answer::{code, Answer};
 use crate::clauses::{self, Clause};
 use crate::keeper::{Call, Keeper};
@@ -178,18 +178,19 @@ fn prepare(rng: &mut Rng, samples: &[Keeper], director: &mut Director) -> Prepar
 }
 
 /// Where an update has as many items as it may, or one less, where there are
-/// waiters, where some are past their writing, and where some wrote nothing or
-/// little: often a call that shows it.
+/// waiters, where some are past their writing, where some wrote nothing or
+/// little, and where queries have read much: often a call that shows it.
 fn telling_call(rng: &mut Rng, tables: &Tables) -> Option<Call> {
     let keeper = tables.as_keeper().filter(Keeper::is_good)?;
     let scene = Scene::of(&keeper);
     // A spent clock hinders few calls; commits are among them.
-    let chances = if scene.clock() == LAST { 17 } else { 11 };
+    let chances = if scene.clock() == LAST { 20 } else { 14 };
     match rng.below(chances) {
         0..=2 => jobs::at_limit(rng, &scene).or_else(|| waiters::telling(rng, &scene)),
         3 => waiters::telling(rng, &scene),
         4..=7 => settling::telling(rng, &scene),
         8 => None,
+        9..=11 => ages::telling(rng, &scene),
         _ => monitors::telling(rng, &scene),
     }
 }
@@ -238,8 +239,8 @@ fn count(stats: &mut Stats, prepared: &Prepared) -> Result<(), String> {
     Ok(())
 }
 
-/// Counts what a case on good tables has to do with those past their writing, and
-/// with commits of nothing.
+/// Counts what a case on good tables has to do with those past their writing, with
+/// commits of nothing, and with what queries have read.
 fn see_caller(stats: &mut Stats, case: &Case, answer: Answer, after: &Tables) {
     if let (Some(before), Some(after)) = (case.tables.as_keeper(), after.as_keeper()) {
         let scene = Scene::of(&before);
@@ -252,6 +253,7 @@ fn see_caller(stats: &mut Stats, case: &Case, answer: Answer, after: &Tables) {
             stats.case_empty.begin_anew();
             let standing = standing.as_ref();
             stats.case_empty.see(case.call, &txn, standing, answer);
+            stats.case_ages.see(case.call, &txn, answer);
         }
     }
 }
@@ -271,8 +273,10 @@ mod tests {
         for (clause, (_, alone)) in Clause::ALL.into_iter().zip(stats.clauses) {
             assert!(alone > 5, "{}: {}", clause.name(), alone);
         }
-        let settled = stats.case_settled.in_cases();
-        for (name, count) in settled.chain(stats.case_empty.in_cases()) {
+        let mut counted = stats.case_settled.in_cases();
+        counted.extend(stats.case_empty.in_cases());
+        counted.extend(stats.case_ages.in_cases());
+        for (name, count) in counted {
             assert!(count > 5, "{}: {}", name, count);
         }
     }

@@ -3,7 +3,7 @@
 use std::fmt;
 
 use super::scene::{Scene, Txn};
-use super::shown::show;
+use super::shown::{each_but, show_all, Counted};
 use crate::answer::{code, Answer};
 use crate::keeper::Call;
 use crate::sizes::*;
@@ -95,6 +95,11 @@ impl Standing {
     }
 }
 
+/// Where an event stands among them all.
+fn place(event: &Event) -> usize {
+    *event as usize
+}
+
 /// The counts.
 #[derive(Default)]
 pub struct Counts {
@@ -166,31 +171,15 @@ impl Counts {
         }
     }
 
-    /// Each event's name, and how often it came, but for these.
-    fn each_but(&self, others: &'static [Event]) -> impl Iterator<Item = (&'static str, u64)> + '_ {
-        let is_other = move |at: usize| others.iter().any(|event| *event as usize == at);
-        let all = EVENTS.into_iter().zip(self.events).enumerate();
-        all.filter(move |(at, _)| !is_other(*at))
-            .map(|(_, counted)| counted)
+    pub fn in_scripts(&self) -> Counted {
+        each_but(&EVENTS, &self.events, NOT_IN_SCRIPTS.iter().map(place))
     }
 
-    pub fn in_scripts(&self) -> impl Iterator<Item = (&'static str, u64)> + '_ {
-        self.each_but(NOT_IN_SCRIPTS)
+    pub fn in_cases(&self) -> Counted {
+        each_but(&EVENTS, &self.events, NOT_IN_CASES.iter().map(place))
     }
 
-    pub fn in_cases(&self) -> impl Iterator<Item = (&'static str, u64)> + '_ {
-        self.each_but(NOT_IN_CASES)
-    }
-
-    pub fn show(
-        &self,
-        out: &mut fmt::Formatter,
-        events: impl Iterator<Item = (&'static str, u64)>,
-    ) -> fmt::Result {
-        writeln!(out, "  commits of updates that wrote nothing")?;
-        for (name, count) in events {
-            show(out, &format!("  {}", name), count)?;
-        }
-        Ok(())
+    pub fn show(&self, out: &mut fmt::Formatter, events: Counted) -> fmt::Result {
+        show_all(out, "commits of updates that wrote nothing", events)
     }
 }

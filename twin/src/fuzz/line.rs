@@ -147,14 +147,14 @@ pub fn step_in(txns: &mut [u64], locks: &[u64], slot: usize, lock: u64, item: us
         }
     }
     let row = row_of(txns, slot);
-    row[AWAITED_LOCK..].copy_from_slice(&[lock, item as u64, place]);
+    row[AWAITED_LOCK..=RANK].copy_from_slice(&[lock, item as u64, place]);
 }
 
 /// Lets a slot await nothing.
 pub fn step_out(txns: &mut [u64], slot: usize) {
     let row = row_of(txns, slot);
     let (lock, item, rank) = (row[AWAITED_LOCK], row[AWAITED_ITEM], row[RANK]);
-    row[AWAITED_LOCK..].fill(0);
+    row[AWAITED_LOCK..=RANK].fill(0);
     for other in 0..SLOTS {
         let row = row_of(txns, other);
         let in_line = row[AWAITED_LOCK] != 0 && row[AWAITED_ITEM] == item;

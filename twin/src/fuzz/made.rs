@@ -106,13 +106,27 @@ fn transactions(rng: &mut Rng, keeper: &mut Keeper) {
         if rng.percent(queries) {
             row[KIND] = QUERY;
             row[START] = clock - rng.within(0, clock.min(near));
+            row[READS] = some_sum(rng);
+            row[WEIGHT] = some_sum(rng);
         }
         let stamp = clock - rng.within(0, clock.min(near.max(40)));
         if stamp > 0 && rng.percent(settled) && !is_taken(keeper, stamp) {
             let row = &mut keeper.txns[TXN_HEAD + slot * TXN_ROW..][..TXN_ROW];
             row[KIND] = SETTLED;
             row[START] = stamp;
+            row[READS..].fill(0);
         }
+    }
+}
+
+/// A read count or a weight sum of a query: small, near the limit or any. Nothing ties
+/// the one to the other.
+pub fn some_sum(rng: &mut Rng) -> u64 {
+    match rng.below(4) {
+        0 => 0,
+        1 => rng.below(100),
+        2 => LAST - rng.one_of(&[0, 1, 2, 3, 5, 31, 32, 33]),
+        _ => rng.within(0, LAST),
     }
 }
 

@@ -1,6 +1,7 @@
 //! The fuzzer: the twin against another runner, against another program for
 //! tables set beforehand, and against programs that write and judge journals.
 
+pub mod ages;
 pub mod cases;
 pub mod damage;
 pub mod director;

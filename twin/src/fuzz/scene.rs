@@ -17,6 +17,9 @@ pub struct Txn {
     pub awaits: Option<(bool, u64)>,
     /// Its place in the line of that item, from 1.
     pub rank: u64,
+    /// How many versions it has read, and the sum of their places.
+    pub reads: u64,
+    pub weight: u64,
 }
 
 impl Txn {
@@ -59,6 +62,8 @@ impl<'a> Scene<'a> {
             start: 0,
             awaits: None,
             rank: 0,
+            reads: 0,
+            weight: 0,
         };
         let mut scene = Scene {
             keeper,
@@ -78,6 +83,8 @@ impl<'a> Scene<'a> {
                     lock => Some((lock == AWAITS_EXCLUSIVE, row[AWAITED_ITEM])),
                 },
                 rank: row[RANK],
+                reads: row[READS],
+                weight: row[WEIGHT],
             };
             scene.len += 1;
         }

@@ -338,11 +338,14 @@ mod tests {
         assert!(stats.circles[SLOTS] > 10);
         // All that those past their writing can do while the clock is not spent.
         // So of commits with nothing written.
-        let settled = stats.settled.in_scripts();
-        for (name, count) in settled.chain(stats.empty.in_scripts()) {
+        let mut counted = stats.settled.in_scripts();
+        counted.extend(stats.empty.in_scripts());
+        counted.extend(stats.ages.in_scripts());
+        for (name, count) in counted {
             assert!(count > 20, "{}: {}", name, count);
         }
-        assert!(stats.settled.crowds().all(|(_, count)| count > 5));
+        let crowds = stats.settled.crowds();
+        assert!(crowds.iter().all(|(_, count)| *count > 5));
     }
 
     #[test]

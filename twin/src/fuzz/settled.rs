@@ -3,7 +3,7 @@
 use std::fmt;
 
 use super::scene::{Held, Scene, Txn};
-use super::shown::show;
+use super::shown::{each_but, show_all, Counted};
 use crate::answer::{code, Answer};
 use crate::keeper::{Call, Keeper};
 use crate::sizes::*;
@@ -162,6 +162,11 @@ fn versions(keeper: &Keeper, written: u64) -> u64 {
     others.map(|(_, row)| row[COUNT]).sum()
 }
 
+/// Where an event stands among them all.
+fn place(event: &Event) -> usize {
+    *event as usize
+}
+
 /// The counts.
 pub struct Counts {
     events: [u64; EVENTS.len()],
@@ -308,40 +313,29 @@ impl Counts {
         self.event(Event::CommitSpent, before.is_spent);
     }
 
-    /// Each event's name, and how often it came, but for these.
-    fn each_but(&self, others: [Event; 2]) -> impl Iterator<Item = (&'static str, u64)> + '_ {
-        let others = others.map(|event| event as usize);
-        let all = EVENTS.into_iter().zip(self.events).enumerate();
-        all.filter(move |(at, _)| !others.contains(at))
-            .map(|(_, counted)| counted)
+    pub fn in_scripts(&self) -> Counted {
+        each_but(&EVENTS, &self.events, NOT_IN_SCRIPTS.iter().map(place))
     }
 
-    pub fn in_scripts(&self) -> impl Iterator<Item = (&'static str, u64)> + '_ {
-        self.each_but(NOT_IN_SCRIPTS)
-    }
-
-    pub fn in_cases(&self) -> impl Iterator<Item = (&'static str, u64)> + '_ {
-        self.each_but(NOT_IN_CASES)
+    pub fn in_cases(&self) -> Counted {
+        each_but(&EVENTS, &self.events, NOT_IN_CASES.iter().map(place))
     }
 
     /// After settles: how many were past their writing at once, and how often.
-    pub fn crowds(&self) -> impl Iterator<Item = (&'static str, u64)> + '_ {
-        CROWDS.iter().map(|(name, _)| *name).zip(self.crowds)
+    pub fn crowds(&self) -> Counted {
+        CROWDS
+            .iter()
+            .map(|(name, _)| *name)
+            .zip(self.crowds)
+            .collect()
     }
 
-    pub fn show(
-        &self,
-        out: &mut fmt::Formatter,
-        events: impl Iterator<Item = (&'static str, u64)>,
-    ) -> fmt::Result {
-        writeln!(out, "  past their writing")?;
-        for (name, count) in events {
-            show(out, &format!("  {}", name), count)?;
-        }
-        writeln!(out, "  past their writing at once, after a settle")?;
-        for (name, count) in self.crowds() {
-            show(out, &format!("  {}", name), count)?;
-        }
-        Ok(())
+    pub fn show(&self, out: &mut fmt::Formatter, events: Counted) -> fmt::Result {
+        show_all(out, "past their writing", events)?;
+        show_all(
+            out,
+            "past their writing at once, after a settle",
+            self.crowds(),
+        )
     }
 }

@@ -27,21 +27,17 @@ impl Stats {
         show(out, "empty scripts", self.empty_scripts)?;
         show(out, "scripts without a last line end", self.unended_scripts)?;
         show_codes(out, &self.codes)?;
-        writeln!(out, "  events")?;
-        for (name, &count) in EVENTS.iter().zip(&self.events) {
-            show(out, &format!("  {}", name), count)?;
-        }
+        show_all(out, "events", each_but(&EVENTS, &self.events, []))?;
         show(out, "  commits with a full row of versions", self.full_rows)?;
-        writeln!(out, "  updates with as many items as they may write")?;
-        for (name, count) in self.at_limit.each() {
-            show(out, &format!("  {}", name), count)?;
-        }
-        writeln!(out, "  waiters in line")?;
-        for (name, count) in self.in_line.each() {
-            show(out, &format!("  {}", name), count)?;
-        }
+        show_all(
+            out,
+            "updates with as many items as they may write",
+            self.at_limit.each(),
+        )?;
+        show_all(out, "waiters in line", self.in_line.each())?;
         self.settled.show(out, self.settled.in_scripts())?;
         self.empty.show(out, self.empty.in_scripts())?;
+        self.ages.show(out, self.ages.in_scripts())?;
         writeln!(out, "  new waits by length of the line")?;
         for (length, count) in self.in_line.lengths() {
             show(out, &format!("  {}", length), count)?;
@@ -67,13 +63,11 @@ impl Stats {
         writeln!(out, "tables set beforehand")?;
         show(out, "cases", self.cases)?;
         show_codes(out, &self.case_codes)?;
-        writeln!(out, "  good tables with")?;
-        for (name, count) in self.fullness.each() {
-            show(out, &format!("  {}", name), count)?;
-        }
+        show_all(out, "good tables with", self.fullness.each())?;
         let settled = &self.case_settled;
         settled.show(out, settled.in_cases())?;
         self.case_empty.show(out, self.case_empty.in_cases())?;
+        self.case_ages.show(out, self.case_ages.in_cases())?;
         writeln!(out, "  damages, and those of them answered 10")?;
         for ((name, _), &(count, bad)) in damage::KINDS.iter().zip(&self.damages) {
             writeln!(out, "    {:<40} {:>10} {:>10}", name, count, bad)?;
@@ -88,6 +82,34 @@ impl Stats {
         }
         Ok(())
     }
+}
+
+/// What was counted, by name, and how often it came.
+pub(super) type Counted = Vec<(&'static str, u64)>;
+
+/// All of them but for those at some places.
+pub(super) fn each_but(
+    names: &[&'static str],
+    counts: &[u64],
+    others: impl IntoIterator<Item = usize>,
+) -> Counted {
+    let others: Vec<usize> = others.into_iter().collect();
+    let all = names.iter().copied().zip(counts.iter().copied());
+    let kept = all.enumerate().filter(|(at, _)| !others.contains(at));
+    kept.map(|(_, counted)| counted).collect()
+}
+
+/// Under a heading, one a line.
+pub(super) fn show_all(
+    out: &mut fmt::Formatter,
+    heading: &str,
+    counted: impl IntoIterator<Item = (&'static str, u64)>,
+) -> fmt::Result {
+    writeln!(out, "  {}", heading)?;
+    for (name, count) in counted {
+        show(out, &format!("  {}", name), count)?;
+    }
+    Ok(())
 }
 
 pub(super) fn show(out: &mut fmt::Formatter, name: &str, count: u64) -> fmt::Result {

@@ -1,7 +1,7 @@
 //! What occurred, counted.
 
 use super::scene::{Held, Scene, Txn};
-use super::{damage, empty, fullness, in_line, journals, limit, odd_cases, settled, spoil};
+use super::{ages, damage, empty, fullness, in_line, journals, limit, odd_cases, settled, spoil};
 use crate::answer::{code, Answer};
 use crate::clauses::Clause;
 use crate::keeper::{Call, Keeper};
@@ -121,6 +121,7 @@ pub struct Stats {
     pub in_line: in_line::Counts,
     pub settled: settled::Counts,
     pub empty: empty::Counts,
+    pub ages: ages::Counts,
     pub looked: [u64; PLACES + 1],
     pub circles: [u64; SLOTS + 1],
     pub(super) full_rows: u64,
@@ -133,6 +134,7 @@ pub struct Stats {
     pub fullness: fullness::Counts,
     pub case_settled: settled::Counts,
     pub case_empty: empty::Counts,
+    pub case_ages: ages::Counts,
     /// For each kind of odd case line: how many, and how many of them bad.
     pub(super) odd_cases: [(u64, u64); odd_cases::KINDS.len()],
     /// For each kind of damage: how many, and how many of them answered 10.
@@ -155,6 +157,7 @@ impl Stats {
             in_line: in_line::Counts::default(),
             settled: settled::Counts::default(),
             empty: empty::Counts::default(),
+            ages: ages::Counts::default(),
             looked: [0; PLACES + 1],
             circles: [0; SLOTS + 1],
             full_rows: 0,
@@ -166,6 +169,7 @@ impl Stats {
             fullness: fullness::Counts::default(),
             case_settled: settled::Counts::default(),
             case_empty: empty::Counts::default(),
+            case_ages: ages::Counts::default(),
             odd_cases: [(0, 0); odd_cases::KINDS.len()],
             damages: [(0, 0); damage::KINDS.len()],
             clauses: [(0, 0); Clause::ALL.len()],
@@ -218,6 +222,7 @@ impl Stats {
             self.settled.see(call, standing, answer, after);
         }
         self.empty.see(call, &txn, before.empty.as_ref(), answer);
+        self.ages.see(call, &txn, answer);
         match (call, answer.code) {
             (Call::Read { .. }, code::GRANTED) => self.see_read(&txn, before, answer),
             // Of those past their writing the counts above tell.

@@ -3,6 +3,7 @@
 //! The right keeper knows nothing of this module. A wrong one makes the right
 //! calls without the test of the tables and goes wrong around them.
 
+mod ages;
 mod calls;
 mod empty;
 mod judges;
@@ -15,6 +16,7 @@ mod tables;
 mod tests_of_few;
 mod waits;
 
+pub use ages::WrongAge;
 pub use calls::{WrongCall, WrongKeeper};
 pub use empty::WrongEmpty;
 pub use judges::WrongJudge;
@@ -98,6 +100,7 @@ pub enum WrongRunner {
     Wait(WrongWait),
     Settled(WrongSettled),
     Empty(WrongEmpty),
+    Age(WrongAge),
     Size(WrongSize),
     Line(WrongLine),
 }
@@ -110,6 +113,7 @@ impl WrongRunner {
             .or_else(|| named(&WrongWait::ALL, name).map(WrongRunner::Wait))
             .or_else(|| WrongSettled::shown(name).map(WrongRunner::Settled))
             .or_else(|| WrongEmpty::shown(name).map(WrongRunner::Empty))
+            .or_else(|| WrongAge::shown(name).map(WrongRunner::Age))
             .or_else(|| named(&WrongSize::ALL, name).map(WrongRunner::Size))
             .or_else(|| named(&WrongLine::ALL, name).map(WrongRunner::Line))
     }
@@ -121,6 +125,7 @@ impl WrongRunner {
             names(&WrongWait::ALL),
             WrongSettled::names_shown(),
             WrongEmpty::names_shown(),
+            WrongAge::names_shown(),
             names(&WrongSize::ALL),
             names(&WrongLine::ALL),
         ]
@@ -153,6 +158,12 @@ impl WrongRunner {
                 })
             }
             WrongRunner::Empty(kind) => {
+                let mut keeper = Keeper::fresh();
+                script::run(input, output, |call| {
+                    kind.call(&mut view(&mut keeper), call)
+                })
+            }
+            WrongRunner::Age(kind) => {
                 let mut keeper = Keeper::fresh();
                 script::run(input, output, |call| {
                     kind.call(&mut view(&mut keeper), call)

@@ -214,7 +214,7 @@ impl WrongSettled {
                 if self == NotesWait && answer.code == code::WAIT {
                     let rank = 1 + view.line(item).into_iter().count() as u64;
                     let awaited = [AWAITS_SHARED, item.word(), rank];
-                    view.txn_mut(slot)[AWAITED_LOCK..].copy_from_slice(&awaited);
+                    view.txn_mut(slot)[AWAITED_LOCK..=RANK].copy_from_slice(&awaited);
                 }
                 answer
             }

@@ -8,7 +8,7 @@ use crate::sizes::*;
 use crate::view::View;
 
 use super::settled_ends::WrongSettledTest;
-use super::{WrongEmpty, WrongQuota, WrongSettled, WrongSize, WrongTest, WrongWait};
+use super::{WrongAge, WrongEmpty, WrongQuota, WrongSettled, WrongSize, WrongTest, WrongWait};
 
 /// A wrong treatment of tables.
 #[derive(Clone, Copy, Debug, PartialEq, Eq)]
@@ -35,6 +35,8 @@ pub enum WrongTables {
     SettledTest(WrongSettledTest),
     /// A wrong rule of commits with nothing written.
     Empty(WrongEmpty),
+    /// A wrong rule of read counts and weight sums.
+    Age(WrongAge),
     /// A wrong size.
     Size(WrongSize),
     /// A test of the tables for fewer slots or versions.
@@ -85,6 +87,7 @@ impl WrongTables {
             .or_else(|| super::named(&WrongSettled::ALL, name).map(WrongTables::Settled))
             .or_else(|| super::named(&WrongSettledTest::ALL, name).map(WrongTables::SettledTest))
             .or_else(|| super::named(&WrongEmpty::ALL, name).map(WrongTables::Empty))
+            .or_else(|| super::named(&WrongAge::ALL, name).map(WrongTables::Age))
             .or_else(|| super::named(&WrongSize::ALL, name).map(WrongTables::Size))
             .or_else(|| super::named(&WrongTest::ALL, name).map(WrongTables::Test))
     }
@@ -98,6 +101,7 @@ impl WrongTables {
             super::names(&WrongSettled::ALL),
             super::names(&WrongSettledTest::ALL),
             super::names(&WrongEmpty::ALL),
+            super::names(&WrongAge::ALL),
             super::names(&WrongSize::ALL),
             super::names(&WrongTest::ALL),
         ]
@@ -136,6 +140,10 @@ impl WrongTables {
                 return on_view(tables, |view| kind.call(view, call));
             }
             (WrongTables::Empty(kind), code) if code != code::BAD_TABLES => {
+                *tables = before;
+                return on_view(tables, |view| kind.call(view, call));
+            }
+            (WrongTables::Age(kind), code) if code != code::BAD_TABLES => {
                 *tables = before;
                 return on_view(tables, |view| kind.call(view, call));
             }

@@ -29,7 +29,7 @@ pub enum WrongTest {
 use WrongTest::*;
 
 impl WrongTest {
-    pub const ALL: [(&'static str, WrongTest); 43] = [
+    pub const ALL: [(&'static str, WrongTest); 47] = [
         ("forgets-free-row", Forgets(Clause::FreeRow)),
         ("forgets-distinct-numbers", Forgets(Clause::DistinctNumbers)),
         ("forgets-number-given", Forgets(Clause::NumberGiven)),
@@ -60,6 +60,10 @@ impl WrongTest {
         ("forgets-settled-twice", Forgets(Clause::SettledStampTwice)),
         ("forgets-settled-shares", Forgets(Clause::SettledShares)),
         ("forgets-settled-version", Forgets(Clause::SettledVersion)),
+        ("forgets-read-count", Forgets(Clause::ReadCount)),
+        ("forgets-weight-sum", Forgets(Clause::WeightSum)),
+        ("forgets-update-reads", Forgets(Clause::UpdateReads)),
+        ("forgets-update-weight", Forgets(Clause::UpdateWeight)),
         ("forgets-unused-pairs", Forgets(Clause::UnusedPairs)),
         ("forgets-stamps-fall", Forgets(Clause::StampsFall)),
         ("forgets-last-stamp", Forgets(Clause::LastStamp)),

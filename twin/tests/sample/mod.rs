@@ -19,7 +19,7 @@ pub const OLD_ITEM: usize = 9;
 /// Good tables with something for every clause: an update that holds nothing,
 /// one that holds item 1 exclusively and items 2 and 3 shared, one that awaits
 /// item 1 shared and holds item 2 shared and item 4 exclusively, and queries at
-/// stamps 3 and 10, the latter the clock.
+/// stamps 3 and 10, the latter the clock; the older has read five times.
 pub fn sample() -> Keeper {
     let mut keeper = Keeper::fresh();
     keeper.txns[LAST_NUMBER] = 50;
@@ -28,6 +28,7 @@ pub fn sample() -> Keeper {
     set_txn(&mut keeper, HOLDER, [12, UPDATE, 0, 0, 0, 0]);
     set_txn(&mut keeper, WAITER, [50, UPDATE, 0, AWAITS_SHARED, 1, 1]);
     set_txn(&mut keeper, OLD_QUERY, [14, QUERY, 3, 0, 0, 0]);
+    set_read(&mut keeper, OLD_QUERY, [5, 8]);
     set_txn(&mut keeper, NEW_QUERY, [15, QUERY, 10, 0, 0, 0]);
     set_lock(&mut keeper, 1, [0, HOLDER as u64 + 1, 77]);
     set_lock(&mut keeper, 2, [1 << HOLDER | 1 << WAITER, 0, 0]);
@@ -37,8 +38,17 @@ pub fn sample() -> Keeper {
     keeper
 }
 
-pub fn set_txn(keeper: &mut Keeper, slot: usize, words: [u64; TXN_ROW]) {
-    keeper.txns[TXN_HEAD + slot * TXN_ROW..][..TXN_ROW].copy_from_slice(&words);
+/// A row up to its rank, with nothing read.
+pub fn set_txn(keeper: &mut Keeper, slot: usize, words: [u64; READS]) {
+    let row = &mut keeper.txns[TXN_HEAD + slot * TXN_ROW..][..TXN_ROW];
+    row[..READS].copy_from_slice(&words);
+    row[READS..].fill(0);
+}
+
+/// The read count and the weight sum.
+pub fn set_read(keeper: &mut Keeper, slot: usize, words: [u64; 2]) {
+    *txn(keeper, slot, READS) = words[0];
+    *txn(keeper, slot, WEIGHT) = words[1];
 }
 
 pub fn txn(keeper: &mut Keeper, slot: usize, place: usize) -> &mut u64 {

@@ -3,6 +3,7 @@
 mod locks;
 mod quota;
 mod ranks;
+mod reads;
 mod settled;
 mod txns;
 mod versions;
@@ -16,6 +17,7 @@ use crate::sizes::*;
 use locks::*;
 use quota::*;
 use ranks::*;
+use reads::*;
 use settled::*;
 use txns::*;
 use versions::*;
@@ -25,7 +27,7 @@ use written::*;
 pub type Damage = fn(&mut Rng, &mut Tables) -> bool;
 
 /// The kinds of damage by name. The first ones leave good tables good.
-pub const KINDS: [(&str, Damage); 68] = [
+pub const KINDS: [(&str, Damage); 73] = [
     ("none", |_, _| true),
     ("numbers or clock nearly spent", nearly_spent),
     ("32 held exclusively", |rng, t| holds(rng, t, QUOTA)),
@@ -45,6 +47,7 @@ pub const KINDS: [(&str, Damage); 68] = [
     }),
     ("little or nothing written", little_written),
     ("the same with the clock spent", little_written_spent),
+    ("a query's counts near the limit", nearly_held),
     ("one word", one_word),
     ("some words", some_words),
     ("one size off by one", size_off_by_one),
@@ -133,6 +136,18 @@ pub const KINDS: [(&str, Damage); 68] = [
     ("past its writing, kind 0", |rng, t| {
         on_txn(rng, t, settled, KIND, |_, _| UPDATE)
     }),
+    ("read count above the limit", |rng, t| {
+        sum_above(rng, t, READS)
+    }),
+    ("weight sum above the limit", |rng, t| {
+        sum_above(rng, t, WEIGHT)
+    }),
+    ("an update with a read count", |rng, t| {
+        update_has(rng, t, READS)
+    }),
+    ("an update with a weight sum", |rng, t| {
+        update_has(rng, t, WEIGHT)
+    }),
     ("count 0", |rng, t| count(rng, t, |_| 0)),
     ("count 33 and above", |rng, t| {
         count(rng, t, |rng| rng.odd_word().max(PLACES as u64 + 1))
@@ -154,9 +169,9 @@ pub const KINDS: [(&str, Damage); 68] = [
 ];
 
 /// How many of the kinds leave the tables good.
-pub const HARMLESS: usize = 11;
+pub const HARMLESS: usize = 12;
 /// How many come before the kinds that break one clause on purpose.
-pub const UNAIMED: usize = 13;
+pub const UNAIMED: usize = 14;
 
 fn set(word: &mut u64, value: u64) -> bool {
     *word = value;

@@ -69,7 +69,7 @@ pub fn no_rank(rng: &mut Rng, t: &mut Tables) -> bool {
             let row = row_of(&mut t.txns, slot);
             let awaited = [row[AWAITED_LOCK], row[AWAITED_ITEM], 0];
             step_out(&mut t.txns, slot);
-            row_of(&mut t.txns, slot)[AWAITED_LOCK..].copy_from_slice(&awaited);
+            row_of(&mut t.txns, slot)[AWAITED_LOCK..=RANK].copy_from_slice(&awaited);
             true
         }
         None => false,

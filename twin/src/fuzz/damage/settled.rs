@@ -229,6 +229,9 @@ pub fn another_kind(rng: &mut Rng, t: &mut Tables) -> bool {
         Some(slot) => {
             let row = row_of(&mut t.txns, slot);
             let kind = (row[KIND] + rng.within(1, 2)) % 3;
+            if rng.percent(70) {
+                row[READS..].fill(0); // else these tell it
+            }
             set(&mut row[KIND], kind)
         }
         None => false,

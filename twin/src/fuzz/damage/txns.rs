@@ -70,7 +70,7 @@ pub fn above_clock(rng: &mut Rng, clock: u64) -> u64 {
 }
 
 pub fn free_row(rng: &mut Rng, t: &mut Tables) -> bool {
-    let place = rng.one_of(&[KIND, START, AWAITED_LOCK, AWAITED_ITEM, RANK]);
+    let place = rng.one_of(&[KIND, START, AWAITED_LOCK, AWAITED_ITEM, RANK, READS, WEIGHT]);
     on_txn(rng, t, free, place, |rng, _| rng.odd_word().max(1))
 }
 

@@ -20,7 +20,7 @@ pub fn pick_row<'a>(
     Some(&mut t.versions[item * VERSION_ROW..][..VERSION_ROW])
 }
 
-/// The same, but half the time a long row, if there is one.
+/// The same, but mostly a long row, if there is one.
 fn pick_long<'a>(
     rng: &mut Rng,
     t: &'a mut Tables,
@@ -28,7 +28,7 @@ fn pick_long<'a>(
 ) -> Option<&'a mut [u64]> {
     let is_long = |row: &[u64]| like(row) && row[COUNT] > PLACES as u64 / 2;
     let has_long = t.versions.chunks(VERSION_ROW).any(is_long);
-    match has_long && rng.percent(50) {
+    match has_long && rng.percent(90) {
         true => pick_row(rng, t, is_long),
         false => pick_row(rng, t, like),
     }
@@ -118,8 +118,8 @@ pub fn unread_version(rng: &mut Rng, t: &mut Tables) -> bool {
     match pick_long(rng, t, roomy) {
         Some(row) => {
             let count = row[COUNT] as usize;
-            // Late in the row, often.
-            let first = match rng.percent(50) {
+            // Late in the row, mostly.
+            let first = match rng.percent(25) {
                 true => 1,
                 false => 1 + count / 2,
             };
