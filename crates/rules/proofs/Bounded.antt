@@ -156,13 +156,13 @@ module _ (B : ℕ) where
         found : (n k : ℕ) → n ≤ B → k ≤ B → Within B (record { code = 0; value = n; number = 0; looked = k })
         found n k h m = record { code = omega arith; value = h; number = omega arith; looked = m }
 
-        -- request E8: what a query's end answers
-        totals : (s : ℕ) → s < S .slots → Within B (record { code = 0; value = (txn (G .txns) s) .weightSum; number = 0; looked = (txn (G .txns) s) .readCount })
+        -- request E8: the two numbers that a query's end answers, each for itself: whichever stands where
+        totals : (s : ℕ) → s < S .slots → ((txn (G .txns) s) .weightSum ≤ B) × ((txn (G .txns) s) .readCount ≤ B)
         totals s i =
             let o = g .txnGood s i .readsGood in
             let n = o .countMost in
             let w = o .sumMost in
-            found ((txn (G .txns) s) .weightSum) ((txn (G .txns) s) .readCount) (omega arith) (omega arith)
+            (omega arith, omega arith)
 
         no : (r : Refusal) → Within B (record { code = code r; value = 0; number = 0; looked = 0 })
         no r = record { code = let m = refusal-most r in omega arith; value = omega arith; number = omega arith; looked = omega arith }
@@ -202,10 +202,14 @@ module _ (B : ℕ) where
         way-bounded c d a (committedEmpty n s C u i e) = (bare (clock (G .txns)) (let m = g .clockMost in omega arith), aborted-bounded s)
         way-bounded c d a (committedUpdate n s C u i l w) = (bare (clock (G .txns) + 1) (let m = g .clockMost in omega arith), committed-bounded s (C .inside) u)
         way-bounded c d a (committedSettled n s C p) = (bare ((txn (G .txns) s) .start) (let k = g .txnGood s (C .inside) .readerStart (settled-reads (txn (G .txns) s) p) in let m = g .clockMost in omega arith), settled-commit-bounded s (C .inside))
-        way-bounded c d a (committedQuery n s C q) = (totals s (C .inside), ended-bounded s (C .inside))
+        way-bounded c d a (committedQuery n s C q) =
+            let (m, k) = totals s (C .inside) in
+            (record { code = omega arith; value = omega arith; number = omega arith; looked = omega arith }, ended-bounded s (C .inside))
         way-bounded c d a (abortedUpdate n s C u) = (bare 0 (omega arith), aborted-bounded s)
         way-bounded c d a (abortedSettled n s C p) = (bare 0 (omega arith), settled-abort-bounded s (C .inside))
-        way-bounded c d a (abortedQuery n s C q) = (totals s (C .inside), ended-bounded s (C .inside))
+        way-bounded c d a (abortedQuery n s C q) =
+            let (m, k) = totals s (C .inside) in
+            (record { code = omega arith; value = omega arith; number = omega arith; looked = omega arith }, ended-bounded s (C .inside))
         way-bounded c d a (settledUpdate n s C u i l) = (bare (clock (G .txns) + 1) (let m = g .clockMost in omega arith), settled-bounded s)
 
         -- a call whose value is within the bound is answered so, and leaves the tables so
