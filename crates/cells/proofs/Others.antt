@@ -1,17 +1,14 @@
 -- The tests of the lock decision, as the code makes them.
-use Prim.Native.Nat.{ℕ, zero, suc, _+_, _-_, _*_, _/_, _%_, _^_, _<_}
+use Prim.Native.Nat.{ℕ, zero, suc, _+_, _-_, _^_, _<_}
 use mathlib.Core.Path.{_≡_, refl, sym, ap, _∙_, subst}
 use mathlib.Core.Logic.{_≢_}
-use mathlib.Core.Bool.{Bool, true, false, _&&_, _||_, not, cond}
+use mathlib.Core.Bool.{Bool, true, false, _&&_, _||_, not}
 use mathlib.Core.List.{List}
 use native.Mathlib.Omega.{arith}
-use native.Mathlib.Nat.{one-mul, zero-mul}
-use lib.Bits.{bitAnd, bitOr, bitXor, or-add-and, and-high}
-use lib.Pow.{pow-add}
+use lib.Bits.{bitAnd, bitXor}
 use lib.Dec.{T, eqb, eqb→eq}
-use borrow.Author.Tests.{eqb-true, eqb-false}
 use Rattle.names.specs.Sizes.{base}
-use Rattle.rules.specs.Words.{bit, someBelow, withBit, withoutBit}
+use Rattle.rules.specs.Words.{bit, someBelow, withoutBit}
 use Rattle.rules.specs.Tables.{tables, txn, Lock, lock, holdsShared, holdsExclusive}
 use Rattle.rules.specs.Good.{Good}
 use Rattle.rules.specs.Waits.{awaitsOn, ahead, rankFor}
@@ -146,28 +143,6 @@ no-line toRead sharing s e r n = refl
 no-line toWrite sharing s e r n = absurd (false-is n tt)
 no-line toRead nothing s e r n = absurd (false-is n tt)
 no-line toWrite nothing s e r n = absurd (false-is n tt)
-
--- ---- a bit set, as the code sets it
-pub set-is : (h s : ℕ) → bitOr h (2 ^ s) ≡ withBit h s
-unfolding withBit bit
-set-is h s = go (eqb (h / 2 ^ s % 2) 1) refl
-  where
-    both : bitAnd h (2 ^ s) ≡ h / 2 ^ s % 2 * 2 ^ s
-    both =
-        let p : 2 ^ (1 + s) ≡ 2 ^ 1 * 2 ^ s = pow-add 2 1 s in
-        let m : 2 ^ (1 + s) - 2 ^ s ≡ 2 ^ s = omega arith in
-        ap (bitAnd h) (sym m) ∙ and-high h 1 s
-
-    go : (b : Bool) → eqb (h / 2 ^ s % 2) 1 ≡ b → bitOr h (2 ^ s) ≡ cond b h (h + 2 ^ s)
-    go true e =
-        let q : bitAnd h (2 ^ s) ≡ 2 ^ s = both ∙ ap (λ (n : ℕ). n * 2 ^ s) (eqb-true (h / 2 ^ s % 2) 1 e) ∙ one-mul (2 ^ s) in
-        let o = or-add-and h (2 ^ s) in
-        omega arith
-    go false e =
-        let z : h / 2 ^ s % 2 ≡ 0 = (let d = eqb-false (h / 2 ^ s % 2) 1 e in omega arith) in
-        let q : bitAnd h (2 ^ s) ≡ 0 = both ∙ ap (λ (n : ℕ). n * 2 ^ s) z ∙ zero-mul (2 ^ s) in
-        let o = or-add-and h (2 ^ s) in
-        omega arith
 
 -- ---- on good tables
 pub lock-slots : (t l v : List ℕ) → Good base (tables t l v) → (x : ℕ) → x < base .items → SlotsOnly (lock l x)

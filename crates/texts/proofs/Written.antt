@@ -2,10 +2,11 @@
 use Prim.Native.Nat.{ℕ, _+_, _-_, _<_, _≤_}
 use mathlib.Core.Path.{_≡_, refl, sym, ap, ap₂, subst, _∙_}
 use mathlib.Core.List.{List, [], _∷_, _++_, append-assoc}
+use native.Mathlib.Nat.{add-zero}
 use native.Mathlib.Numerals.{add-one}
 use native.Mathlib.Omega.{arith}
-use lib.ListN.{length, take, drop, set, length-append, length-take, length-drop}
-use lib.Seq.{set-split, take-at, drop-drop, drop-append-add}
+use lib.ListN.{length, getD, take, drop, set, length-append, length-take, length-drop, take-append-drop}
+use lib.Seq.{set-split, take-at, take-suc, drop-drop, drop-append-add}
 use Rattle.texts.specs.Written.{written, Wrote}
 
 pub length-written : (l : List ℕ) (at : ℕ) (text : List ℕ) → at + length text ≤ length l → length (written l at text) ≡ length l
@@ -46,3 +47,12 @@ wrote-more {l} {m} {n} {s} {t} {at} {e} {k} h a b =
 
 pub wrote-byte : (l : List ℕ) (at b : ℕ) → at < length l → Wrote l at (b ∷ []) (set l at b) (at + 1)
 wrote-byte l at b h = record { bytes = written-byte l at b h; index = refl }
+
+-- nothing written, and the next byte of a text
+pub wrote-nothing : (l : List ℕ) (at : ℕ) → Wrote l at [] l at
+unfolding written
+wrote-nothing l at =
+    record { bytes = sym (ap (λ (k : ℕ). take at l ++ drop k l) (add-zero at) ∙ take-append-drop at l); index = sym (add-zero at) }
+
+pub text-next : (text : List ℕ) (k : ℕ) → k < length text → take k text ++ (getD text k 0 ∷ []) ≡ take (k + 1) text
+text-next text k h = sym (ap (λ (n : ℕ). take n text) (add-one k) ∙ take-suc text k 0 h)

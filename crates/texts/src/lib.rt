@@ -2,7 +2,7 @@
 //
 // What stands from a place on, and the laws of text behind text, are in proofs/.
 ghost use mathlib.Core.List.{[], _∷_};
-ghost use Prim.Native.Nat.{_<_};
+ghost use Prim.Native.Nat.{_+_, _<_, _≤_};
 ghost use lib.ListN.{length};
 ghost use Rattle.texts.specs.Written.{Wrote};
 
@@ -13,4 +13,18 @@ pub fn put(out: &mut [u8], at: usize, byte: u8) -> usize
 {
     out[at] = byte;
     at + 1
+}
+
+// Writes a text, and answers the index after it.
+pub fn put_text(out: &mut [u8], at: usize, text: &[u8]) -> usize
+    requires { ⌜ at + length (now text) ≤ length (now out) ⌝ }
+    ensures { λ r. ⌜ Wrote (now (out .entry)) at (now (text .entry)) (now (out .exit)) r ⌝ }
+{
+    let mut end = at;
+    let mut k: usize = 0;
+    while k < text.len() {
+        end = put(out, end, text[k]);
+        k += 1;
+    }
+    end
 }

@@ -2,16 +2,16 @@
 use Prim.Native.Nat.{ℕ, _+_, _-_, _*_, _/_, _%_, _^_, _≤_, _<_}
 use mathlib.Core.Path.{_≡_, refl, sym, ap, _∙_, subst}
 use mathlib.Core.Logic.{_≢_, _⊎_, inl, inr, ⊎-elim}
-use mathlib.Core.Bool.{Bool, true, false, _&&_, _||_, not}
+use mathlib.Core.Bool.{Bool, true, false, _&&_, _||_, not, cond}
 use native.Mathlib.Omega.{arith}
 use native.Mathlib.Nat.{eq-or-lt-of-le, mod-lt, add-mul, one-mul, zero-mul}
 use lib.Bits.{bitAnd, bitOr, bitXor, and-shr, and-mod, or-shr, or-mod, xor-shr, xor-mod, and-high}
-use lib.Bits.{xor-add-and, xor-zero-r, or-disjoint, and-le-l}
+use lib.Bits.{xor-add-and, or-add-and, xor-zero-r, or-disjoint, and-le-l}
 use lib.Pow.{pow-pos, pow-add, split, shl-exact}
 use lib.Count.{ones, ones-cat, ones-step}
 use lib.Dec.{T, eqb, ltb, eqb→eq}
 use borrow.Author.Tests.{eqb-false, ltb-true, ltb-false}
-use Rattle.rules.specs.Words.{bit, someBelow}
+use Rattle.rules.specs.Words.{bit, withBit, someBelow}
 use Rattle.rules.proofs.Tests.{is-false, true-is, false-is, eq-make}
 use Rattle.rules.proofs.Counts.{someBelow→, →someBelow}
 use Rattle.rules.proofs.Bits.{bit-none, bit-below, no-bits, one-bit-at}
@@ -118,6 +118,15 @@ unfolding bit
 and-out w k e =
     let z : w / 2 ^ k % 2 ≡ 0 = (let d = eqb-false (w / 2 ^ k % 2) 1 e in omega arith) in
     and-alone w k ∙ ap (λ (n : ℕ). n * 2 ^ k) z ∙ zero-mul (2 ^ k)
+
+-- a bit set, as the code sets it
+pub set-is : (w k : ℕ) → bitOr w (2 ^ k) ≡ withBit w k
+unfolding withBit
+set-is w k = go (bit w k) refl
+  where
+    go : (b : Bool) → bit w k ≡ b → bitOr w (2 ^ k) ≡ cond b w (w + 2 ^ k)
+    go true e = let a = and-in w k (true-is e) in let o = or-add-and w (2 ^ k) in omega arith
+    go false e = let a = and-out w k e in let o = or-add-and w (2 ^ k) in omega arith
 
 -- a slot less is a smaller word
 pub sans-lt : (m k : ℕ) → T (bit m k) → bitXor m (bitAnd m (2 ^ k)) < m

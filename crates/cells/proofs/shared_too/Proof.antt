@@ -1,7 +1,6 @@
 -- The slot's bit set.
 use native.Mathlib.Omega.{arith}
-use Rattle.words.proofs.SlotWords.{shifted}
-use Rattle.cells.proofs.Others.{set-is}
+use Rattle.words.proofs.SlotWords.{shifted, set-is}
 use borrow.Author.Needs.{needs}
 use Rattle.cells.proofs.shared_too.Statement.{statement}
 use Rattle.cells.proofs.shared_too.Tie as tie

@@ -1,0 +1,2 @@
+-- Each small chopping has its verdict.
+pub mod Computed

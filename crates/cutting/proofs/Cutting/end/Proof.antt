@@ -1,0 +1,26 @@
+-- The line stands at the front of the output.
+use mathlib.Core.Path.{ap, _∙_}
+use Rattle.texts.proofs.Parts.{front}
+use Rattle.cutting.specs.Told.{lineOf, putOut}
+use Rattle.cutting.proofs.Seeing.{all-seen}
+use borrow.Author.Needs.{needs}
+use Rattle.cutting.proofs.Cutting.end.Statement.{statement}
+use Rattle.cutting.proofs.Cutting.end.Tie as tie
+
+last-requires : tie.Need-last-requires
+last-requires c κs = search needs
+
+say-requires : tie.Need-say-requires
+say-requires c κs = search needs
+
+same-length : tie.Need-same-length
+same-length c = search needs
+
+returns : tie.Need-returns
+unfolding putOut
+returns c =
+    let said = c .before .before .say .ensures in
+    (said .0, λ input q. front (said .1 _ (c .before .before .before .before .last .ensures input q)) ∙ ap lineOf (all-seen input))
+
+pub end-spec : {M : Type 1} → statement M
+end-spec = tie.close (tie.spec last-requires say-requires same-length returns)

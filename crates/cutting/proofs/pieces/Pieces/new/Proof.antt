@@ -1,0 +1,16 @@
+-- No piece yet.
+use mathlib.Core.Path.{refl}
+use native.Mathlib.Omega.{arith}
+use Rattle.rules.specs.Words.{every, some}
+use Rattle.piece_lines.specs.Held.{counted}
+use Rattle.cutting.specs.Chopping.{choppedFrom}
+use Rattle.cutting.specs.Life.{rowWords}
+use Rattle.cutting.proofs.pieces.Pieces.new.Statement.{statement}
+use Rattle.cutting.proofs.pieces.Pieces.new.Tie as tie
+
+returns : tie.Need-returns
+unfolding counted every some choppedFrom rowWords
+returns c = record { count = refl; unknown = refl; plain = refl; holding = λ _. record { names = λ i h. absurd (omega arith); rows = refl } }
+
+pub new-spec : {M : Type 1} → statement M
+new-spec = tie.close (tie.spec returns)

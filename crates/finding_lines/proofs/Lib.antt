@@ -1,0 +1,2 @@
+-- Laws of the line of what was found.
+pub mod Printed

@@ -1,0 +1,2 @@
+-- The line of what was found of a chopping.
+pub mod Lines

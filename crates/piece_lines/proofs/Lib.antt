@@ -1,0 +1,12 @@
+-- Laws of a line of a chopping.
+pub mod Snoc
+pub mod Sameness
+pub mod Keeping
+pub mod Items
+pub mod Noting
+pub mod Lines
+pub mod Whole
+pub mod Spoken
+pub mod Only
+pub mod Comments
+pub mod Examples

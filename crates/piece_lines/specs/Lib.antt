@@ -1,0 +1,6 @@
+-- What a line of a chopping says: its words, the grammar, how it is read, and what is kept of one that is not ended.
+pub mod Words
+pub mod Says
+pub mod Read
+pub mod Items
+pub mod Held
