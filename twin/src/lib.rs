@@ -17,6 +17,7 @@ mod row;
 mod settled;
 mod view;
 
+pub mod chop;
 pub mod clauses;
 pub mod decimal;
 pub mod fuzz;

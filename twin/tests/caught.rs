@@ -11,15 +11,17 @@ use std::process::{Command, Output};
 use twin::fuzz::cases::Batch;
 use twin::fuzz::process::{Other, Program, Run};
 use twin::fuzz::stats::Stats;
-use twin::fuzz::{begin, scripts};
+use twin::fuzz::{begin, cuts, scripts};
 use twin::protocol;
-use twin::wrong::{WrongJudge, WrongRunner, WrongSize, WrongTables};
+use twin::rng::Rng;
+use twin::wrong::{WrongCut, WrongJudge, WrongRunner, WrongSize, WrongTables};
 
 const FUZZ: &str = env!("CARGO_BIN_EXE_fuzz");
 const RUNNER: &str = env!("CARGO_BIN_EXE_twin-run");
 const TABLES: &str = env!("CARGO_BIN_EXE_twin-tables");
 const RECORD: &str = env!("CARGO_BIN_EXE_twin-record");
 const VERDICT: &str = env!("CARGO_BIN_EXE_twin-verdict");
+const CUT: &str = env!("CARGO_BIN_EXE_twin-cut");
 
 fn fuzz(arguments: &[&str]) -> Output {
     let mut command = Command::new(FUZZ);
@@ -44,6 +46,7 @@ const SEED: u64 = 1;
 const OF_SCRIPTS: u64 = 250;
 const OF_TABLES: u64 = 50;
 const OF_JOURNALS: u64 = 60;
+const OF_CUTS: u64 = 30;
 
 /// A program that is wrong in one way, and the same keeper in this process.
 struct Wrong<F> {
@@ -182,6 +185,37 @@ fn wrong_judges_are_caught() {
     }
 }
 
+/// A wrong judge of choppings, in this process.
+struct Cut(WrongCut);
+
+impl Other for Cut {
+    fn run(&self, input: &[u8], _: bool) -> Result<Run, String> {
+        let output = format!("{}\n", self.0.judge(input)).into_bytes();
+        let failure = None;
+        Ok(Run { output, failure })
+    }
+}
+
+#[test]
+fn wrong_judges_of_choppings_are_caught() {
+    for (name, kind) in WrongCut::ALL {
+        let mut stats = Stats::new();
+        let caught = (0..OF_CUTS).find_map(|round| {
+            let mut rng = Rng::for_round(SEED, round);
+            cuts::round(&mut rng, &Cut(kind), &mut stats).expect("it can be tried")
+        });
+        let report = caught.unwrap_or_else(|| panic!("{} is not caught", name));
+        assert!(
+            report.contains("smallest chopping found"),
+            "{}: {}",
+            name,
+            report
+        );
+    }
+    let report = report_of("--cut", CUT, "conflicts-between", OF_CUTS);
+    assert!(report.contains("smallest chopping found"));
+}
+
 #[test]
 fn a_wrong_record_is_caught() {
     // It writes no file at all.
@@ -201,6 +235,8 @@ fn the_right_ones_are_not() {
         RECORD,
         "--verdict",
         VERDICT,
+        "--cut",
+        CUT,
         "--seed",
         "2",
         "--rounds",

@@ -1,8 +1,10 @@
 //! The fuzzer: the twin against another runner, against another program for
-//! tables set beforehand, and against programs that write and judge journals.
+//! tables set beforehand, against programs that write and judge journals, and against
+//! one that judges choppings.
 
 pub mod ages;
 pub mod cases;
+pub mod cuts;
 pub mod damage;
 pub mod director;
 pub mod empty;
@@ -45,6 +47,7 @@ pub struct Options {
     pub tables: Option<Program>,
     pub record: Option<Program>,
     pub verdict: Option<Program>,
+    pub cut: Option<Program>,
     pub seed: u64,
     pub first_round: u64,
     pub rounds: Option<u64>,
@@ -124,7 +127,13 @@ fn one_round(options: &Options, round: u64, stats: &mut Stats) -> Result<Option<
     }
     let (record, verdict) = (options.record.as_ref(), options.verdict.as_ref());
     if record.is_some() || verdict.is_some() {
-        return journals::round(&mut rng, &script.input, record, verdict, stats);
+        let difference = journals::round(&mut rng, &script.input, record, verdict, stats)?;
+        if difference.is_some() {
+            return Ok(difference);
+        }
     }
-    Ok(None)
+    match &options.cut {
+        Some(cut) => cuts::round(&mut rng, cut, stats),
+        None => Ok(None),
+    }
 }

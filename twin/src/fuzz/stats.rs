@@ -1,7 +1,9 @@
 //! What occurred, counted.
 
 use super::scene::{Held, Scene, Txn};
-use super::{ages, damage, empty, fullness, in_line, journals, limit, odd_cases, settled, spoil};
+use super::{
+    ages, cuts, damage, empty, fullness, in_line, journals, limit, odd_cases, settled, spoil,
+};
 use crate::answer::{code, Answer};
 use crate::clauses::Clause;
 use crate::keeper::{Call, Keeper};
@@ -142,6 +144,7 @@ pub struct Stats {
     /// For each clause: in how many cases broken, and broken alone.
     pub clauses: [(u64, u64); Clause::ALL.len()],
     pub journals: journals::Counts,
+    pub cuts: cuts::Counts,
     waited_value: [u64; SLOTS],
 }
 
@@ -174,6 +177,7 @@ impl Stats {
             damages: [(0, 0); damage::KINDS.len()],
             clauses: [(0, 0); Clause::ALL.len()],
             journals: journals::Counts::default(),
+            cuts: cuts::Counts::default(),
             waited_value: [0; SLOTS],
         }
     }

@@ -5,6 +5,8 @@
 
 mod ages;
 mod calls;
+mod cut_lines;
+mod cuts;
 mod empty;
 mod judges;
 mod lines;
@@ -18,6 +20,7 @@ mod waits;
 
 pub use ages::WrongAge;
 pub use calls::{WrongCall, WrongKeeper};
+pub use cuts::WrongCut;
 pub use empty::WrongEmpty;
 pub use judges::WrongJudge;
 pub use lines::{run, WrongLine};
