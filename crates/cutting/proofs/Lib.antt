@@ -1,7 +1,4 @@
 -- Laws of a chopping's text.
-pub mod Triple
-pub mod Counting
-pub mod Names
 pub mod Rows
 pub mod Lines
 pub mod Seeing

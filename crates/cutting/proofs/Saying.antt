@@ -6,15 +6,16 @@ use mathlib.Core.List.{List, []}
 use native.Mathlib.Omega.{arith}
 use lib.ListN.{length, take}
 use Rattle.piece_lines.specs.Says.{Piece}
-use Rattle.piece_lines.specs.Read.{Said}
-use Rattle.piece_lines.proofs.Keeping.{counted-short, counted-long, short-or-long}
+use Rattle.line_words.specs.Said.{Said}
+use Rattle.line_words.proofs.Keeping.{counted-short, counted-long, short-or-long}
+use Rattle.told_lines.specs.Lines.{saidIn}
 use Rattle.chop.specs.Pieces as chop
 use Rattle.chop.specs.Pieces.{piecesOf}
 use Rattle.chop.specs.Verdicts.{Verdict, tooManyPieces, unknownItem, shows, said}
 use Rattle.chop.specs.Judgement.{judgement}
 use Rattle.chop.specs.declared.Judged.{Judged}
 use Rattle.chop.specs.declared.Finding.the-variants.{TooManyPieces, UnknownItem}
-use Rattle.cutting.specs.Chopping.{piecesIn, choppedFrom, chopped, verdictOn}
+use Rattle.cutting.specs.Chopping.{choppedFrom, chopped, verdictOn}
 use Rattle.finding_lines.specs.Lines.{lineFor, verdictLine}
 use Rattle.finding_lines.proofs.Printed.{line-for}
 use Rattle.cutting.specs.Told.{lineOf}
@@ -37,30 +38,30 @@ few ps s k h =
 abbrev pub lineIn : Judged → List ℕ
 lineIn j = lineFor (j .finding) (take (j .length) (j .circle))
 
-module _ (ss : List Said) (t : Tally) (k : Counts ss t) (good : t .bad ≤ 0) where
+module _ (ss : List (Said Piece)) (t : Tally) (k : Counts ss t) (good : t .bad ≤ 0) where
   -- an answer that holds the verdict says the line
-  as-said : (v : Verdict) → verdictOn (piecesIn ss) ≡ v → (j : Judged) → j ≡ said v → lineIn j ≡ lineOf ss
+  as-said : (v : Verdict) → verdictOn (saidIn ss) ≡ v → (j : Judged) → j ≡ said v → lineIn j ≡ lineOf ss
   as-said v e j q = ap lineIn q ∙ line-for v ∙ ap verdictLine (sym e) ∙ line-good ss (t .bad) (k .bad) good
 
   pub said-many : 32 < t .pieces .count → (j : Judged) → j ≡ shows TooManyPieces [] → lineIn j ≡ lineOf ss
   unfolding said
-  said-many h = as-said tooManyPieces (verdict-many (piecesIn ss) (many (piecesIn ss) (t .pieces) (k .pieces) h))
+  said-many h = as-said tooManyPieces (verdict-many (saidIn ss) (many (saidIn ss) (t .pieces) (k .kept) h))
 
   module _ (h : t .pieces .count ≤ 32) where
     pub said-unknown : t .pieces .unknown ≡ true → (j : Judged) → j ≡ shows UnknownItem [] → lineIn j ≡ lineOf ss
     unfolding said
-    said-unknown e = as-said unknownItem (verdict-unknown (piecesIn ss) (few (piecesIn ss) (t .pieces) (k .pieces) h .0) (sym (k .pieces .unknown) ∙ e))
+    said-unknown e = as-said unknownItem (verdict-unknown (saidIn ss) (few (saidIn ss) (t .pieces) (k .kept) h .0) (sym (k .kept .unknown) ∙ e))
 
     -- the rows are the pieces
-    rows-are : piecesOf (take (t .pieces .count * 3) (t .pieces .rows)) ≡ chopped (piecesIn ss)
+    rows-are : piecesOf (take (t .pieces .count * 3) (t .pieces .rows)) ≡ chopped (saidIn ss)
     unfolding chopped
     rows-are =
-        let f = few (piecesIn ss) (t .pieces) (k .pieces) h in
-        ap piecesOf (ap (λ (n : ℕ). take (n * 3) (t .pieces .rows)) (f .1) ∙ k .pieces .holding (f .0) .rows)
-        ∙ pieces-back (choppedFrom [] (piecesIn ss))
+        let f = few (saidIn ss) (t .pieces) (k .kept) h in
+        ap piecesOf (ap (λ (n : ℕ). take (n * 3) (t .pieces .rows)) (f .1) ∙ k .kept .holding (f .0) .rows)
+        ∙ pieces-back (choppedFrom [] (saidIn ss))
 
     pub said-judged : t .pieces .unknown ≡ false → (j : Judged) → j ≡ said (judgement (piecesOf (take (t .pieces .count * 3) (t .pieces .rows)))) → lineIn j ≡ lineOf ss
     said-judged e =
         as-said (judgement (piecesOf (take (t .pieces .count * 3) (t .pieces .rows))))
-        (verdict-judged (piecesIn ss) (few (piecesIn ss) (t .pieces) (k .pieces) h .0) (sym (k .pieces .unknown) ∙ e)
+        (verdict-judged (saidIn ss) (few (saidIn ss) (t .pieces) (k .kept) h .0) (sym (k .kept .unknown) ∙ e)
         ∙ ap judgement (sym rows-are))

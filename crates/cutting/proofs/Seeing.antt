@@ -1,65 +1,33 @@
--- The input so far, byte by byte: in the end what all lines say.
-use Prim.Native.Nat.{ℕ, _+_, _<_}
-use mathlib.Core.Path.{_≡_, refl, sym, ap, _∙_}
-use mathlib.Core.Bool.{Bool, true, false, cond}
-use mathlib.Core.List.{List, [], _∷_, _++_, map, append-nil, append-assoc}
-use native.Mathlib.Numerals.{add-one}
+-- The input so far, with a byte more and at its end: what the lines say is counted.
+use Prim.Native.Nat.{ℕ}
+use mathlib.Core.Path.{_≡_, refl, sym, subst, _∙_}
+use mathlib.Core.Bool.{true, false}
+use mathlib.Core.List.{List, [], _∷_, _++_, map}
 use native.Mathlib.Omega.{arith}
-use lib.Dec.{eqb, ltb}
-use lib.ListN.{length, take, getD, length-append}
-use lib.Seq.{take-suc}
+use lib.ListN.{length, length-append}
 use borrow.Author.Tests.{eq-eqb, ne-eqb, lt-ltb}
-use Rattle.lines.specs.Lines.{linesFrom, linesOf}
-use Rattle.piece_lines.specs.Read.{Said, said}
+use Rattle.piece_lines.specs.Says.{Piece}
+use Rattle.piece_lines.specs.Read.{said}
+use Rattle.line_words.specs.Said.{Said}
 use Rattle.piece_lines.specs.Held.{Follows}
 use Rattle.piece_lines.specs.declared.Line.{Line}
+use Rattle.told_lines.specs.Seen.{Seen, seeByte, see, allLines}
+use Rattle.told_lines.proofs.Seeing.{all-seen, map-more}
 use Rattle.cutting.specs.Chopping.{saidLines}
-use Rattle.cutting.specs.Life.{Seen, seen, seeByte, seeAll, see, allLines, lastOf, Counts, Keeps}
+use Rattle.cutting.specs.Life.{Counts, Keeps}
 use Rattle.cutting.specs.declared.tally.Tally.{Tally}
 use Rattle.cutting.specs.declared.Cutting.{Cutting}
 
--- ---- all bytes
-
-cut : (bs l : List ℕ) (ss : List Said) → allLines (seeAll (seen ss l) bs) ≡ ss ++ map said (linesFrom l bs)
-unfolding allLines seeAll seeByte linesFrom
-cut [] l ss = go (ltb 0 (length l))
-  where
-    go : (t : Bool) → cond t (ss ++ (said l ∷ [])) ss ≡ ss ++ map said (cond {A = List (List ℕ)} t (l ∷ []) [])
-    go true = refl
-    go false = sym (append-nil ss)
-cut (b ∷ bs) l ss = go (eqb b 10) (cut bs [] (ss ++ (said l ∷ []))) (cut bs (l ++ (b ∷ [])) ss)
-  where
-    go : (t : Bool)
-        → allLines (seeAll (seen (ss ++ (said l ∷ [])) []) bs) ≡ (ss ++ (said l ∷ [])) ++ map said (linesFrom [] bs)
-        → allLines (seeAll (seen ss (l ++ (b ∷ []))) bs) ≡ ss ++ map said (linesFrom (l ++ (b ∷ [])) bs)
-        → allLines (seeAll (cond t (seen (ss ++ (said l ∷ [])) []) (seen ss (l ++ (b ∷ [])))) bs)
-        ≡ ss ++ map said (cond {A = List (List ℕ)} t (l ∷ linesFrom [] bs) (linesFrom (l ++ (b ∷ [])) bs))
-    go true next on = next ∙ append-assoc ss (said l ∷ []) (map said (linesFrom [] bs))
-    go false next on = on
-
--- WHAT IS SEEN OF AN INPUT IS WHAT ITS LINES SAY
-pub all-seen : (input : List ℕ) → lastOf input ≡ saidLines input
-unfolding lastOf see saidLines linesOf
-all-seen input = cut input [] []
-
--- ---- a piece of the input more
-
-pub see-append : (bs cs : List ℕ) (s : Seen) → seeAll s (bs ++ cs) ≡ seeAll (seeAll s bs) cs
-unfolding seeAll
-see-append [] cs s = refl
-see-append (b ∷ bs) cs s = see-append bs cs (seeByte s b)
-
-pub see-next : (piece : List ℕ) (k : ℕ) (s : Seen) → k < length piece → seeAll s (take (k + 1) piece) ≡ seeByte (seeAll s (take k piece)) (getD piece k 0)
-unfolding seeAll
-see-next piece k s h =
-    ap (seeAll s) (ap (λ (n : ℕ). take n piece) (add-one k) ∙ take-suc piece k 0 h) ∙ see-append (take k piece) (getD piece k 0 ∷ []) s
+-- a line more is counted
+one-more : (ls : List (List ℕ)) (l : List ℕ) {tally : Tally} → Counts (map said ls ++ (said l ∷ [])) tally → Counts (map said (ls ++ (l ∷ []))) tally
+one-more ls l {tally} c = subst (λ (ss : List (Said Piece)). Counts ss tally) (sym (map-more said ls l)) c
 
 -- ---- a byte more
 
 module _ (k : Seen) (s : Cutting) (q : Keeps k s) (b : ℕ) where
-  pub keeps-end : b ≡ 10 → {line : Line} {tally : Tally} → Follows [] line → Counts (k .lines ++ (said (k .line) ∷ [])) tally → Keeps (seeByte k b) (record { line = line; begun = false; tally = tally })
+  pub keeps-end : b ≡ 10 → {line : Line} {tally : Tally} → Follows [] line → Counts (map said (k .lines) ++ (said (k .line) ∷ [])) tally → Keeps (seeByte k b) (record { line = line; begun = false; tally = tally })
   unfolding seeByte
-  keeps-end e f c = rw (eq-eqb b 10 e) (record { line = f; begun = refl; tally = c })
+  keeps-end e f c = rw (eq-eqb b 10 e) (record { line = f; begun = refl; tally = one-more (k .lines) (k .line) c })
 
   pub keeps-on : (b ≡ 10 → ⊥) → {line : Line} → Follows (k .line ++ (b ∷ [])) line → Keeps (seeByte k b) (record { line = line; begun = true; tally = s .tally })
   unfolding seeByte
@@ -74,10 +42,14 @@ module _ (k : Seen) (s : Cutting) (q : Keeps k s) (b : ℕ) where
 -- ---- the end of the input
 
 module _ (input : List ℕ) (s : Cutting) (q : Keeps (see input) s) where
-  pub last-begun : s .begun ≡ true → {tally : Tally} → Counts (see input .lines ++ (said (see input .line) ∷ [])) tally → Counts (lastOf input) tally
-  unfolding lastOf allLines
-  last-begun e c = rw (sym (q .begun) ∙ e) c
+  of-all : {tally : Tally} → Counts (map said (allLines (see input))) tally → Counts (saidLines input) tally
+  unfolding saidLines
+  of-all {tally} c = subst (λ (ls : List (List ℕ)). Counts (map said ls) tally) (all-seen input) c
 
-  pub last-none : s .begun ≡ false → Counts (lastOf input) (s .tally)
-  unfolding lastOf allLines
-  last-none e = rw (sym (q .begun) ∙ e) (q .tally)
+  pub last-begun : s .begun ≡ true → {tally : Tally} → Counts (map said (see input .lines) ++ (said (see input .line) ∷ [])) tally → Counts (saidLines input) tally
+  unfolding allLines
+  last-begun e c = of-all (rw (sym (q .begun) ∙ e) (one-more (see input .lines) (see input .line) c))
+
+  pub last-none : s .begun ≡ false → Counts (saidLines input) (s .tally)
+  unfolding allLines
+  last-none e = of-all (rw (sym (q .begun) ∙ e) (q .tally))

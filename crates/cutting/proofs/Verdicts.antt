@@ -10,17 +10,18 @@ use borrow.Author.Tests.{lt-ltb, le-ltb}
 use Rattle.rules.specs.Words.{some, tabulateFrom}
 use Rattle.rules.proofs.Circles.{length-tabulate}
 use Rattle.piece_lines.specs.Says.{Piece}
-use Rattle.piece_lines.specs.Read.{Said}
+use Rattle.line_words.specs.Said.{Said}
 use Rattle.piece_lines.specs.Items.{unknownIn}
+use Rattle.told_lines.specs.Lines.{saidIn, firstBad, capped, badText}
+use Rattle.told_lines.proofs.Counting.{capped-zero, capped-some}
 use Rattle.chop.specs.Pieces as chop
 use Rattle.chop.specs.Pieces.{piecesOf}
 use Rattle.chop.specs.Verdicts.{tooManyPieces, unknownItem}
 use Rattle.chop.specs.Judgement.{judgement}
-use Rattle.finding_lines.specs.Lines.{badText, verdictLine}
-use Rattle.cutting.specs.Chopping.{piecesIn, firstBad, chopped, verdictOn}
-use Rattle.cutting.specs.Told.{capped, lineOf}
+use Rattle.finding_lines.specs.Lines.{verdictLine}
+use Rattle.cutting.specs.Chopping.{chopped, verdictOn}
+use Rattle.cutting.specs.Told.{lineOf}
 use Rattle.cutting.specs.Life.{rowWords}
-use Rattle.cutting.proofs.Counting.{capped-zero, capped-some}
 
 -- ---- rows of words, read as pieces
 
@@ -80,13 +81,13 @@ module _ (ps : List Piece) where
 
 -- ---- the line of all lines
 
-pub line-bad : (ss : List Said) (b : ℕ) → b ≡ capped (firstBad ss) → 0 < b → badText b ≡ lineOf ss
+pub line-bad : (ss : List (Said Piece)) (b : ℕ) → b ≡ capped (firstBad ss) → 0 < b → badText b ≡ lineOf ss
 unfolding lineOf
 line-bad ss b e h =
     let k : 0 < firstBad ss = capped-some (firstBad ss) (omega arith) in
     rw (lt-ltb 0 (firstBad ss) k) (ap badText e)
 
-pub line-good : (ss : List Said) (b : ℕ) → b ≡ capped (firstBad ss) → b ≤ 0 → verdictLine (verdictOn (piecesIn ss)) ≡ lineOf ss
+pub line-good : (ss : List (Said Piece)) (b : ℕ) → b ≡ capped (firstBad ss) → b ≤ 0 → verdictLine (verdictOn (saidIn ss)) ≡ lineOf ss
 unfolding lineOf
 line-good ss b e h =
     let z : firstBad ss ≡ 0 = capped-zero (firstBad ss) (omega arith) in

@@ -15,8 +15,9 @@ ghost use mathlib.Core.List.{List, [], _++_};
 ghost use Prim.Native.Nat.{ℕ, _≤_};
 ghost use lib.ListN.{length, take};
 ghost use Rattle.finding_lines.specs.Lines.{longestLine};
+ghost use Rattle.cutting.specs.Chopping.{saidLines};
 ghost use Rattle.cutting.specs.Told.{putOut};
-ghost use Rattle.cutting.specs.Life.{Took, Counts, lastOf};
+ghost use Rattle.cutting.specs.Life.{Took, Counts};
 
 const LINE_END: u8 = 10;
 
@@ -76,7 +77,7 @@ impl Cutting {
 
     // What all lines have come to: the end of input ends one that is begun.
     fn last(self) -> Tally
-        ensures { λ r. ⌜ ((input : List ℕ) → Took input self → Counts (lastOf input) r) ⌝ }
+        ensures { λ r. ⌜ ((input : List ℕ) → Took input self → Counts (saidLines input) r) ⌝ }
     {
         let line = self.line;
         let begun = self.begun;

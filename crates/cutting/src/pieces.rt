@@ -1,19 +1,18 @@
 // The pieces so far, as they are judged.
 use chop::MOST;
 use piece_lines::Noted;
-use piece_lines::same;
 use texts::put_text;
+use told_lines::WIDE;
+use told_lines::place;
 ghost use mathlib.Core.Path.{_≡_};
 ghost use mathlib.Core.List.{List, [], _∷_, _++_};
 ghost use Prim.Native.Nat.{_+_, _*_, _≤_};
 ghost use lib.ListN.{length};
 ghost use Rattle.texts.specs.Written.{written};
-ghost use Rattle.piece_lines.specs.Says.{Piece, Name};
+ghost use Rattle.piece_lines.specs.Says.{Piece};
+ghost use Rattle.line_words.specs.Said.{Name};
 ghost use Rattle.piece_lines.specs.Held.{KeepsPiece};
-ghost use Rattle.cutting.specs.Life.{Holds, firstRow};
-
-// The bytes of a name, zeros behind it.
-const WIDE: usize = 32;
+ghost use Rattle.cutting.specs.Life.{Holds};
 
 // How many there are: one more than the most where there are too many. Whether some item is unknown.
 // Their names, and their rows: transaction, items read, items written.
@@ -65,23 +64,6 @@ impl Pieces {
             rows,
         }
     }
-}
-
-// The first of so many names that is this one, or behind them.
-fn place(names: &[u8], count: usize, name: &[u8]) -> u64
-    requires { ⌜ (count ≤ 32) × (length (now names) ≡ 1024) ⌝ }
-    ensures { λ r. ⌜ r ≡ firstRow (now (name .entry)) (now (names .entry)) count ⌝ }
-{
-    let mut i: usize = 0;
-    while i < count {
-        let from = i * WIDE;
-        let end = from + WIDE;
-        if same(&names[from..end], name) {
-            return i as u64;
-        }
-        i += 1;
-    }
-    i as u64
 }
 
 // A row's three words put at its place.

@@ -2,33 +2,21 @@
 use crate::pieces::Pieces;
 use piece_lines::Ended;
 use piece_lines::Told;
-ghost use mathlib.Core.Path.{_≡_};
-ghost use mathlib.Core.Bool.{cond};
+use told_lines::first;
+use told_lines::next;
 ghost use mathlib.Core.List.{List, [], _∷_, _++_};
-ghost use Prim.Native.Nat.{ℕ, suc};
-ghost use lib.Dec.{eqb};
-ghost use Rattle.piece_lines.specs.Read.{Said, said};
+ghost use Prim.Native.Nat.{ℕ};
+ghost use Rattle.piece_lines.specs.Says.{Piece};
+ghost use Rattle.piece_lines.specs.Read.{said};
+ghost use Rattle.line_words.specs.Said.{Said};
 ghost use Rattle.piece_lines.specs.Held.{Tells};
-ghost use Rattle.cutting.specs.Told.{capped};
 ghost use Rattle.cutting.specs.Life.{Counts};
-
-const GREATEST: u64 = 18446744073709551615;
 
 // How many there are, which of them is the first bad one, counted from 1 (0 for none), and the pieces.
 pub struct Tally {
     pub lines: u64,
     pub bad: u64,
     pub pieces: Pieces,
-}
-
-// One line more, up to the greatest number.
-fn next(lines: u64) -> u64
-    ensures { λ r. ⌜ ((n : ℕ) → lines ≡ capped n → r ≡ capped (suc n)) ⌝ }
-{
-    if lines < GREATEST {
-        return lines + 1;
-    }
-    lines
 }
 
 impl Tally {
@@ -45,7 +33,7 @@ impl Tally {
 
     // A line more, by what it says.
     pub fn count(self, ended: Ended) -> Self
-        ensures { λ r. ⌜ ((ss : List Said) (line : List ℕ) → Counts ss self → Tells (said line) ended → Counts (ss ++ (said line ∷ [])) r) ⌝ }
+        ensures { λ r. ⌜ ((ss : List (Said Piece)) (line : List ℕ) → Counts ss self → Tells (said line) ended → Counts (ss ++ (said line ∷ [])) r) ⌝ }
     {
         let told = ended.told;
         let noted = ended.noted;
@@ -66,14 +54,4 @@ impl Tally {
             },
         }
     }
-}
-
-// The first of two bad lines, where the other one is behind it.
-fn first(bad: u64, line: u64) -> u64
-    ensures { λ r. ⌜ r ≡ cond (eqb bad 0) line bad ⌝ }
-{
-    if bad == 0 {
-        return line;
-    }
-    bad
 }

@@ -7,7 +7,7 @@ use native.Mathlib.Omega.{arith}
 use lib.ListN.{length, getD, take, set, replicate, length-append, length-take, List·getD-append}
 use lib.Seq.{take-at, take-suc-set}
 use Rattle.texts.proofs.Written.{text-next}
-use Rattle.numerals.proofs.Decimals.{length-decimal, length-spaced}
+use Rattle.numerals.proofs.Decimals.{length-spaced}
 use Rattle.chop.specs.Pieces as chop
 use Rattle.chop.specs.Verdicts.{Verdict, tooManyPieces, unknownItem, malformed, refused, accepted, shows, said}
 use Rattle.chop.specs.Judgement.{judgement}
@@ -15,7 +15,7 @@ use Rattle.chop.specs.declared.Judged.{Judged}
 use Rattle.chop.specs.declared.Finding.{Finding}
 use Rattle.chop.specs.declared.Finding.the-variants.{TooManyPieces, UnknownItem, Malformed, Refused, Accepted}
 use Rattle.chop.proofs.Theorems.{shows-circle, circle-fits}
-use Rattle.finding_lines.specs.Lines.{badText, refusedLine, lineFor, verdictLine, longestLine, Shown}
+use Rattle.finding_lines.specs.Lines.{refusedLine, lineFor, verdictLine, longestLine, Shown}
 
 -- ---- what is shown
 
@@ -58,10 +58,6 @@ map-length (x ∷ xs) = ap suc (map-length xs)
 pub refused-most : (l : List ℕ) → length l ≤ 32 → length (refusedLine l) ≤ longestLine
 unfolding refusedLine
 refused-most l h = simp length-append (omega (arith, length-spaced (map suc l), map-length l))
-
-pub bad-most : (k : ℕ) → length (badText k) ≤ longestLine
-unfolding badText
-bad-most k = simp length-append (omega (arith, length-decimal k))
 
 pub line-most : (f : Finding) (l : List ℕ) → length l ≤ 32 → length (lineFor f l) ≤ longestLine
 line-most TooManyPieces l h = omega arith

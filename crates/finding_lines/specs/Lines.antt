@@ -1,32 +1,27 @@
--- "Standard output is one line": the line of what was found of a chopping, and of a bad line.
+-- "Standard output is one line": the line of what was found of a chopping.
 use Prim.Native.Nat.{ℕ, suc, _<_, _≤_}
 use mathlib.Core.List.{List, [], _∷_, _++_, map}
 use lib.ListN.{getD}
-use Rattle.numerals.specs.Print.{decimal, spaced}
+use Rattle.numerals.specs.Print.{spaced}
+use Rattle.told_lines.specs.Lines.{unknownWords}
 use Rattle.chop.specs.declared.Judged.{Judged}
 use Rattle.chop.specs.declared.Finding.{Finding}
 use Rattle.chop.specs.declared.Finding.the-variants.{TooManyPieces, UnknownItem, Malformed, Refused, Accepted}
 use Rattle.chop.specs.Verdicts.{Verdict, tooManyPieces, unknownItem, malformed, refused, accepted}
 
--- `accepted`, `too many pieces`, `unknown item`, and what is never said of pieces
+-- `accepted`, `too many pieces`, and what is never said of pieces
 abbrev pub acceptedWords : List ℕ
 acceptedWords = 97 ∷ 99 ∷ 99 ∷ 101 ∷ 112 ∷ 116 ∷ 101 ∷ 100 ∷ 10 ∷ []
 
 abbrev pub tooManyWords : List ℕ
 tooManyWords = 116 ∷ 111 ∷ 111 ∷ 32 ∷ 109 ∷ 97 ∷ 110 ∷ 121 ∷ 32 ∷ 112 ∷ 105 ∷ 101 ∷ 99 ∷ 101 ∷ 115 ∷ 10 ∷ []
 
-abbrev pub unknownWords : List ℕ
-unknownWords = 117 ∷ 110 ∷ 107 ∷ 110 ∷ 111 ∷ 119 ∷ 110 ∷ 32 ∷ 105 ∷ 116 ∷ 101 ∷ 109 ∷ 10 ∷ []
-
 abbrev pub malformedWords : List ℕ
 malformedWords = 109 ∷ 97 ∷ 108 ∷ 102 ∷ 111 ∷ 114 ∷ 109 ∷ 101 ∷ 100 ∷ 10 ∷ []
 
--- `refused` and `bad line`, before their numbers
+-- `refused`, before its numbers
 abbrev pub refusedWord : List ℕ
 refusedWord = 114 ∷ 101 ∷ 102 ∷ 117 ∷ 115 ∷ 101 ∷ 100 ∷ []
-
-abbrev pub badWords : List ℕ
-badWords = 98 ∷ 97 ∷ 100 ∷ 32 ∷ 108 ∷ 105 ∷ 110 ∷ 101 ∷ 32 ∷ []
 
 -- "the circle's pieces by their place in the input from 1"
 unfoldable pub refusedLine : List ℕ → List ℕ
@@ -46,9 +41,6 @@ verdictLine unknownItem = unknownWords
 verdictLine malformed = malformedWords
 verdictLine (refused l) = refusedLine l
 verdictLine accepted = acceptedWords
-
-unfoldable pub badText : ℕ → List ℕ
-badText k = badWords ++ (decimal k ++ (10 ∷ []))
 
 -- the bytes of the longest line: `refused`, 32 places of at most 20 digits with a space before each, and the line's end
 abbrev pub longestLine : ℕ

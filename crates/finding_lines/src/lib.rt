@@ -1,4 +1,4 @@
-// The line that says what was found of a chopping, or which line of its text is bad.
+// The line that says what was found of a chopping.
 use chop::Finding;
 use chop::Judged;
 use texts::put;
@@ -8,20 +8,10 @@ ghost use mathlib.Core.List.{map};
 ghost use Prim.Native.Nat.{ℕ, suc, _<_, _≤_};
 ghost use lib.ListN.{length, take, getD};
 ghost use Rattle.texts.specs.Written.{Wrote};
-ghost use Rattle.finding_lines.specs.Lines.{longestLine, badText, refusedLine, lineFor, Shown};
+ghost use Rattle.finding_lines.specs.Lines.{longestLine, refusedLine, lineFor, Shown};
 
 // Room for the longest line.
 pub const LONGEST: usize = 680;
-
-// Writes the line of a bad line, and answers the index after it.
-pub fn print_bad(line: u64, out: &mut [u8]) -> usize
-    requires { ⌜ longestLine ≤ length (now out) ⌝ }
-    ensures { λ r. ⌜ Wrote (now (out .entry)) 0 (badText line) (now (out .exit)) r ⌝ }
-{
-    let from = put_text(out, 0, b"bad line ");
-    let end = numerals::decimal(line, out, from);
-    put(out, end, b'\n')
-}
 
 // Writes the line of what was found, and answers the index after it.
 pub fn print(judged: Judged, out: &mut [u8]) -> usize

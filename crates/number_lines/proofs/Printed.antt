@@ -13,7 +13,7 @@ pub spaced-one : (n : ℕ) → (32 ∷ []) ++ decimal n ≡ spaced (n ∷ [])
 unfolding spaced
 spaced-one n = ap (λ (ds : List ℕ). 32 ∷ ds) (sym (append-nil (decimal n)))
 
-spaced-append : (ns ms : List ℕ) → spaced ns ++ spaced ms ≡ spaced (ns ++ ms)
+pub spaced-append : (ns ms : List ℕ) → spaced ns ++ spaced ms ≡ spaced (ns ++ ms)
 unfolding spaced
 spaced-append [] ms = refl
 spaced-append (n ∷ ns) ms =

@@ -7,12 +7,15 @@ use mathlib.Core.Logic.{_⊎_, inl, inr, ⊎-elim}
 use native.Mathlib.Omega.{arith}
 use lib.Dec.{eqb}
 use lib.ListN.{length}
-use Rattle.piece_lines.specs.Words.{wordsOf, uncommented, isName, isItem, same, reads, writes}
-use Rattle.piece_lines.specs.Says.{Piece, piece, Comment, no-word, empty-word}
-use Rattle.piece_lines.specs.Read.{onward, Heard, hear, hearAll, silence, comment, says, bad, saidAt, saidOf, said}
+use Rattle.line_words.specs.Words.{wordsOf, uncommented, isName, isItem, same, reads, writes}
+use Rattle.piece_lines.specs.Says.{Piece, piece}
+use Rattle.line_words.specs.Said.{Comment, no-word, empty-word}
+use Rattle.piece_lines.specs.Read.{onward, Heard, hear, hearAll, silence, saidAt, saidOf, said}
+use Rattle.line_words.specs.Said.{Said, comment, says, bad}
 use Rattle.piece_lines.specs.declared.stages.Stage.{Stage}
 use Rattle.piece_lines.specs.declared.stages.Stage.the-variants.{Nothing, Blank, Named, ToRead, Reading, ToWrite, Writing, Wrong}
-use Rattle.piece_lines.proofs.Only.{passed, no-bytes, hear-empty, hear-named, hear-other, blank-only}
+use Rattle.piece_lines.proofs.Only.{hear-empty, hear-named, hear-other, blank-only}
+use Rattle.line_words.proofs.Tested.{passed, no-bytes}
 
 -- ---- whatever has a first word says something
 
@@ -44,7 +47,7 @@ talks-on Wrong w e = refl
 clash : (p : Piece) → says p ≡ comment → ⊥
 clash p e = let z : _≡_ {A = ℕ} 0 1 = cc in omega arith
 
-clash-bad : bad ≡ comment → ⊥
+clash-bad : _≡_ {A = Said Piece} bad comment → ⊥
 clash-bad e = let z : _≡_ {A = ℕ} 0 1 = cc in omega arith
 
 tells : (s : Stage) (p : Piece) → talks s ≡ true → saidAt s p ≡ comment → ⊥

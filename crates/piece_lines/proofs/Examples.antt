@@ -3,9 +3,10 @@ use mathlib.Core.Path.{_≡_, refl}
 use mathlib.Core.List.{[], _∷_}
 use Rattle.rules.specs.Words.{every}
 use Rattle.numerals.specs.Numbers.{worth}
-use Rattle.piece_lines.specs.Words.{wordsFrom, wordsOf, hash, uncommented, isName, isItem, same}
+use Rattle.line_words.specs.Words.{wordsFrom, wordsOf, hash, uncommented, isName, isItem, same}
 use Rattle.piece_lines.specs.Says.{piece}
-use Rattle.piece_lines.specs.Read.{onward, noted, hear, hearAll, silence, comment, says, bad, saidAt, saidOf, said}
+use Rattle.piece_lines.specs.Read.{onward, noted, hear, hearAll, silence, saidAt, saidOf, said}
+use Rattle.line_words.specs.Said.{comment, says, bad}
 
 -- the request's own line: `T1 reads 3 4 writes 3`
 the-request : said (84 ∷ 49 ∷ 32 ∷ 114 ∷ 101 ∷ 97 ∷ 100 ∷ 115 ∷ 32 ∷ 51 ∷ 32 ∷ 52 ∷ 32 ∷ 119 ∷ 114 ∷ 105 ∷ 116 ∷ 101 ∷ 115 ∷ 32 ∷ 51 ∷ []) ≡ says (piece (84 ∷ 49 ∷ []) (3 ∷ 4 ∷ []) (3 ∷ []))

@@ -12,7 +12,7 @@ use Rattle.rules.proofs.Bits.{withBit-here, withBit-there, bit-none}
 use Rattle.words.proofs.SlotWords.{shifted, set-is}
 use Rattle.piece_lines.specs.Says.{piece}
 use Rattle.piece_lines.specs.Items.{unknown, wordWith, wordOf, unknownIn}
-use Rattle.piece_lines.proofs.Snoc.{some-snoc, or-false, or-true, or-assoc, or-swap, wordWith-snoc}
+use Rattle.line_words.proofs.Snoc.{some-snoc, or-false, or-true, or-assoc, or-swap}
 
 pub item-unknown : (h i : ℕ) → 63 < i → h ≡ wordWith h (i ∷ [])
 unfolding wordWith
@@ -23,6 +23,19 @@ unfolding wordWith
 item-known h i l = rw (le-ltb 63 i l, shifted i (omega arith), set-is h i) refl
 
 -- an item more
+wordWith-snoc : (items : List ℕ) (h i : ℕ) → wordWith h (items ++ (i ∷ [])) ≡ wordWith (wordWith h items) (i ∷ [])
+unfolding wordWith
+wordWith-snoc [] h i = refl
+wordWith-snoc (x ∷ xs) h i = go (unknown x) (wordWith-snoc xs h i) (wordWith-snoc xs (withBit h x) i)
+  where
+    go : (t : Bool)
+        → wordWith h (xs ++ (i ∷ [])) ≡ wordWith (wordWith h xs) (i ∷ [])
+        → wordWith (withBit h x) (xs ++ (i ∷ [])) ≡ wordWith (wordWith (withBit h x) xs) (i ∷ [])
+        → cond t (wordWith h (xs ++ (i ∷ []))) (wordWith (withBit h x) (xs ++ (i ∷ [])))
+        ≡ wordWith (cond t (wordWith h xs) (wordWith (withBit h x) xs)) (i ∷ [])
+    go true past on = past
+    go false past on = on
+
 pub wordOf-snoc : (items : List ℕ) (i : ℕ) → wordOf (items ++ (i ∷ [])) ≡ wordWith (wordOf items) (i ∷ [])
 unfolding wordOf
 wordOf-snoc items i = wordWith-snoc items 0 i

@@ -1,7 +1,4 @@
 -- Laws of a line of a chopping.
-pub mod Snoc
-pub mod Sameness
-pub mod Keeping
 pub mod Items
 pub mod Noting
 pub mod Lines

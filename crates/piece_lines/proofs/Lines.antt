@@ -1,90 +1,58 @@
 -- A line that is not ended yet: what is kept of it with a byte more, and what it says once it is ended.
 use Prim.Native.Nat.{ℕ}
 use mathlib.Core.Path.{_≡_, refl, sym, ap, subst, _∙_}
-use mathlib.Core.Bool.{Bool, true, false, _&&_, false≢true}
+use mathlib.Core.Bool.{true, false, not, _&&_}
 use mathlib.Core.List.{List, [], _∷_, _++_}
 use lib.Dec.{eqb}
-use lib.ListN.{length}
-use borrow.Author.Tests.{eq-eqb, ne-eqb}
-use Rattle.piece_lines.specs.Words.{hash}
-use Rattle.piece_lines.specs.Read.{Heard, heard, hear, onward, noted, saidAt, saidOf}
-use Rattle.piece_lines.specs.Held.{Held, speaking, commented, after, afterAll, closed, fresh, saidBy, toldAt, KeepsWord, KeepsPiece, KeepsSpeaking, Keeps, Follows, Tells}
-use Rattle.piece_lines.specs.declared.word.Word.{Word}
+use Rattle.line_words.specs.Words.{wordsOf, uncommented}
+use Rattle.line_words.specs.Speech.{spoken, endedIn}
+use Rattle.piece_lines.specs.Read.{Heard, heard, hear, hearAll, silence, onward, noted, saidAt, saidOf, said}
+use Rattle.piece_lines.specs.Held.{toldAt, KeepsPiece, KeepsHeard, Follows, Tells}
+use Rattle.line_words.specs.Held.{KeepsWord, Hears}
+use Rattle.line_words.specs.declared.speech.Speech.{Speech}
 use Rattle.piece_lines.specs.declared.stages.Noted.{Noted}
 use Rattle.piece_lines.specs.declared.stages.Stage.{Stage}
 use Rattle.piece_lines.specs.declared.stages.Stage.the-variants.{Nothing, Blank, Named, ToRead, Reading, ToWrite, Writing, Wrong}
 use Rattle.piece_lines.specs.declared.Line.{Line}
 use Rattle.piece_lines.specs.declared.Told.{Told}
-use Rattle.piece_lines.proofs.Snoc.{hash-snoc}
+use Rattle.line_words.proofs.Hearing.{Ends, hears-end, hears-on, ends-over, ends-word}
 
 -- ---- a word ends
 
-pub word-heard : (h : Heard) (w : List ℕ) (s : Line) → KeepsSpeaking h w s → {stage : Stage} {n : Noted} {word : Word} → stage ≡ onward (s .stage) w → (stage ≡ onward (s .stage) w → KeepsWord w (s .word) → KeepsPiece (h .piece) (s .noted) → KeepsPiece (noted stage w (h .piece)) n) → KeepsWord [] word → KeepsSpeaking (hear h w) [] (record { over = false; word = word; stage = stage; noted = n })
-unfolding hear hash
-word-heard h w s k e f new =
-    let q = e ∙ ap (λ (x : Stage). onward x w) (k .heard .stage) in
-    record {
-      over = refl;
-      heard = record { stage = q; piece = rw q at (f e (k .word) (k .heard .piece)) };
-      word = new;
-      plain = refl;
-    }
+pub word-heard : (h : Heard) (w : List ℕ) (s : Line) → KeepsHeard h s → KeepsWord w (s .speech .word) → {stage : Stage} {n : Noted} → stage ≡ onward (s .stage) w → (stage ≡ onward (s .stage) w → KeepsWord w (s .speech .word) → KeepsPiece (h .piece) (s .noted) → KeepsPiece (noted stage w (h .piece)) n) → KeepsHeard (hear h w) (record { speech = s .speech; stage = stage; noted = n })
+unfolding hear
+word-heard h w s k q e f =
+    let g = e ∙ ap (λ (x : Stage). onward x w) (k .stage) in
+    record { stage = g; piece = rw g at (f e q (k .piece)) }
+
+hear-snoc : (ws : List (List ℕ)) (h : Heard) (w : List ℕ) → hearAll h (ws ++ (w ∷ [])) ≡ hear (hearAll h ws) w
+unfolding hearAll
+hear-snoc [] h w = refl
+hear-snoc (v ∷ vs) h w = hear-snoc vs (hear h v) w
+
+-- what is heard with the word that ends
+module _ (ws vs : List (List ℕ)) (s : Line) (k : KeepsHeard (hearAll silence ws) s) (e : Ends ws vs (s .speech)) where
+  heard-more : {r : Line} → ((h : Heard) (w : List ℕ) → KeepsHeard h s → KeepsWord w (s .speech .word) → KeepsHeard (hear h w) r) → KeepsHeard (hearAll silence vs) r
+  heard-more {r} f = subst (λ (h : Heard). KeepsHeard h r) (sym (ap (hearAll silence) (e .more) ∙ hear-snoc ws silence (e .word))) (f (hearAll silence ws) (e .word) k (e .kept))
 
 -- ---- a byte more
 
-module _ (k : Held) (s : Line) (b : ℕ) where
-  pub push-over : s .over ≡ true → Keeps k s → Keeps (after k b) s
-  unfolding after Keeps
-  push-over = go k
-    where
-      go : (k : Held) → s .over ≡ true → Keeps k s → Keeps (after k b) s
-      go (speaking h w) o q = absurd (false≢true (sym (q .over) ∙ o))
-      go (commented h) o q = q
+module _ (line : List ℕ) (s : Line) (q : Follows line s) (b : ℕ) {speech : Speech} (next : Hears (line ++ (b ∷ [])) speech) where
+  pub follows-end : (not (s .speech .over) && eqb b 32) ≡ true → {r : Line} → ((h : Heard) (w : List ℕ) → KeepsHeard h s → KeepsWord w (s .speech .word) → KeepsHeard (hear h w) r) → Follows (line ++ (b ∷ [])) (record { speech = speech; stage = r .stage; noted = r .noted })
+  follows-end e {r} f =
+      let g = heard-more (endedIn (spoken line)) (endedIn (spoken (line ++ (b ∷ [])))) s (q .heard) (hears-end line (s .speech) (q .words) b e) {r = r} f in
+      record { words = next; heard = record { stage = g .stage; piece = g .piece } }
 
-  pub push-space : {r : Line} → s .over ≡ false → b ≡ 32 → ((h : Heard) (w : List ℕ) → KeepsSpeaking h w s → KeepsSpeaking (hear h w) [] r) → Keeps k s → Keeps (after k b) r
-  unfolding after Keeps
-  push-space {r} = go k
-    where
-      go : (k : Held) → s .over ≡ false → b ≡ 32 → ((h : Heard) (w : List ℕ) → KeepsSpeaking h w s → KeepsSpeaking (hear h w) [] r) → Keeps k s → Keeps (after k b) r
-      go (speaking h w) o e f q = rw (eq-eqb b 32 e) (f h w q)
-      go (commented h) o e f q = absurd (false≢true (sym o ∙ q .over))
-
-  module _ (o : s .over ≡ false) (d : b ≡ 32 → ⊥) {t : Bool} (empty : (w : List ℕ) → KeepsWord w (s .word) → t ≡ eqb (length w) 0) where
-    begins : (h : Heard) (w : List ℕ) → KeepsSpeaking h w s → hash (w ++ (b ∷ [])) ≡ (t && eqb b 35)
-    begins h w q = hash-snoc w b (q .plain) ∙ ap (λ (x : Bool). x && eqb b 35) (sym (empty w (q .word)))
-
-    pub push-hash : (t && eqb b 35) ≡ true → Keeps k s → Keeps (after k b) (record { over = true; word = s .word; stage = s .stage; noted = s .noted })
-    unfolding after Keeps
-    push-hash = go k
-      where
-        go : (k : Held) → (t && eqb b 35) ≡ true → Keeps k s → Keeps (after k b) (record { over = true; word = s .word; stage = s .stage; noted = s .noted })
-        go (speaking h w) e q =
-            rw (ne-eqb b 32 d, begins h w q, e) (record { over = refl; heard = record { stage = q .heard .stage; piece = q .heard .piece } })
-        go (commented h) e q = absurd (false≢true (sym o ∙ q .over))
-
-    pub push-byte : {word : Word} → (t && eqb b 35) ≡ false → ((w : List ℕ) → KeepsWord w (s .word) → KeepsWord (w ++ (b ∷ [])) word) → Keeps k s → Keeps (after k b) (record { over = s .over; word = word; stage = s .stage; noted = s .noted })
-    unfolding after Keeps
-    push-byte {word} = go k
-      where
-        go : (k : Held) → (t && eqb b 35) ≡ false → ((w : List ℕ) → KeepsWord w (s .word) → KeepsWord (w ++ (b ∷ [])) word) → Keeps k s → Keeps (after k b) (record { over = s .over; word = word; stage = s .stage; noted = s .noted })
-        go (speaking h w) e f q =
-            rw (ne-eqb b 32 d, begins h w q, e)
-            (record { over = o; heard = record { stage = q .heard .stage; piece = q .heard .piece }; word = f w (q .word); plain = begins h w q ∙ e })
-        go (commented h) e f q = absurd (false≢true (sym o ∙ q .over))
-
--- the bytes so far, with one more
-after-snoc : (line : List ℕ) (k : Held) (b : ℕ) → after (afterAll k line) b ≡ afterAll k (line ++ (b ∷ []))
-unfolding afterAll
-after-snoc [] k b = refl
-after-snoc (x ∷ xs) k b = after-snoc xs (after k x) b
-
-pub followed : (line : List ℕ) (b : ℕ) (r : Line) → Keeps (after (afterAll fresh line) b) r → Follows (line ++ (b ∷ [])) r
-followed line b r q = subst (λ (k : Held). Keeps k r) (after-snoc line fresh b) q
+  pub follows-on : (not (s .speech .over) && eqb b 32) ≡ false → Follows (line ++ (b ∷ [])) (record { speech = speech; stage = s .stage; noted = s .noted })
+  follows-on e =
+      let g : KeepsHeard (hearAll silence (endedIn (spoken (line ++ (b ∷ []))))) s
+      = subst (λ (ws : List (List ℕ)). KeepsHeard (hearAll silence ws) s) (sym (hears-on line (s .speech) (q .words) b e)) (q .heard) in
+      record { words = next; heard = record { stage = g .stage; piece = g .piece } }
 
 -- ---- the line ends
 
-tells : (h : Heard) (stage : Stage) (n : Noted) (t : Told) → stage ≡ h .stage → KeepsPiece (h .piece) n → t ≡ toldAt stage → Tells (saidAt (h .stage) (h .piece)) (record { told = t; noted = n })
-unfolding saidAt
+tells : (h : Heard) (stage : Stage) (n : Noted) (t : Told) → stage ≡ h .stage → KeepsPiece (h .piece) n → t ≡ toldAt stage → Tells (saidOf h) (record { told = t; noted = n })
+unfolding saidOf saidAt
 tells h stage n t e k q = go (h .stage) e
   where
     go : (s : Stage) → stage ≡ s → Tells (saidAt s (h .piece)) (record { told = t; noted = n })
@@ -97,19 +65,16 @@ tells h stage n t e k q = go (h .stage) e
     go Writing f = (q ∙ ap toldAt f, k)
     go Wrong f = q ∙ ap toldAt f
 
-module _ (k : Held) (s : Line) where
-  pub ended-over : s .over ≡ true → {t : Told} → t ≡ toldAt (s .stage) → Keeps k s → Tells (saidBy k) (record { told = t; noted = s .noted })
-  unfolding saidBy closed saidOf Keeps
-  ended-over o {t} e q = go k q
-    where
-      go : (k : Held) → Keeps k s → Tells (saidBy k) (record { told = t; noted = s .noted })
-      go (speaking h w) q = absurd (false≢true (sym (q .over) ∙ o))
-      go (commented h) q = tells h (s .stage) (s .noted) t (q .heard .stage) (q .heard .piece) e
+module _ (line : List ℕ) (s : Line) (q : Follows line s) where
+  pub ended-over : s .speech .over ≡ true → {t : Told} → t ≡ toldAt (s .stage) → Tells (said line) (record { told = t; noted = s .noted })
+  unfolding said
+  ended-over o {t} e =
+      let g : KeepsHeard (hearAll silence (uncommented (wordsOf line))) s
+      = subst (λ (ws : List (List ℕ)). KeepsHeard (hearAll silence ws) s) (ends-over line (s .speech) (q .words) o) (q .heard) in
+      tells (hearAll silence (uncommented (wordsOf line))) (s .stage) (s .noted) t (g .stage) (g .piece) e
 
-  pub ended-open : s .over ≡ false → {r : Line} → ((h : Heard) (w : List ℕ) → KeepsSpeaking h w s → KeepsSpeaking (hear h w) [] r) → {t : Told} → t ≡ toldAt (r .stage) → Keeps k s → Tells (saidBy k) (record { told = t; noted = r .noted })
-  unfolding saidBy closed saidOf Keeps
-  ended-open o {r} f {t} e q = go k q
-    where
-      go : (k : Held) → Keeps k s → Tells (saidBy k) (record { told = t; noted = r .noted })
-      go (speaking h w) q = let g = f h w q in tells (hear h w) (r .stage) (r .noted) t (g .heard .stage) (g .heard .piece) e
-      go (commented h) q = absurd (false≢true (sym o ∙ q .over))
+  pub ended-open : s .speech .over ≡ false → {r : Line} → ((h : Heard) (w : List ℕ) → KeepsHeard h s → KeepsWord w (s .speech .word) → KeepsHeard (hear h w) r) → {t : Told} → t ≡ toldAt (r .stage) → Tells (said line) (record { told = t; noted = r .noted })
+  unfolding said
+  ended-open o {r} f {t} e =
+      let g = heard-more (endedIn (spoken line)) (uncommented (wordsOf line)) s (q .heard) (ends-word line (s .speech) (q .words) o) {r = r} f in
+      tells (hearAll silence (uncommented (wordsOf line))) (r .stage) (r .noted) t (g .stage) (g .piece) e

@@ -1,20 +1,19 @@
 -- What a word must be to lead to a stage, and what is noted there.
-use Prim.Native.Nat.{ℕ, _≤_}
+use Prim.Native.Nat.{ℕ}
 use mathlib.Core.Path.{_≡_, refl, sym, ap₂, _∙_}
-use mathlib.Core.Bool.{Bool, true, false, cond, _&&_, _||_}
+use mathlib.Core.Bool.{Bool, true, false, cond, _||_}
 use mathlib.Core.List.{List, [], _∷_}
-use lib.Dec.{eqb, leb, ltb}
+use lib.Dec.{eqb, ltb}
 use lib.ListN.{length}
-use borrow.Author.Tests.{leb-true}
-use Rattle.rules.specs.Words.{every}
-use Rattle.numerals.specs.Numbers.{digit, worth, greatest}
-use Rattle.numerals.proofs.Scans.{and-left, and-right}
-use Rattle.piece_lines.specs.Words.{isName, isItem, same, reads, writes, longestName}
+use Rattle.numerals.specs.Numbers.{worth}
+use Rattle.line_words.specs.Words.{isName, isItem, same, reads, writes}
+use Rattle.line_words.proofs.Tested.{name-most, item-right}
 use Rattle.piece_lines.specs.Says.{Piece}
 use Rattle.piece_lines.specs.Read.{onward, noted}
 use Rattle.piece_lines.specs.Items.{unknown, wordWith, unknownIn}
-use Rattle.piece_lines.specs.Held.{KeepsWord, KeepsPiece}
-use Rattle.piece_lines.specs.declared.word.Word.{Word}
+use Rattle.piece_lines.specs.Held.{KeepsPiece}
+use Rattle.line_words.specs.Held.{KeepsWord}
+use Rattle.line_words.specs.declared.word.Word.{Word}
 use Rattle.piece_lines.specs.declared.stages.Noted.{Noted}
 use Rattle.piece_lines.specs.declared.stages.Stage.{Stage}
 use Rattle.piece_lines.specs.declared.stages.Stage.the-variants.{Nothing, Blank, Named, ToRead, Reading, ToWrite, Writing, Wrong}
@@ -50,14 +49,6 @@ fits Reading w =
 fits ToWrite w = either w (isItem w) Writing Wrong (λ e. e) refl
 fits Writing w = either w (isItem w) Writing Wrong (λ e. e) refl
 fits Wrong w = refl
-
-pub name-most : (w : List ℕ) → isName w ≡ true → length w ≤ longestName
-unfolding isName
-name-most w e = leb-true (length w) longestName (and-right (ltb 0 (length w)) _ (and-left (ltb 0 (length w) && leb (length w) longestName) _ e))
-
-pub item-right : (w : List ℕ) → isItem w ≡ true → (every digit w && leb (worth 0 w) greatest) ≡ true
-unfolding isItem
-item-right w e = and-right (ltb 0 (length w)) _ e
 
 pub read-item : (s : Stage) (w : List ℕ) → Reading ≡ onward s w → isItem w ≡ true
 unfolding fitting

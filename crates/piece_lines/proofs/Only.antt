@@ -1,20 +1,23 @@
 -- Only a line that says a piece is read as that piece: the second half of "both ways".
-use Prim.Native.Nat.{ℕ, suc}
+use Prim.Native.Nat.{ℕ}
 use mathlib.Core.Path.{_≡_, refl, sym, ap, ap₂, subst, _∙_}
-use mathlib.Core.Bool.{Bool, true, false}
+use mathlib.Core.Bool.{true, false}
 use mathlib.Core.List.{List, [], _∷_, _++_, append-nil, append-assoc}
 use mathlib.Core.Logic.{_⊎_, inl, inr, ⊎-elim}
 use native.Mathlib.Omega.{arith}
 use lib.Dec.{eqb}
 use lib.ListN.{length}
-use borrow.Author.Tests.{eqb-true}
 use Rattle.numerals.specs.Numbers.{worth}
-use Rattle.piece_lines.specs.Words.{wordsOf, uncommented, isName, isItem, same, reads, writes}
-use Rattle.piece_lines.specs.Says.{Piece, piece, Name, Items, part, Says}
-use Rattle.piece_lines.specs.Read.{onward, noted, Heard, heard, hear, hearAll, silence, Said, comment, says, bad, saidAt, saidOf, said}
+use Rattle.line_words.specs.Words.{wordsOf, uncommented, isName, isItem, same, reads, writes}
+use Rattle.line_words.proofs.Tested.{passed}
+use Rattle.piece_lines.specs.Says.{Piece, piece, Items, part, Says}
+use Rattle.line_words.specs.Said.{Name}
+use Rattle.piece_lines.specs.Read.{onward, noted, Heard, heard, hear, hearAll, silence, saidAt, saidOf, said}
+use Rattle.line_words.specs.Said.{Said, comment, says, bad}
 use Rattle.piece_lines.specs.declared.stages.Stage.the-variants.{Blank, Named, ToRead, Reading, ToWrite, Writing, Wrong}
-use Rattle.piece_lines.proofs.Sameness.{same-equal}
-use Rattle.piece_lines.proofs.Spoken.{tested-name, tested-item, hear-written, hear-first-written, hear-read, hear-first-read}
+use Rattle.line_words.proofs.Sameness.{same-equal}
+use Rattle.piece_lines.proofs.Spoken.{hear-written, hear-first-written, hear-read, hear-first-read}
+use Rattle.line_words.proofs.Tested.{tested-name, tested-item}
 
 -- ---- a line that is wrong stays so
 
@@ -36,11 +39,6 @@ never-comment p e = let z : _≡_ {A = ℕ} 0 1 = cc in absurd (omega arith)
 -- what is heard after a word is wrong
 lost : {A : Type 0} (q p : Piece) (h : Heard) (ws : List (List ℕ)) → h ≡ heard Wrong q → saidOf (hearAll h ws) ≡ says p → A
 lost q p h ws f e = never p (sym (ap (λ (k : Heard). saidOf (hearAll k ws)) f ∙ wrong-on ws q) ∙ e)
-
--- a test that is passed, or not
-pub passed : {A : Type 0} (t : Bool) → (t ≡ true → A) → (t ≡ false → A) → A
-passed true a b = a refl
-passed false a b = b refl
 
 -- ---- what a word leads to that is no item
 
@@ -265,12 +263,8 @@ hear-blank : (q : Piece) (w : List ℕ) → hear (heard Blank q) w ≡ heard Wro
 unfolding hear onward noted
 hear-blank q w = refl
 
-pub no-bytes : (w : List ℕ) → eqb (length w) 0 ≡ true → w ≡ []
-no-bytes [] e = refl
-no-bytes (b ∷ bs) e = let z : suc (length bs) ≡ 0 = eqb-true (suc (length bs)) 0 e in absurd (omega arith)
-
 -- behind an empty word there is none
-pub blank-only : (ws : List (List ℕ)) (q : Piece) (s : Said) → saidOf (hearAll (heard Blank q) ws) ≡ s → ((ws ≡ []) × (s ≡ comment)) ⊎ (s ≡ bad)
+pub blank-only : (ws : List (List ℕ)) (q : Piece) (s : Said Piece) → saidOf (hearAll (heard Blank q) ws) ≡ s → ((ws ≡ []) × (s ≡ comment)) ⊎ (s ≡ bad)
 unfolding hearAll saidOf saidAt
 blank-only [] q s e = inl (refl, sym e)
 blank-only (w ∷ ws) q s e = inr (sym e ∙ ap (λ (h : Heard). saidOf (hearAll h ws)) (hear-blank q w) ∙ wrong-on ws q)

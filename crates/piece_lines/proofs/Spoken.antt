@@ -1,62 +1,21 @@
 -- A line that says a piece is read as that piece: the first half of "both ways".
 use Prim.Native.Nat.{ℕ}
-use mathlib.Core.Path.{_≡_, refl, sym, ap, ap₂, _∙_}
-use mathlib.Core.Bool.{true, _&&_}
+use mathlib.Core.Path.{_≡_, refl, sym, ap, _∙_}
+use mathlib.Core.Bool.{true}
 use mathlib.Core.List.{List, [], _∷_, _++_, append-nil, append-assoc}
 use native.Mathlib.Omega.{arith}
-use lib.Dec.{leb, ltb}
 use lib.ListN.{length}
-use borrow.Author.Tests.{lt-ltb, le-leb, ne-eqb, ltb-true, leb-true}
+use borrow.Author.Tests.{ne-eqb}
 use Rattle.rules.specs.Words.{every}
-use Rattle.numerals.specs.Numbers.{digit, worth, greatest, Digits, Numeral}
-use Rattle.numerals.proofs.Scans.{and-left, and-right}
-use Rattle.piece_lines.specs.Words.{isName, isItem, same, reads, writes, nameByte, longestName}
-use Rattle.piece_lines.specs.Says.{Piece, piece, Name, Items, part, Says, Comment, no-word, empty-word}
-use Rattle.piece_lines.specs.Read.{onward, noted, Heard, heard, hear, hearAll, silence, comment, says, saidAt, saidOf, said}
+use Rattle.numerals.specs.Numbers.{worth}
+use Rattle.line_words.specs.Words.{isItem, same, reads, writes}
+use Rattle.line_words.proofs.Tested.{name-tested, item-tested}
+use Rattle.piece_lines.specs.Says.{Piece, piece, Items, part, Says}
+use Rattle.line_words.specs.Said.{Name, Comment, no-word, empty-word}
+use Rattle.piece_lines.specs.Read.{onward, noted, Heard, heard, hear, hearAll, silence, saidAt, saidOf, said}
+use Rattle.line_words.specs.Said.{comment, says}
 use Rattle.piece_lines.specs.declared.stages.Stage.{Stage}
 use Rattle.piece_lines.specs.declared.stages.Stage.the-variants.{Named, ToRead, Reading, ToWrite, Writing}
-
--- ---- a name and an item, as tests and as facts
-
-pub name-tested : (w : List ℕ) → Name w → isName w ≡ true
-unfolding isName
-name-tested w n = ap₂ _&&_ (ap₂ _&&_ (lt-ltb 0 (length w) (n .some)) (le-leb (length w) longestName (n .most))) (n .bytes)
-
-pub tested-name : (w : List ℕ) → isName w ≡ true → Name w
-unfolding isName
-tested-name w e =
-    let a : (ltb 0 (length w) && leb (length w) longestName) ≡ true = and-left (ltb 0 (length w) && leb (length w) longestName) (every nameByte w) e in
-    record {
-      some = ltb-true 0 (length w) (and-left (ltb 0 (length w)) (leb (length w) longestName) a);
-      most = leb-true (length w) longestName (and-right (ltb 0 (length w)) (leb (length w) longestName) a);
-      bytes = and-right (ltb 0 (length w) && leb (length w) longestName) (every nameByte w) e;
-    }
-
-digits-tested : {w : List ℕ} → Digits w → every digit w ≡ true
-unfolding every
-digits-tested Digits.none = refl
-digits-tested (Digits.more {d} {ds} e r) = ap₂ _&&_ e (digits-tested r)
-
-tested-digits : (w : List ℕ) → every digit w ≡ true → Digits w
-unfolding every
-tested-digits [] e = Digits.none
-tested-digits (d ∷ ds) e = Digits.more (and-left (digit d) (every digit ds) e) (tested-digits ds (and-right (digit d) (every digit ds) e))
-
-pub item-tested : (w : List ℕ) {n : ℕ} → Numeral w n → isItem w ≡ true
-unfolding isItem
-item-tested w m =
-    ap₂ _&&_ (lt-ltb 0 (length w) (m .some)) (ap₂ _&&_ (digits-tested (m .digits)) (le-leb (worth 0 w) greatest (omega (arith, m .value, m .fits))))
-
-pub tested-item : (w : List ℕ) → isItem w ≡ true → Numeral w (worth 0 w)
-unfolding isItem
-tested-item w e =
-    let r : (every digit w && leb (worth 0 w) greatest) ≡ true = and-right (ltb 0 (length w)) (every digit w && leb (worth 0 w) greatest) e in
-    record {
-      some = ltb-true 0 (length w) (and-left (ltb 0 (length w)) (every digit w && leb (worth 0 w) greatest) e);
-      digits = tested-digits w (and-left (every digit w) (leb (worth 0 w) greatest) r);
-      value = refl;
-      fits = leb-true (worth 0 w) greatest (and-right (every digit w) (leb (worth 0 w) greatest) r);
-    }
 
 -- ---- what a word leads to
 

@@ -1,5 +1,4 @@
--- What a line of a chopping says: its words, the grammar, how it is read, and what is kept of one that is not ended.
-pub mod Words
+-- What a line of a chopping says: the grammar, how it is read, and what is kept of one that is not ended.
 pub mod Says
 pub mod Read
 pub mod Items

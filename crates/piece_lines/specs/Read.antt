@@ -5,7 +5,8 @@ use mathlib.Core.List.{List, [], _∷_, _++_}
 use lib.Dec.{eqb}
 use lib.ListN.{length}
 use Rattle.numerals.specs.Numbers.{worth}
-use Rattle.piece_lines.specs.Words.{wordsOf, uncommented, isName, isItem, same, reads, writes}
+use Rattle.line_words.specs.Words.{wordsOf, uncommented, isName, isItem, same, reads, writes}
+use Rattle.line_words.specs.Said.{Said, comment, says, bad}
 use Rattle.piece_lines.specs.Says.{Piece, piece}
 use Rattle.piece_lines.specs.declared.stages.Stage.{Stage}
 use Rattle.piece_lines.specs.declared.stages.Stage.the-variants.{Nothing, Blank, Named, ToRead, Reading, ToWrite, Writing, Wrong}
@@ -51,13 +52,8 @@ hearAll h (w ∷ ws) = hearAll (hear h w) ws
 unfoldable pub silence : Heard
 silence = heard Nothing (piece [] [] [])
 
-pub data Said : Type 0 where
-  comment : Said
-  says : Piece → Said
-  bad : Said
-
 -- no word, or an empty one, is a comment; a part that is begun has to have an item
-unfoldable pub saidAt : Stage → Piece → Said
+unfoldable pub saidAt : Stage → Piece → Said Piece
 saidAt Nothing p = comment
 saidAt Blank p = comment
 saidAt Named p = says p
@@ -67,9 +63,9 @@ saidAt ToWrite p = bad
 saidAt Writing p = says p
 saidAt Wrong p = bad
 
-unfoldable pub saidOf : Heard → Said
+unfoldable pub saidOf : Heard → Said Piece
 saidOf h = saidAt (h .stage) (h .piece)
 
--- what a line says: a piece, nothing, or nothing that is allowed
-unfoldable pub said : List ℕ → Said
+-- what a line says, where it may say a piece
+unfoldable pub said : List ℕ → Said Piece
 said line = saidOf (hearAll silence (uncommented (wordsOf line)))

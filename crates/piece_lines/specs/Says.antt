@@ -1,13 +1,11 @@
 -- "the transaction's name .., then `reads` and items, then `writes` and items, either part missing if empty, single spaces":
 -- as a relation between a line and the piece that it says.
-use Prim.Native.Nat.{ℕ, _<_, _≤_}
+use Prim.Native.Nat.{ℕ}
 use mathlib.Core.Path.{_≡_}
-use mathlib.Core.Bool.{true}
 use mathlib.Core.List.{List, [], _∷_, _++_}
-use lib.ListN.{length}
-use Rattle.rules.specs.Words.{every}
 use Rattle.numerals.specs.Numbers.{Numeral}
-use Rattle.piece_lines.specs.Words.{wordsOf, uncommented, nameByte, longestName, reads, writes}
+use Rattle.line_words.specs.Words.{wordsOf, uncommented, reads, writes}
+use Rattle.line_words.specs.Said.{Name}
 
 -- a transaction's name, the items read and the items written, in the line's order
 pub record Piece : Type 0 where
@@ -17,12 +15,6 @@ pub record Piece : Type 0 where
 
 abbrev pub piece : List ℕ → List ℕ → List ℕ → Piece
 piece n r w = record { name = n; reads = r; writes = w }
-
--- "letters, digits, `_`, `-`; at most 32 bytes"
-pub record Name (w : List ℕ) : Type 0 where
-  pub some : 0 < length w
-  pub most : length w ≤ longestName
-  pub bytes : every nameByte w ≡ true
 
 -- each word is an item
 pub data Items : List (List ℕ) → List ℕ → Type 0 where
@@ -41,8 +33,3 @@ pub record Says (line : List ℕ) (p : Piece) : Type 0 where
   pub named : Name (p .name)
   pub items-read : Items read (p .reads)
   pub items-written : Items written (p .writes)
-
--- "A line that begins with `#` .. and an empty line are comments": no word, or an empty one
-pub data Comment (line : List ℕ) : Type 0 where
-  no-word : uncommented (wordsOf line) ≡ [] → Comment line
-  empty-word : uncommented (wordsOf line) ≡ [] ∷ [] → Comment line

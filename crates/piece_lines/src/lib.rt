@@ -2,28 +2,23 @@
 //
 // A line may have any length, so it is not kept: `Line` knows how far its words have come, and what
 // they have said of the piece.
-mod digits;
-mod kept;
 mod stages;
-mod word;
 
 use crate::stages::Stage;
 use crate::stages::note;
 use crate::stages::onward;
-use crate::word::Word;
+use line_words::Speech;
 ghost use mathlib.Core.Path.{_≡_};
 ghost use mathlib.Core.List.{List, [], _∷_, _++_};
 ghost use Prim.Native.Nat.{ℕ};
 ghost use Rattle.piece_lines.specs.Read.{Heard, hear, said};
-ghost use Rattle.piece_lines.specs.Held.{toldAt, KeepsSpeaking, Follows, Tells};
-pub use kept::same;
+ghost use Rattle.piece_lines.specs.Held.{toldAt, KeepsHeard, Follows, Tells};
+ghost use Rattle.line_words.specs.Held.{KeepsWord};
 pub use stages::Noted;
 
-// The word that is not ended, how far those before it have come, and what they have said; whether a
-// comment has begun.
+// The words so far, how far those that are ended have come, and what they have said.
 pub struct Line {
-    over: bool,
-    word: Word,
+    speech: Speech,
     stage: Stage,
     noted: Noted,
 }
@@ -60,11 +55,10 @@ impl Line {
     pub fn new() -> Self
         ensures { λ r. ⌜ Follows [] r ⌝ }
     {
-        let word = Word::new();
+        let speech = Speech::new();
         let noted = Noted::new();
         Line {
-            over: false,
-            word,
+            speech,
             stage: Stage::Nothing,
             noted,
         }
@@ -74,28 +68,22 @@ impl Line {
     pub fn push(self, byte: u8) -> Self
         ensures { λ r. ⌜ ((line : List ℕ) → Follows line self → Follows (line ++ (byte ∷ [])) r) ⌝ }
     {
-        let over = self.over;
-        let before = self.word;
-        let stage = self.stage;
-        let noted = self.noted;
-        if over {
-            return self;
-        }
-        if byte == b' ' {
-            return self.word_ended();
-        }
-        if before.empty() & (byte == b'#') {
+        let before = self.speech;
+        let speech = before.push(byte);
+        if before.ends(byte) {
+            let heard = self.word_ended();
+            let stage = heard.stage;
+            let noted = heard.noted;
             return Line {
-                over: true,
-                word: before,
+                speech,
                 stage,
                 noted,
             };
         }
-        let word = before.push(byte);
+        let stage = self.stage;
+        let noted = self.noted;
         Line {
-            over,
-            word,
+            speech,
             stage,
             noted,
         }
@@ -103,17 +91,16 @@ impl Line {
 
     // The word ends.
     fn word_ended(self) -> Self
-        ensures { λ r. ⌜ ((h : Heard) (w : List ℕ) → KeepsSpeaking h w self → KeepsSpeaking (hear h w) [] r) ⌝ }
+        ensures { λ r. ⌜ ((h : Heard) (w : List ℕ) → KeepsHeard h self → KeepsWord w (self .speech .word) → KeepsHeard (hear h w) r) ⌝ }
     {
-        let ended = self.word;
+        let speech = self.speech;
+        let ended = speech.word;
         let from = self.stage;
         let before = self.noted;
         let stage = onward(from, ended);
         let noted = note(stage, ended, before);
-        let word = Word::new();
         Line {
-            over: false,
-            word,
+            speech,
             stage,
             noted,
         }
@@ -123,7 +110,8 @@ impl Line {
     pub fn ended(self) -> Ended
         ensures { λ r. ⌜ ((line : List ℕ) → Follows line self → Tells (said line) r) ⌝ }
     {
-        let over = self.over;
+        let speech = self.speech;
+        let over = speech.over;
         if over {
             let stage = self.stage;
             let noted = self.noted;

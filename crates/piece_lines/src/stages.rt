@@ -1,5 +1,5 @@
 // How far the words of a line have come: the stage that a word leads to, and what is noted of the piece.
-use crate::word::Word;
+use line_words::Word;
 ghost use mathlib.Core.Path.{_≡_};
 ghost use mathlib.Core.Bool.{cond};
 ghost use mathlib.Core.List.{List, [], _∷_};
@@ -7,7 +7,8 @@ ghost use Prim.Native.Nat.{ℕ};
 ghost use Rattle.piece_lines.specs.Says.{Piece, piece};
 ghost use Rattle.piece_lines.specs.Read.{onward as Read·onward, noted};
 ghost use Rattle.piece_lines.specs.Items.{wordWith};
-ghost use Rattle.piece_lines.specs.Held.{KeepsWord, KeepsPiece};
+ghost use Rattle.piece_lines.specs.Held.{KeepsPiece};
+ghost use Rattle.line_words.specs.Held.{KeepsWord};
 
 pub enum Stage {
     // No word, and one that is empty.

@@ -1,8 +1,6 @@
 -- The line stands at the front of the output.
-use mathlib.Core.Path.{ap, _∙_}
 use Rattle.texts.proofs.Parts.{front}
-use Rattle.cutting.specs.Told.{lineOf, putOut}
-use Rattle.cutting.proofs.Seeing.{all-seen}
+use Rattle.cutting.specs.Told.{putOut}
 use borrow.Author.Needs.{needs}
 use Rattle.cutting.proofs.Cutting.end.Statement.{statement}
 use Rattle.cutting.proofs.Cutting.end.Tie as tie
@@ -20,7 +18,7 @@ returns : tie.Need-returns
 unfolding putOut
 returns c =
     let said = c .before .before .say .ensures in
-    (said .0, λ input q. front (said .1 _ (c .before .before .before .before .last .ensures input q)) ∙ ap lineOf (all-seen input))
+    (said .0, λ input q. front (said .1 _ (c .before .before .before .before .last .ensures input q)))
 
 pub end-spec : {M : Type 1} → statement M
 end-spec = tie.close (tie.spec last-requires say-requires same-length returns)

@@ -1,6 +1,6 @@
 -- No byte yet.
 use mathlib.Core.Path.{refl}
-use Rattle.cutting.specs.Life.{see, seeAll}
+use Rattle.told_lines.specs.Seen.{see, seeAll}
 use borrow.Author.Needs.{needs}
 use Rattle.cutting.proofs.Cutting.new.Statement.{statement}
 use Rattle.cutting.proofs.Cutting.new.Tie as tie

@@ -4,8 +4,10 @@ use mathlib.Core.List.{[]}
 use native.Mathlib.Omega.{arith}
 use lib.ListN.{length, take}
 use lib.Seq.{take-all}
-use Rattle.cutting.specs.Life.{Seen, seeAll, see, Keeps}
-use Rattle.cutting.proofs.Seeing.{see-append, see-next, keeps-end, keeps-on}
+use Rattle.told_lines.specs.Seen.{Seen, seeAll, see}
+use Rattle.told_lines.proofs.Seeing.{see-append, see-next}
+use Rattle.cutting.specs.Life.{Keeps}
+use Rattle.cutting.proofs.Seeing.{keeps-end, keeps-on}
 use borrow.Author.Needs.{needs}
 use Rattle.cutting.proofs.Cutting.take.Statement.{statement}
 use Rattle.cutting.proofs.Cutting.take.Tie as tie

@@ -2,7 +2,7 @@
 use Prim.Native.Nat.{_*_}
 use native.Mathlib.Omega.{arith}
 use lib.ListN.{length-set}
-use Rattle.cutting.proofs.Triple.{three-written}
+use Rattle.told_lines.proofs.Texts.{three-written}
 use borrow.Author.Needs.{needs}
 use Rattle.cutting.proofs.pieces.put_row.Statement.{statement}
 use Rattle.cutting.proofs.pieces.put_row.Tie as tie

@@ -10,22 +10,23 @@ use Rattle.chop.specs.Judgement.{judgement}
 use Rattle.chop.specs.declared.Judged.{Judged}
 use Rattle.chop.specs.declared.Finding.the-variants.{TooManyPieces, UnknownItem}
 use Rattle.finding_lines.specs.Lines.{Shown}
-use Rattle.finding_lines.proofs.Printed.{bad-most, line-fits, shown, shown-plain}
+use Rattle.told_lines.proofs.Counting.{bad-most}
+use Rattle.finding_lines.proofs.Printed.{line-fits, shown, shown-plain}
 use Rattle.cutting.proofs.Verdicts.{pieces-number, line-bad}
 use Rattle.cutting.proofs.Saying.{said-many, said-unknown, said-judged}
 use borrow.Author.Needs.{needs}
 use Rattle.cutting.proofs.says.say.Statement.{statement}
 use Rattle.cutting.proofs.says.say.Tie as tie
 
-print-bad-requires : tie.Need-print-bad-requires
-print-bad-requires c κs = search needs
+say-bad-requires : tie.Need-say-bad-requires
+say-bad-requires c κs = search needs
 
 same-length : tie.Need-same-length
 same-length c = search needs
 
 returns : tie.Need-returns
 returns c =
-    let w = c .before .before .print-bad .ensures in
+    let w = c .before .before .say-bad .ensures in
     let a = c .before .before .before .before .before .before .before .before .args .tally in
     (omega (arith, w .index, bad-most (a .bad), c .before .before .before .before .before .before .before .before .pre), λ ss k. rw (sym (line-bad ss (a .bad) (k .bad) (c .before .before .before .before .if1 .taken))) w)
 
@@ -102,7 +103,7 @@ pub say-spec : {M : Type 1} → statement M
 say-spec =
     tie.close
     (tie.spec
-    print-bad-requires
+    say-bad-requires
     same-length
     returns
     plain-requires

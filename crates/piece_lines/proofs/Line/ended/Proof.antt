@@ -1,8 +1,4 @@
 -- What the words have said, the last one too where no comment has begun.
-use mathlib.Core.Path.{subst}
-use Rattle.piece_lines.specs.Read.{Said}
-use Rattle.piece_lines.specs.Held.{fresh, afterAll, Tells}
-use Rattle.piece_lines.proofs.Whole.{whole}
 use Rattle.piece_lines.proofs.Lines.{ended-over, ended-open}
 use borrow.Author.Needs.{needs}
 use Rattle.piece_lines.proofs.Line.ended.Statement.{statement}
@@ -12,7 +8,7 @@ tell-requires : tie.Need-tell-requires
 tell-requires c κs = search needs
 
 returns : tie.Need-returns
-returns c = λ line q. subst (λ (s : Said). Tells s (record { told = c .tell .result; noted = c .before .before .before .args .self .noted })) (whole line) (ended-over (afterAll fresh line) (c .before .before .before .args .self) (c .before .before .if1 .taken) (c .tell .ensures) q)
+returns c = λ line q. ended-over line (c .before .before .before .before .args .self) q (c .before .before .if1 .taken) (c .tell .ensures)
 
 word-ended-requires : tie.Need-word-ended-requires
 word-ended-requires c κs = search needs
@@ -21,7 +17,7 @@ tell-requires-2 : tie.Need-tell-requires-2
 tell-requires-2 c κs = search needs
 
 returns-2 : tie.Need-returns-2
-returns-2 c = λ line q. subst (λ (s : Said). Tells s (record { told = c .tell2 .result; noted = c .before .before .word-ended .result .noted })) (whole line) (ended-open (afterAll fresh line) (c .before .before .before .before .args .self) (c .before .before .before .if1 .left) (c .before .before .word-ended .ensures) (c .tell2 .ensures) q)
+returns-2 c = λ line q. ended-open line (c .before .before .before .before .before .args .self) q (c .before .before .before .if1 .left) (c .before .before .word-ended .ensures) (c .tell2 .ensures)
 
 pub ended-spec : {M : Type 1} → statement M
 ended-spec =

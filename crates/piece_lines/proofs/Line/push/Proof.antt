@@ -1,39 +1,24 @@
--- A space ends the word, a comment begins with a word that begins with `#`, and any other byte is the word's.
-use Rattle.piece_lines.specs.Held.{fresh, afterAll}
-use Rattle.piece_lines.proofs.Lines.{followed, push-over, push-space, push-hash, push-byte}
+-- The words take the byte, and what they have said goes on where it ends one.
+use mathlib.Core.Path.{sym, _∙_}
+use Rattle.piece_lines.proofs.Lines.{follows-end, follows-on}
 use borrow.Author.Needs.{needs}
 use Rattle.piece_lines.proofs.Line.push.Statement.{statement}
 use Rattle.piece_lines.proofs.Line.push.Tie as tie
 
-returns : tie.Need-returns
-returns c = λ line q. followed line (c .before .before .before .args .byte) _ (push-over (afterAll fresh line) (c .before .before .before .args .self) (c .before .before .before .args .byte) (c .if1 .taken) q)
+push-requires : tie.Need-push-requires
+push-requires c κs = search needs
+
+ends-requires : tie.Need-ends-requires
+ends-requires c κs = search needs
 
 word-ended-requires : tie.Need-word-ended-requires
 word-ended-requires c κs = search needs
 
+returns : tie.Need-returns
+returns c = λ line q. follows-end line (c .before .before .before .before .before .before .args .self) q (c .before .before .before .before .before .before .args .byte) (c .before .before .before .before .push .ensures line (q .words)) (sym (c .before .before .before .ends .ensures) ∙ c .before .before .if1 .taken) (c .before .word-ended .ensures)
+
 returns-2 : tie.Need-returns-2
-returns-2 c = λ line q. followed line (c .before .before .before .before .before .args .byte) _ (push-space (afterAll fresh line) (c .before .before .before .before .before .args .self) (c .before .before .before .before .before .args .byte) (c .before .before .if1 .left) (c .before .if2 .taken) (c .word-ended .ensures) q)
-
-empty-requires : tie.Need-empty-requires
-empty-requires c κs = search needs
-
-returns-3 : tie.Need-returns-3
-returns-3 c = λ line q. followed line (c .before .before .before .before .before .before .args .byte) _ (push-hash (afterAll fresh line) (c .before .before .before .before .before .before .args .self) (c .before .before .before .before .before .before .args .byte) (c .before .before .before .if1 .left) (c .before .before .if2 .left) (c .before .empty .ensures) (c .if3 .taken) q)
-
-push-requires : tie.Need-push-requires
-push-requires c κs = search needs
-
-returns-4 : tie.Need-returns-4
-returns-4 c = λ line q. followed line (c .before .before .before .before .before .before .before .args .byte) _ (push-byte (afterAll fresh line) (c .before .before .before .before .before .before .before .args .self) (c .before .before .before .before .before .before .before .args .byte) (c .before .before .before .before .if1 .left) (c .before .before .before .if2 .left) (c .before .before .empty .ensures) (c .before .if3 .left) (c .push .ensures) q)
+returns-2 c = λ line q. follows-on line (c .before .before .before .before .before .args .self) q (c .before .before .before .before .before .args .byte) (c .before .before .before .push .ensures line (q .words)) (sym (c .before .before .ends .ensures) ∙ c .before .if1 .left)
 
 pub push-spec : {M : Type 1} → statement M
-push-spec =
-    tie.close
-    (tie.spec
-    returns
-    word-ended-requires
-    returns-2
-    empty-requires
-    returns-3
-    push-requires
-    returns-4)
+push-spec = tie.close (tie.spec push-requires ends-requires word-ended-requires returns returns-2)

@@ -1,5 +1,4 @@
--- The word leads to its stage, and what it says is noted.
-use Rattle.piece_lines.specs.Read.{onward}
+-- The stage that the word leads to, and what is noted there.
 use Rattle.piece_lines.proofs.Lines.{word-heard}
 use borrow.Author.Needs.{needs}
 use Rattle.piece_lines.proofs.Line.word_ended.Statement.{statement}
@@ -11,13 +10,11 @@ onward-requires c κs = search needs
 note-requires : tie.Need-note-requires
 note-requires c κs = search needs
 
-new-requires : tie.Need-new-requires
-new-requires c κs = search needs
-
 returns : tie.Need-returns
-returns c = λ h w k.
+returns c =
+    λ h w k q.
     let s = c .before .before .before .before .before .args .self in
-    word-heard h w s k (c .before .before .onward .ensures w (k .word)) (c .before .note .ensures (s .stage) w (h .piece)) (c .new .ensures)
+    word-heard h w s k q (c .before .onward .ensures w q) (c .note .ensures (s .stage) w (h .piece))
 
 pub word-ended-spec : {M : Type 1} → statement M
-word-ended-spec = tie.close (tie.spec onward-requires note-requires new-requires returns)
+word-ended-spec = tie.close (tie.spec onward-requires note-requires returns)

@@ -3,9 +3,9 @@ use Prim.Native.Nat.{ℕ}
 use mathlib.Core.Path.{_≡_, refl, ap, ap₂, _∙_}
 use mathlib.Core.Bool.{Bool, cond}
 use mathlib.Core.List.{List}
-use Rattle.piece_lines.specs.Words.{same, isItem, writes}
+use Rattle.line_words.specs.Words.{same, isItem, writes}
 use Rattle.piece_lines.specs.Read.{onward}
-use Rattle.piece_lines.specs.Held.{KeepsWord}
+use Rattle.line_words.specs.Held.{KeepsWord}
 use Rattle.piece_lines.specs.declared.stages.Stage.{Stage}
 use Rattle.piece_lines.specs.declared.stages.Stage.the-variants.{Blank, Named, ToRead, Reading, ToWrite, Writing, Wrong}
 use borrow.Author.Needs.{needs}

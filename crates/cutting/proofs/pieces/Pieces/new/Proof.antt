@@ -2,7 +2,7 @@
 use mathlib.Core.Path.{refl}
 use native.Mathlib.Omega.{arith}
 use Rattle.rules.specs.Words.{every, some}
-use Rattle.piece_lines.specs.Held.{counted}
+use Rattle.line_words.specs.Held.{counted}
 use Rattle.cutting.specs.Chopping.{choppedFrom}
 use Rattle.cutting.specs.Life.{rowWords}
 use Rattle.cutting.proofs.pieces.Pieces.new.Statement.{statement}
@@ -10,7 +10,7 @@ use Rattle.cutting.proofs.pieces.Pieces.new.Tie as tie
 
 returns : tie.Need-returns
 unfolding counted every some choppedFrom rowWords
-returns c = record { count = refl; unknown = refl; plain = refl; holding = λ _. record { names = λ i h. absurd (omega arith); rows = refl } }
+returns c = record { count = refl; unknown = refl; holding = λ _. record { names = record { plain = refl; rows = λ i h. absurd (omega arith) }; rows = refl } }
 
 pub new-spec : {M : Type 1} → statement M
 new-spec = tie.close (tie.spec returns)

@@ -1,7 +1,6 @@
 -- No line yet.
 use mathlib.Core.Path.{refl}
-use Rattle.cutting.specs.Chopping.{piecesIn, badFrom, firstBad}
-use Rattle.cutting.specs.Told.{capped}
+use Rattle.told_lines.specs.Lines.{saidIn, badFrom, firstBad, capped}
 use borrow.Author.Needs.{needs}
 use Rattle.cutting.proofs.tally.Tally.new.Statement.{statement}
 use Rattle.cutting.proofs.tally.Tally.new.Tie as tie
@@ -10,8 +9,8 @@ new-requires : tie.Need-new-requires
 new-requires c κs = search needs
 
 returns : tie.Need-returns
-unfolding piecesIn badFrom firstBad capped
-returns c = record { lines = refl; bad = refl; pieces = c .new .ensures }
+unfolding saidIn badFrom firstBad capped
+returns c = record { lines = refl; bad = refl; kept = c .new .ensures }
 
 pub new-spec : {M : Type 1} → statement M
 new-spec = tie.close (tie.spec new-requires returns)

@@ -2,7 +2,7 @@
 use mathlib.Core.Path.{refl}
 use Rattle.rules.specs.Words.{some}
 use Rattle.piece_lines.specs.Items.{wordWith, wordOf, unknownIn}
-use Rattle.piece_lines.specs.Held.{padded}
+use Rattle.line_words.specs.Held.{padded}
 use Rattle.piece_lines.proofs.stages.Noted.new.Statement.{statement}
 use Rattle.piece_lines.proofs.stages.Noted.new.Tie as tie
 

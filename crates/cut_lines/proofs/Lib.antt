@@ -1,0 +1,3 @@
+-- Laws of a cut as text.
+pub mod Touching
+pub mod Printing

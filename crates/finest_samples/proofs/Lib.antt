@@ -1,0 +1,2 @@
+-- Each small program has its finest cut.
+pub mod Computed
