@@ -11,10 +11,10 @@ use std::process::{Command, Output};
 use twin::fuzz::cases::Batch;
 use twin::fuzz::process::{Other, Program, Run};
 use twin::fuzz::stats::Stats;
-use twin::fuzz::{begin, cuts, scripts};
+use twin::fuzz::{begin, cuts, fines, scripts};
 use twin::protocol;
 use twin::rng::Rng;
-use twin::wrong::{WrongCut, WrongJudge, WrongRunner, WrongSize, WrongTables};
+use twin::wrong::{WrongCut, WrongFine, WrongJudge, WrongRunner, WrongSize, WrongTables};
 
 const FUZZ: &str = env!("CARGO_BIN_EXE_fuzz");
 const RUNNER: &str = env!("CARGO_BIN_EXE_twin-run");
@@ -22,6 +22,7 @@ const TABLES: &str = env!("CARGO_BIN_EXE_twin-tables");
 const RECORD: &str = env!("CARGO_BIN_EXE_twin-record");
 const VERDICT: &str = env!("CARGO_BIN_EXE_twin-verdict");
 const CUT: &str = env!("CARGO_BIN_EXE_twin-cut");
+const FINE: &str = env!("CARGO_BIN_EXE_twin-fine");
 
 fn fuzz(arguments: &[&str]) -> Output {
     let mut command = Command::new(FUZZ);
@@ -185,35 +186,52 @@ fn wrong_judges_are_caught() {
     }
 }
 
-/// A wrong judge of choppings, in this process.
-struct Cut(WrongCut);
+/// A wrong judge of choppings, or a wrong finest cut, in this process.
+struct Says<F: Fn(&[u8]) -> Vec<u8>>(F);
 
-impl Other for Cut {
+impl<F: Fn(&[u8]) -> Vec<u8>> Other for Says<F> {
     fn run(&self, input: &[u8], _: bool) -> Result<Run, String> {
-        let output = format!("{}\n", self.0.judge(input)).into_bytes();
+        let output = (self.0)(input);
         let failure = None;
         Ok(Run { output, failure })
     }
 }
 
+/// A round of files held against a program.
+type Round = fn(&mut Rng, &dyn Other, &mut Stats) -> Result<Option<String>, String>;
+
+fn caught_by(round: Round, name: &str, other: &dyn Other, shown: &str) {
+    let mut stats = Stats::new();
+    let caught = (0..OF_CUTS).find_map(|at| {
+        let mut rng = Rng::for_round(SEED, at);
+        round(&mut rng, other, &mut stats).expect("it can be tried")
+    });
+    let report = caught.unwrap_or_else(|| panic!("{} is not caught", name));
+    assert!(report.contains(shown), "{}: {}", name, report);
+}
+
 #[test]
 fn wrong_judges_of_choppings_are_caught() {
+    let shown = "smallest chopping found";
     for (name, kind) in WrongCut::ALL {
-        let mut stats = Stats::new();
-        let caught = (0..OF_CUTS).find_map(|round| {
-            let mut rng = Rng::for_round(SEED, round);
-            cuts::round(&mut rng, &Cut(kind), &mut stats).expect("it can be tried")
-        });
-        let report = caught.unwrap_or_else(|| panic!("{} is not caught", name));
-        assert!(
-            report.contains("smallest chopping found"),
-            "{}: {}",
+        let says = Says(|input: &[u8]| format!("{}\n", kind.judge(input)).into_bytes());
+        caught_by(cuts::round, name, &says, shown);
+    }
+    assert!(report_of("--cut", CUT, "conflicts-between", OF_CUTS).contains(shown));
+}
+
+#[test]
+fn wrong_finest_cuts_are_caught() {
+    let shown = "smallest programs found";
+    for (name, kind) in WrongFine::ALL {
+        caught_by(
+            fines::round,
             name,
-            report
+            &Says(|input: &[u8]| kind.cut(input)),
+            shown,
         );
     }
-    let report = report_of("--cut", CUT, "conflicts-between", OF_CUTS);
-    assert!(report.contains("smallest chopping found"));
+    assert!(report_of("--fine", FINE, "no-marks", OF_CUTS).contains(shown));
 }
 
 #[test]
@@ -237,6 +255,8 @@ fn the_right_ones_are_not() {
         VERDICT,
         "--cut",
         CUT,
+        "--fine",
+        FINE,
         "--seed",
         "2",
         "--rounds",

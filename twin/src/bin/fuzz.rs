@@ -18,6 +18,7 @@ usage: fuzz [--runner PATH [--runner-arg WORD]...]
             [--record PATH [--record-arg WORD]...]
             [--verdict PATH [--verdict-arg WORD]...]
             [--cut PATH [--cut-arg WORD]...]
+            [--fine PATH [--fine-arg WORD]...]
             [--seed N] [--first-round N] (--seconds N | --rounds N)
 at least one program, and --seconds or --rounds, are needed";
 
@@ -42,7 +43,7 @@ fn main() {
     let quota = code::QUOTA_SPENT as usize;
     let past = code::PAST_WRITING as usize;
     let summary = format!(
-        "seed {}, {} rounds, {} lines, {} calls, {} cases, {} journals, {} choppings, \
+        "seed {}, {} rounds, {} lines, {} calls, {} cases, {} journals, {} choppings, {} cuts, \
          code 11 in {} calls and {} cases, code 12 in {} calls and {} cases, {:.1} seconds",
         options.seed,
         stats.rounds,
@@ -51,6 +52,7 @@ fn main() {
         stats.cases,
         stats.journals.judged(),
         stats.cuts.files(),
+        stats.fines.files(),
         stats.codes[quota],
         stats.case_codes[quota],
         stats.codes[past],
@@ -77,11 +79,13 @@ fn parse(mut words: impl Iterator<Item = String>) -> Result<Options, String> {
             "--record" => options.record = Some(program(value)),
             "--verdict" => options.verdict = Some(program(value)),
             "--cut" => options.cut = Some(program(value)),
+            "--fine" => options.fine = Some(program(value)),
             "--runner-arg" => add_argument(&mut options.runner, &word, value)?,
             "--tables-arg" => add_argument(&mut options.tables, &word, value)?,
             "--record-arg" => add_argument(&mut options.record, &word, value)?,
             "--verdict-arg" => add_argument(&mut options.verdict, &word, value)?,
             "--cut-arg" => add_argument(&mut options.cut, &word, value)?,
+            "--fine-arg" => add_argument(&mut options.fine, &word, value)?,
             "--seed" => options.seed = number(&word, &value)?,
             "--first-round" => options.first_round = number(&word, &value)?,
             "--seconds" => options.seconds = Some(number(&word, &value)?),
@@ -95,6 +99,7 @@ fn parse(mut words: impl Iterator<Item = String>) -> Result<Options, String> {
         &options.record,
         &options.verdict,
         &options.cut,
+        &options.fine,
     ];
     if programs.iter().all(|program| program.is_none()) {
         return Err("no program to compare with".to_string());

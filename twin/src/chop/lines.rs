@@ -37,23 +37,34 @@ pub fn lines(input: &[u8]) -> Vec<&[u8]> {
 }
 
 pub fn read(line: &[u8]) -> Line {
+    match words(line) {
+        Some(words) => piece(&words).map_or(Line::Bad, Line::Piece),
+        None => Line::Comment,
+    }
+}
+
+/// The words of a line in front of its comment; none at all if nothing is left there.
+pub(super) fn words(line: &[u8]) -> Option<Vec<&[u8]>> {
     let hash = line.windows(2).position(|pair| pair == b" #");
     let said = match hash {
         _ if line.starts_with(b"#") => &[],
         Some(at) => &line[..at],
         None => line,
     };
-    if said.is_empty() {
-        return Line::Comment;
+    match said {
+        [] => None,
+        _ => Some(said.split(|&byte| byte == b' ').collect()),
     }
-    piece(said).map_or(Line::Bad, Line::Piece)
 }
 
-fn piece(said: &[u8]) -> Option<Piece> {
-    let words: Vec<&[u8]> = said.split(|&byte| byte == b' ').collect();
-    let (name, parts) = words.split_first()?;
+pub(super) fn is_name(word: &[u8]) -> bool {
     let is_plain = |byte: &u8| byte.is_ascii_alphanumeric() || b"_-".contains(byte);
-    if name.is_empty() || name.len() > 32 || !name.iter().all(is_plain) {
+    !word.is_empty() && word.len() <= 32 && word.iter().all(is_plain)
+}
+
+fn piece(words: &[&[u8]]) -> Option<Piece> {
+    let (name, parts) = words.split_first()?;
+    if !is_name(name) {
         return None;
     }
     let at = parts.iter().position(|word| *word == b"writes");

@@ -2,17 +2,23 @@
 //!
 //! A judge of its own, beside the keeper and without its tables. A file of pieces is
 //! read, one a line, and judged: refused exactly if a circle of distinct pieces has a
-//! sibling link and a conflict link on it.
+//! sibling link and a conflict link on it. And the finest cut of whole programs (request
+//! E10) that it accepts.
 
 mod blocks;
 mod circles;
+mod finest;
 mod graph;
 mod lines;
+mod operations;
+pub mod partitions;
 
 pub use blocks::has_mixed_block;
 pub use circles::{has_mixed_circle, is_mixed_circle, shown};
-pub use graph::{Graph, Link};
+pub use finest::{blocks, cut, find, finest, line, merged, parted, programs, written, Found};
+pub use graph::{conflict, Graph, Link};
 pub use lines::{lines, read, Line, Piece};
+pub use operations::{operations, piece, said, Operation, Said};
 
 use std::fmt;
 

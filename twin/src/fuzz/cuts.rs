@@ -2,16 +2,17 @@
 
 use std::fmt;
 
-use super::process::{Other, Run};
-use super::shown::show;
-use super::shrink::{smallest, Budget};
+use super::process::Other;
+use super::said::{filed, show_files, Refusals, Sayer, Why};
 use super::stats::Stats;
 use crate::chop::{judge, lines, mistake, pieces, read, Line, Verdict, MOST};
 use crate::rng::Rng;
-use std::time::Duration;
 
-/// Files of one round: each is a run of the other program.
-const FILES: usize = 40;
+const SAYER: Sayer = Sayer {
+    name: "chopping",
+    made,
+    expected: |input| format!("{}\n", judge(input)).into_bytes(),
+};
 
 /// One round of them. Some(..) tells what differs.
 pub fn round(
@@ -19,53 +20,7 @@ pub fn round(
     program: &dyn Other,
     stats: &mut Stats,
 ) -> Result<Option<String>, String> {
-    for _ in 0..FILES {
-        let input = made(rng);
-        if let Err(mistake) = stats.cuts.see(&input) {
-            return Ok(Some(mistake));
-        }
-        let run = program.run(&input, false)?;
-        if differs(&input, &run) {
-            return Ok(Some(report(program, &input)));
-        }
-    }
-    Ok(None)
-}
-
-fn expected(input: &[u8]) -> Vec<u8> {
-    format!("{}\n", judge(input)).into_bytes()
-}
-
-fn differs(input: &[u8], run: &Run) -> bool {
-    run.failure.is_some() || run.output != expected(input)
-}
-
-/// A file that differs, made small by leaving out lines.
-pub fn report(program: &dyn Other, input: &[u8]) -> String {
-    let all = lines(input);
-    let joined = |some: &[&[u8]]| -> Vec<u8> {
-        let ended = some.iter().map(|line| [line, &b"\n"[..]].concat());
-        ended.collect::<Vec<Vec<u8>>>().concat()
-    };
-    let still = |some: &[&[u8]]| {
-        let input = joined(some);
-        program
-            .run(&input, true)
-            .map_or(false, |run| differs(&input, &run))
-    };
-    let mut budget = Budget::new(Duration::from_secs(10));
-    let small = match still(&all) {
-        true => joined(&smallest(&all, &mut budget, still)),
-        false => input.to_vec(),
-    };
-    let output = program.run(&small, true).map(|run| run.output);
-    format!(
-        "smallest chopping found, {} lines:\n{}\ntwin:    {}program: {}",
-        lines(&small).len(),
-        String::from_utf8_lossy(&small),
-        String::from_utf8_lossy(&expected(&small)),
-        String::from_utf8_lossy(&output.unwrap_or_default())
-    )
+    SAYER.round(rng, program, |input| stats.cuts.see(input))
 }
 
 /// The counts.
@@ -75,12 +30,7 @@ pub struct Counts {
     accepted: u64,
     /// By the length of the circle that is shown, from 3.
     refused: [u64; MOST - 2],
-    too_many: u64,
-    unknown: u64,
-    bad: u64,
-    /// Of the last two, where another refusal would come later.
-    bad_and_more: u64,
-    many_and_unknown: u64,
+    refusals: Refusals,
     full: u64,
     without_pieces: u64,
     comments: u64,
@@ -102,15 +52,9 @@ impl Counts {
         let (many, unknown) = (count(is_piece) > MOST, count(is_unknown) > 0);
         self.comments += count(|line| *line == Line::Comment) as u64;
         match &verdict {
-            Verdict::BadLine(_) => {
-                self.bad += 1;
-                self.bad_and_more += u64::from(many || unknown);
-            }
-            Verdict::TooMany => {
-                self.too_many += 1;
-                self.many_and_unknown += u64::from(unknown);
-            }
-            Verdict::UnknownItem => self.unknown += 1,
+            Verdict::BadLine(_) => self.refusals.see(Why::BadLine, many, unknown),
+            Verdict::TooMany => self.refusals.see(Why::TooMany, many, unknown),
+            Verdict::UnknownItem => self.refusals.see(Why::UnknownItem, many, unknown),
             Verdict::Refused(circle) => self.refused[circle.len() - 3] += 1,
             Verdict::Accepted => self.accepted += 1,
         }
@@ -127,17 +71,19 @@ impl Counts {
 
     /// Each count with its name.
     pub fn each(&self) -> Vec<(String, u64)> {
-        let mut each = vec![
-            ("accepted".to_string(), self.accepted),
-            ("too many pieces".to_string(), self.too_many),
-            ("  with an unknown item".to_string(), self.many_and_unknown),
-            ("unknown item".to_string(), self.unknown),
-            ("bad line".to_string(), self.bad),
-            ("  with one of these too".to_string(), self.bad_and_more),
-            ("of 32 pieces".to_string(), self.full),
-            ("without a piece".to_string(), self.without_pieces),
-            ("comment lines".to_string(), self.comments),
+        let refusals = self.refusals.each("too many pieces");
+        let others = [
+            ("of 32 pieces", self.full),
+            ("without a piece", self.without_pieces),
+            ("comment lines", self.comments),
         ];
+        let named = [("accepted", self.accepted)]
+            .into_iter()
+            .chain(refusals)
+            .chain(others);
+        let mut each: Vec<(String, u64)> = named
+            .map(|(name, count)| (name.to_string(), count))
+            .collect();
         for (length, &count) in self.refused.iter().enumerate() {
             if count > 0 {
                 each.push((format!("refused, a circle of {}", length + 3), count));
@@ -149,15 +95,7 @@ impl Counts {
 
 impl fmt::Display for Counts {
     fn fmt(&self, out: &mut fmt::Formatter) -> fmt::Result {
-        if self.files == 0 {
-            return Ok(());
-        }
-        writeln!(out, "choppings")?;
-        show(out, "files", self.files)?;
-        for (name, count) in self.each() {
-            show(out, &name, count)?;
-        }
-        Ok(())
+        show_files(out, "choppings", self.files, self.each())
     }
 }
 
@@ -193,40 +131,7 @@ pub fn made(rng: &mut Rng) -> Vec<u8> {
         };
         all[at] += &part;
     }
-    let mut all: Vec<Vec<u8>> = all.into_iter().map(String::into_bytes).collect();
-    if rng.percent(30) {
-        for line in &mut all {
-            if rng.percent(30) {
-                line.extend_from_slice(rng.one_of(&[
-                    &b" #"[..],
-                    b" # why",
-                    b" ## reads",
-                    b" #\xff",
-                ]));
-            }
-        }
-        for _ in 0..rng.below(5) {
-            let comment = rng.one_of(&[
-                &b""[..],
-                b"#",
-                b"# a comment",
-                b"#T1 reads",
-                b" # behind a space",
-            ]);
-            let at = rng.index(all.len() + 1);
-            all.insert(at, comment.to_vec());
-        }
-    }
-    if rng.percent(25) {
-        let at = rng.index(all.len() + 1);
-        let line = odd(rng);
-        all.insert(at, line);
-    }
-    let mut input = all.join(&b'\n');
-    if !all.is_empty() && !rng.percent(30) {
-        input.push(b'\n');
-    }
-    input
+    filed(rng, all, 25, odd)
 }
 
 /// One circle of all pieces, or nearly one, in any order.

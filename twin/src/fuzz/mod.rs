@@ -1,6 +1,6 @@
 //! The fuzzer: the twin against another runner, against another program for
 //! tables set beforehand, against programs that write and judge journals, and against
-//! one that judges choppings.
+//! those that judge choppings and make the finest one.
 
 pub mod ages;
 pub mod cases;
@@ -8,6 +8,7 @@ pub mod cuts;
 pub mod damage;
 pub mod director;
 pub mod empty;
+pub mod fines;
 pub mod full;
 pub mod fullness;
 pub mod in_line;
@@ -21,6 +22,7 @@ pub mod moods;
 pub mod odd_cases;
 pub mod process;
 pub mod rings;
+pub mod said;
 pub mod scene;
 pub mod scripts;
 pub mod settled;
@@ -48,6 +50,7 @@ pub struct Options {
     pub record: Option<Program>,
     pub verdict: Option<Program>,
     pub cut: Option<Program>,
+    pub fine: Option<Program>,
     pub seed: u64,
     pub first_round: u64,
     pub rounds: Option<u64>,
@@ -132,8 +135,14 @@ fn one_round(options: &Options, round: u64, stats: &mut Stats) -> Result<Option<
             return Ok(difference);
         }
     }
-    match &options.cut {
-        Some(cut) => cuts::round(&mut rng, cut, stats),
+    if let Some(cut) = &options.cut {
+        let difference = cuts::round(&mut rng, cut, stats)?;
+        if difference.is_some() {
+            return Ok(difference);
+        }
+    }
+    match &options.fine {
+        Some(fine) => fines::round(&mut rng, fine, stats),
         None => Ok(None),
     }
 }

@@ -2,7 +2,7 @@
 
 use super::scene::{Held, Scene, Txn};
 use super::{
-    ages, cuts, damage, empty, fullness, in_line, journals, limit, odd_cases, settled, spoil,
+    ages, cuts, damage, empty, fines, fullness, in_line, journals, limit, odd_cases, settled, spoil,
 };
 use crate::answer::{code, Answer};
 use crate::clauses::Clause;
@@ -145,6 +145,7 @@ pub struct Stats {
     pub clauses: [(u64, u64); Clause::ALL.len()],
     pub journals: journals::Counts,
     pub cuts: cuts::Counts,
+    pub fines: fines::Counts,
     waited_value: [u64; SLOTS],
 }
 
@@ -178,6 +179,7 @@ impl Stats {
             clauses: [(0, 0); Clause::ALL.len()],
             journals: journals::Counts::default(),
             cuts: cuts::Counts::default(),
+            fines: fines::Counts::default(),
             waited_value: [0; SLOTS],
         }
     }
