@@ -18,7 +18,7 @@ use Rattle.chop.specs.Pieces.{Piece, most, touched, clash}
 use Rattle.chop.specs.Circles.{Circle}
 use Rattle.chop.specs.Verdicts.{tooManyPieces, refused, accepted}
 use Rattle.chop.specs.Judgement.{linksOf, others, closing, turning, circleAt, judgement}
-use Rattle.chop.specs.Promises.{RefusedExactly, ShowsCircle, CircleFits, Meeting, ClosesExactly, AcceptedExactly, TooManyExactly, OneOutcome, Common, ClashExactly}
+use Rattle.chop.specs.Promises.{RefusedExactly, ShowsCircle, CircleFits, Meeting, ClosesExactly, AcceptedExactly, TooManyExactly, AnswerTells, OneOutcome, Common, ClashExactly}
 use Rattle.chop.proofs.Joining.{sibling-other, others-room}
 use Rattle.chop.proofs.Closing.{goalOf, fromOf, closed, closes}
 use Rattle.chop.proofs.Shown.{shown-circle, shown-length, shown-fits}
@@ -146,8 +146,11 @@ closes-exactly ps b few = (there, back)
     back : Meeting ps b → closing ps (linksOf ps) b ≢ 0
     back M = closes ps few b (M .sibling) (M .other) (M .links) (M .siblingKnown) (M .otherKnown) (M .siblingIs) (M .otherIs) (M .way)
 
+pub answer-tells : AnswerTells
+answer-tells = said-tells
+
 pub one-outcome : OneOutcome
-one-outcome ps v e = said-tells v (judgement ps) e
+one-outcome ps v e = answer-tells v (judgement ps) e
 
 -- ---- a clash is a common item
 pub clash-exactly : ClashExactly

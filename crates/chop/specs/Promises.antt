@@ -49,7 +49,11 @@ AcceptedExactly = (ps : List Piece) → (judgement ps ≡ accepted) ↔ ((length
 abbrev pub TooManyExactly : Type 0
 TooManyExactly = (ps : List Piece) → (judgement ps ≡ tooManyPieces) ↔ (most < length ps)
 
--- no second outcome fits: the judge answers `said (judgement ps)`, and an answer tells its verdict, with every piece of the circle
+-- an answer tells its verdict, whichever it is, with every piece of the circle
+abbrev pub AnswerTells : Type 0
+AnswerTells = (u v : Verdict) → said u ≡ said v → u ≡ v
+
+-- so no second outcome fits: the judge answers `said (judgement ps)`
 abbrev pub OneOutcome : Type 0
 OneOutcome = (ps : List Piece) (v : Verdict) → said v ≡ said (judgement ps) → v ≡ judgement ps
 

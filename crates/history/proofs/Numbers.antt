@@ -15,7 +15,7 @@ use Rattle.rules.proofs.Tests.{is-true, is-false}
 use Rattle.rules.proofs.Keeps.{keeps}
 use Rattle.rules.proofs.Fresh.{fresh-good}
 use Rattle.history.specs.Runs.{run}
-use Rattle.history.specs.Happened.{SoFar, noneSoFar, Happening, updateCommitted, happened, begunWith, happeningsAfter, happenings, allOf}
+use Rattle.history.specs.Happened.{SoFar, noneSoFar, Happening, updateCommitted, emptyCommitted, happened, begunWith, happeningsAfter, happenings, allOf}
 use Rattle.history.specs.Numbers.{numberOf, stampOf, stampsAfter, CountsFrom, CommitsUnder, StampsKept, Upward}
 use Rattle.history.proofs.Invariant.{View}
 use Rattle.history.proofs.Turns.{Turn, quiet, updateBegins, queryBegins, reads, writes, commits, commitsEmpty, settles, commitsSettled, ends}
@@ -25,7 +25,7 @@ use Rattle.history.proofs.Seen.{seen, seen-fair}
 use Rattle.history.proofs.Happens.{step-turn, step-known, nobody, fresh-known}
 use Rattle.history.proofs.Standing.{Unknown}
 use Rattle.history.proofs.Replies.{unknown-step}
-use Rattle.history.proofs.Stamps.{Past, past-on, Took, took, took-commit, took-on}
+use Rattle.history.proofs.Stamps.{Past, past-on, Took, took, took-commit, took-full, took-on}
 
 -- ---- a count k that gives the numbers l becomes k′: nothing was given, or the next number
 unfoldable pub Counts : List ℕ → ℕ → ℕ → Type 0
@@ -98,12 +98,16 @@ module _ (S : Sizes) (enough : S .slots ≤ S .places) where
     gone-run [] us G g K U = tt
     gone-run (c ∷ cs) us G g K U = (
       λ k e. absurd (no (subst (λ (h : Happening). Turn (S .items) (seen S G) (seen S ((step S c G) .after)) c h) e (step-turn S enough c G g us K))),
+      λ k e. none (subst (λ (h : Happening). Turn (S .items) (seen S G) (seen S ((step S c G) .after)) c h) e (step-turn S enough c G g us K)),
       gone-run cs _ ((step S c G) .after) (keeps S enough c G g) (step-known S enough c G g us K) (unknown-step S enough n c G g U),
     )
       where
         no : {k : ℕ} → Turn (S .items) (seen S G) (seen S ((step S c G) .after)) c (updateCommitted n k) → ⊥
         no (commits m s e a i L o f j) = U .nobody s (L .alive) e
         no (commitsSettled m s e a i L o f j) = U .nobody s (L .alive) e
+
+        none : {k : ℕ} → Turn (S .items) (seen S G) (seen S ((step S c G) .after)) c (emptyCommitted n k) → ⊥
+        none (commitsEmpty m s e a i w L o f j) = U .nobody s (L .alive) e
 
     took-run :
         (cs : List Call) (us : SoFar) (G : Tables) → Good S G → Known (S .items) us (seen S G) → Took n d (seen S G)
@@ -113,6 +117,9 @@ module _ (S : Sizes) (enough : S .slots ≤ S .places) where
     took-run (c ∷ cs) us G g K H = (
       λ k e.
           took-commit (S .items) (seen S G) (seen S ((step S c G) .after)) (seen-fair S G g) n d H
+          (subst (λ (h : Happening). Turn (S .items) (seen S G) (seen S ((step S c G) .after)) c h) e (step-turn S enough c G g us K)),
+      λ k e.
+          took-full (S .items) (seen S G) (seen S ((step S c G) .after)) (seen-fair S G g) n d H
           (subst (λ (h : Happening). Turn (S .items) (seen S G) (seen S ((step S c G) .after)) c h) e (step-turn S enough c G g us K)),
       go (took-run cs _ ((step S c G) .after) (keeps S enough c G g) (step-known S enough c G g us K))
           (took-on (S .items) (seen S G) (seen S ((step S c G) .after)) (seen-fair S G g) n d H (step-turn S enough c G g us K)),

@@ -11,7 +11,7 @@ use Rattle.rules.specs.Words.{some}
 use Rattle.rules.specs.Tables.{aSettled}
 use Rattle.rules.specs.Answers.{Call}
 use Rattle.rules.proofs.Tests.{or-cases, or-left, or-right, eq-make, same?}
-use Rattle.history.specs.Happened.{Happening, updateCommitted, settledUnder}
+use Rattle.history.specs.Happened.{Happening, updateCommitted, emptyCommitted, settledUnder}
 use Rattle.history.specs.Numbers.{settledWith}
 use Rattle.history.proofs.Invariant.{View, Fair, Row, settled}
 use Rattle.history.proofs.Turns.{New, Left, Settles, Turn, quiet, updateBegins, queryBegins, reads, writes, commits, commitsEmpty, settles, commitsSettled, ends}
@@ -125,6 +125,11 @@ module _ (items : ℕ) (W W′ : View) (F : Fair items W) (n d : ℕ) (H : Took 
   took-commit (commits m s e a i L o f j) =
       absurd (let z : W .kind s ≡ W .kind (H .slot) = ap (W .kind) (its-slot s e (L .alive)) in let k = H .past .1 in omega arith)
   took-commit (commitsSettled m s e a i L o f j) = ap (W .start) (its-slot s e (L .alive)) ∙ H .stamp
+
+  -- and never one of nothing
+  pub took-full : {c : Call} {k : ℕ} → Turn items W W′ c (emptyCommitted n k) → ⊥
+  took-full (commitsEmpty m s e a i w L o f j) =
+      let z : W .kind s ≡ W .kind (H .slot) = ap (W .kind) (its-slot s e (L .alive)) in let k = H .past .1 in omega arith
 
   row-took : Row W W′ (H .slot) → Took n d W′
   row-took R =

@@ -47,10 +47,10 @@ unfoldable pub stampsAfter : List ℕ → List Happening → List ℕ
 stampsAfter ss [] = []
 stampsAfter ss (h ∷ hs) = stampOf ss h ++ stampsAfter (settledWith h ss) hs
 
--- the update n, if it commits, does so under the stamp d
+-- the update n, if it commits, does so under the stamp d, and not as one that took none (request E7)
 unfoldable pub CommitsUnder : ℕ → ℕ → List Happening → Type 0
 CommitsUnder n d [] = T true
-CommitsUnder n d (h ∷ hs) = ((c : ℕ) → h ≡ updateCommitted n c → c ≡ d) × CommitsUnder n d hs
+CommitsUnder n d (h ∷ hs) = ((c : ℕ) → h ≡ updateCommitted n c → c ≡ d) × ((c : ℕ) → h ≡ emptyCommitted n c → ⊥) × CommitsUnder n d hs
 
 -- request E6, "Its commit puts versions under that stamp, answers it": whoever settles commits under the stamp that it took then
 unfoldable pub StampsKept : List Happening → Type 0
