@@ -8,8 +8,8 @@ use Rattle.rules.proofs.Fresh.{fresh-good}
 use Rattle.rules.proofs.Keeps.{keeps}
 use Rattle.rules.proofs.Answered.{code-exactly}
 use Rattle.rules.proofs.Outcomes.{granted-changes}
-use Rattle.rules.proofs.Queries.{start-read, ended-trims, committed-trims, settled-trims}
-use Rattle.history.proofs.Demand.{demand-3-sizes, reads-sizes, beside-sizes, weighed-sizes}
+use Rattle.rules.proofs.Queries.{version-read, ended-trims, committed-trims, settled-trims}
+use Rattle.history.proofs.Demand.{demand-3-sizes, reads-sizes, beside-sizes, relaxed-sizes, weighed-sizes}
 use Rattle.line.proofs.Served.{served-in-runs}
 use Rattle.plays.specs.Plays.{AllPass}
 use Rattle.starred.specs.Trials.{trials}
@@ -28,7 +28,7 @@ facts S e =
       codes = code-exactly S;
       changes = granted-changes S (e .places);
       holders = holders-fit S;
-      looked = start-read S;
+      looked = version-read S;
       endTrims = ended-trims S (e .places);
       commitTrims = committed-trims S (e .places);
       settledTrims = settled-trims S (e .places);
@@ -37,6 +37,8 @@ facts S e =
       asBegun = reads-sizes S (e .places) (e .room);
       beside = beside-sizes S (e .places) (e .room) .0;
       ended = beside-sizes S (e .places) (e .room) .1;
+      relaxed = relaxed-sizes S (e .places) (e .room) .0;
+      stampsAgree = relaxed-sizes S (e .places) (e .room) .1;
       weighed = weighed-sizes S (e .places) (e .room);
       served = served-in-runs S (e .places) (e .room);
     }

@@ -7,9 +7,10 @@ use Rattle.names.specs.declared.Sizes.{Sizes}
 use Rattle.rules.specs.Tables.{Tables, lock, fresh}
 use Rattle.rules.specs.Answers.{Call}
 use Rattle.rules.specs.Good.{Good}
-use Rattle.rules.specs.Promises.{CodeExactly, StaysGood, GrantedChanges, StartReads, EndTrims, CommitTrims, SettledTrims}
+use Rattle.rules.specs.Promises.{CodeExactly, StaysGood, GrantedChanges, VersionReads, EndTrims, CommitTrims, SettledTrims}
 use Rattle.history.specs.Serial.{Serializes}
 use Rattle.history.specs.Undisturbed.{ReadsAsBegun, Undisturbed}
+use Rattle.history.specs.Relaxed.{RelaxedSerial, StampsAgree}
 use Rattle.history.specs.Ended.{EndedForEver}
 use Rattle.history.specs.Weighed.{EndWeighs}
 use Rattle.history.specs.Beside.{Beside}
@@ -31,8 +32,9 @@ pub record Facts (S : Sizes) : Type 0 where
   pub changes : GrantedChanges S
   -- a word of shared holders has a bit for each slot and none above: for up to 64 slots it is one word of 64 bits
   pub holders : HoldersFit S
-  -- looked is at most 2 plus the number of live queries with a later start, those past their writing among them (request E6)
-  pub looked : StartReads S
+  -- looked is at most 2 plus the number of live queries with a later start, those past their writing among them (request E6), and relaxed
+  -- ones (request E11)
+  pub looked : VersionReads S
   -- as many places as slots are always enough
   pub endTrims : EndTrims S
   pub commitTrims : CommitTrims S
@@ -43,6 +45,9 @@ pub record Facts (S : Sizes) : Type 0 where
   pub asBegun : ReadsAsBegun S
   pub beside : (cs : List Call) → Beside S cs
   pub ended : EndedForEver S
+  -- request E11: demand 3 for relaxed queries
+  pub relaxed : RelaxedSerial S
+  pub stampsAgree : StampsAgree S
   -- request E8: what a query's end answers
   pub weighed : EndWeighs S
   -- request E4: who waits in line is served

@@ -2,9 +2,9 @@
 use Prim.Native.Nat.{ℕ, _≤_}
 use mathlib.Core.List.{List, [], _∷_}
 use native.Mathlib.Omega.{arith}
-use Rattle.rules.specs.Answers.{Call, BeginUpdate, BeginQuery, Read, Write, Commit, Abort, Settle}
+use Rattle.rules.specs.Answers.{Call, BeginUpdate, BeginQuery, Read, Write, Commit, Abort, Settle, BeginRelaxed}
 use Rattle.rules.proofs.Bounded.{Asks}
-use Rattle.call_words.specs.Calls.{fieldsOf, numbersOf, settleKind}
+use Rattle.call_words.specs.Calls.{fieldsOf, numbersOf, lastKind}
 use Rattle.call_words.specs.declared.Fields.{Fields}
 
 -- each of some numbers is at most B
@@ -19,7 +19,7 @@ pub record FieldsMost (B : ℕ) (f : Fields) : Type 0 where
   pub item : f .item ≤ B
   pub value : f .value ≤ B
 
-pub fields-most : (B : ℕ) (c : Call) → settleKind ≤ B → Most B (numbersOf c) → FieldsMost B (fieldsOf c)
+pub fields-most : (B : ℕ) (c : Call) → lastKind ≤ B → Most B (numbersOf c) → FieldsMost B (fieldsOf c)
 unfolding fieldsOf
 fields-most B BeginUpdate k m = record { kind = omega arith; number = omega arith; item = omega arith; value = omega arith }
 fields-most B BeginQuery k m = record { kind = omega arith; number = omega arith; item = omega arith; value = omega arith }
@@ -28,6 +28,7 @@ fields-most B (Write n x v) k (more a (more b (more d m))) = record { kind = ome
 fields-most B (Commit n) k (more a m) = record { kind = omega arith; number = a; item = omega arith; value = omega arith }
 fields-most B (Abort n) k (more a m) = record { kind = omega arith; number = a; item = omega arith; value = omega arith }
 fields-most B (Settle n) k (more a m) = record { kind = omega arith; number = a; item = omega arith; value = omega arith }
+fields-most B BeginRelaxed k m = record { kind = omega arith; number = omega arith; item = omega arith; value = omega arith }
 
 pub fields-asks : (B : ℕ) (c : Call) → FieldsMost B (fieldsOf c) → Asks B c
 unfolding fieldsOf Asks
@@ -38,3 +39,4 @@ fields-asks B (Write n x v) f = f .value
 fields-asks B (Commit n) f = tt
 fields-asks B (Abort n) f = tt
 fields-asks B (Settle n) f = tt
+fields-asks B BeginRelaxed f = tt

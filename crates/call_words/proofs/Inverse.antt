@@ -5,7 +5,7 @@ use mathlib.Core.Bool.{Bool, true, false, _&&_}
 use native.Mathlib.Omega.{arith}
 use lib.Dec.{T, eqb}
 use borrow.Author.Tests.{eqb-true, eq-eqb}
-use Rattle.rules.specs.Answers.{Call, BeginUpdate, BeginQuery, Read, Write, Commit, Abort, Settle}
+use Rattle.rules.specs.Answers.{Call, BeginUpdate, BeginQuery, Read, Write, Commit, Abort, Settle, BeginRelaxed}
 use Rattle.rules.proofs.Tests.{and-left, and-right, is-true}
 use Rattle.call_words.specs.declared.Fields.{Fields}
 use Rattle.call_words.specs.declared.CallOf.{CallOf}
@@ -44,6 +44,7 @@ callIn-fieldsOf (Write n x v) = refl
 callIn-fieldsOf (Commit n) = refl
 callIn-fieldsOf (Abort n) = refl
 callIn-fieldsOf (Settle n) = refl
+callIn-fieldsOf BeginRelaxed = refl
 
 pub isCall-fieldsOf : (c : Call) → isCall (fieldsOf c) ≡ true
 unfolding isCall

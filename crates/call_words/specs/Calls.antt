@@ -1,11 +1,12 @@
 -- Request E1: the calls are written as "kind, number, item, value". "Kinds are 1 to 6 in the order of the runner's words; unused
--- fields are 0." Request E6: "A new call (`settle number` in the runner, kind 7 in journals)". `fieldsOf` says this of each call;
+-- fields are 0." Request E6: "A new call (`settle number` in the runner, kind 7 in journals)", and request E11:
+-- "(`relaxed` in the runner, kind 8 ..)". `fieldsOf` says this of each call;
 -- `callOf` is the call whose fields words are, if there is one.
 use Prim.Native.Nat.{ℕ}
 use mathlib.Core.Bool.{Bool, cond, _&&_}
 use mathlib.Core.List.{List, [], _∷_}
 use lib.Dec.{eqb, leb}
-use Rattle.rules.specs.Answers.{Call, BeginUpdate, BeginQuery, Read, Write, Commit, Abort, Settle}
+use Rattle.rules.specs.Answers.{Call, BeginUpdate, BeginQuery, Read, Write, Commit, Abort, Settle, BeginRelaxed}
 use Rattle.call_words.specs.declared.Fields.{Fields}
 use Rattle.call_words.specs.declared.CallOf.{CallOf}
 use Rattle.call_words.specs.declared.CallOf.the-variants.{Known, Unknown}
@@ -34,9 +35,17 @@ abortKind = 6
 abbrev pub settleKind : ℕ
 settleKind = 7
 
+-- request E11
+abbrev pub beginRelaxedKind : ℕ
+beginRelaxedKind = 8
+
+-- the last of them
+abbrev pub lastKind : ℕ
+lastKind = beginRelaxedKind
+
 -- "a known kind": from the first to the last
 abbrev pub knownKind : ℕ → Bool
-knownKind k = leb beginUpdateKind k && leb k settleKind
+knownKind k = leb beginUpdateKind k && leb k lastKind
 
 -- ---- a call's four words
 
@@ -51,6 +60,7 @@ fieldsOf (Write n x v) = fields writeKind n x v
 fieldsOf (Commit n) = fields commitKind n 0 0
 fieldsOf (Abort n) = fields abortKind n 0 0
 fieldsOf (Settle n) = fields settleKind n 0 0
+fieldsOf BeginRelaxed = fields beginRelaxedKind 0 0 0
 
 -- the numbers that it uses, in this order
 abbrev pub numbersOf : Call → List ℕ
@@ -61,6 +71,7 @@ numbersOf (Write n x v) = n ∷ x ∷ v ∷ []
 numbersOf (Commit n) = n ∷ []
 numbersOf (Abort n) = n ∷ []
 numbersOf (Settle n) = n ∷ []
+numbersOf BeginRelaxed = []
 
 -- ---- four words as a call
 
@@ -73,7 +84,8 @@ callIn f =
     (cond (eqb (f .kind) writeKind) (Write (f .number) (f .item) (f .value))
     (cond (eqb (f .kind) commitKind) (Commit (f .number))
     (cond (eqb (f .kind) abortKind) (Abort (f .number))
-    (Settle (f .number)))))))
+    (cond (eqb (f .kind) settleKind) (Settle (f .number))
+    BeginRelaxed))))))
 
 unfoldable pub sameFields : Fields → Fields → Bool
 sameFields f g =

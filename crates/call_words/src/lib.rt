@@ -22,10 +22,12 @@ pub const ABORT: u64 = 6;
 
 pub const SETTLE: u64 = 7;
 
+pub const BEGIN_RELAXED: u64 = 8;
+
 // The first and the last of them.
 const FIRST: u64 = BEGIN_UPDATE;
 
-const LAST: u64 = SETTLE;
+const LAST: u64 = BEGIN_RELAXED;
 
 // The four words of a call.
 pub struct Fields {
@@ -68,6 +70,7 @@ pub fn fields_of(call: Call) -> Fields
         Call::Commit { number } => words(COMMIT, number, 0, 0),
         Call::Abort { number } => words(ABORT, number, 0, 0),
         Call::Settle { number } => words(SETTLE, number, 0, 0),
+        Call::BeginRelaxed => words(BEGIN_RELAXED, 0, 0, 0),
     }
 }
 
@@ -98,7 +101,8 @@ pub fn call_in(fields: Fields) -> Call
         },
         COMMIT => Call::Commit { number },
         ABORT => Call::Abort { number },
-        _ => Call::Settle { number },
+        SETTLE => Call::Settle { number },
+        _ => Call::BeginRelaxed,
     }
 }
 

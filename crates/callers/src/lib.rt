@@ -1,11 +1,14 @@
-// Who calls, and what stands in its way: the slot of a number, whether it awaits something else,
-// whether its quota is spent, whether it is past its writing, whether another one that is holds it back.
-// Proved against `slotOf`, `awaitsOther`, `writesFurther`, `writesPast` and `heldBack` of the rules.
+// Who calls, and what stands in its way: the slot of a number, whether it is a query, whether it awaits
+// something else, whether its quota is spent, whether it is past its writing, whether another one that
+// is holds it back, or is there at all when a relaxed query begins. Proved against `slotOf`,
+// `queryKind`, `awaitsOther`, `writesFurther`, `writesPast`, `heldBack` and `meetsSettled` of the rules.
 use names::Item;
 use names::NO_LOCK;
 use names::Number;
 use names::NumberOf;
+use names::QUERY_KIND;
 use names::QUOTA;
+use names::RELAXED_KIND;
 use names::SETTLED_KIND;
 use names::SLOTS;
 use names::Slot;
@@ -14,8 +17,8 @@ ghost use mathlib.Core.Path.{_≡_};
 ghost use lib.ListN.{length};
 ghost use Prim.Native.Nat.{_<_};
 ghost use Rattle.names.specs.Sizes.{base};
-ghost use Rattle.rules.specs.Tables.{lockWords, slotOf};
-ghost use Rattle.rules.specs.Step.{awaitsOther, writesFurther, writesPast, heldBack};
+ghost use Rattle.rules.specs.Tables.{lockWords, txn, queryKind, slotOf};
+ghost use Rattle.rules.specs.Step.{awaitsOther, writesFurther, writesPast, heldBack, meetsSettled};
 ghost use Rattle.rows.specs.Founds.{foundAt};
 ghost use Rattle.callers.specs.Searchable.{Searchable, FreeRows};
 
@@ -29,6 +32,26 @@ pub fn find(txns: &[u64], number: u64) -> Found
         return Found::Nobody;
     };
     rows::slot_of(txns, n)
+}
+
+// Whether the slot has a query, relaxed or not.
+pub fn is_query(txns: &[u64], slot: Slot) -> bool
+    requires { ⌜ Searchable (now txns) × (slot .0 < base .slots) ⌝ }
+    ensures { λ r. ⌜ r ≡ queryKind ((txn (now (txns .entry)) (slot .0)) .kind) ⌝ }
+{
+    let kind = rows::kind(txns, slot);
+    (kind == QUERY_KIND) | (kind == RELAXED_KIND)
+}
+
+// Whether one of this kind may not begin, since somebody is past its writing.
+pub fn meets_settled(txns: &[u64], kind: u64) -> bool
+    requires { ⌜ Searchable (now txns) ⌝ }
+    ensures { λ r. ⌜ r ≡ meetsSettled base (now (txns .entry)) kind ⌝ }
+{
+    if kind != RELAXED_KIND {
+        return false;
+    }
+    notes::some_settled(txns)
 }
 
 // Whether the slot awaits, and not this lock on this item.
@@ -51,7 +74,7 @@ pub fn writes_further(locks: &[u64], slot: Slot, item: Item) -> bool
     if row.exclusive == s + 1 {
         return false;
     }
-    rows::exclusives_of(locks, slot) == QUOTA
+    own_locks::exclusives_of(locks, slot) == QUOTA
 }
 
 // Whether the slot is past its writing and does not hold this item exclusively.

@@ -1,24 +1,26 @@
--- Each deed from what its parts write: r, t′, l′ and v′ are the answer and the tables afterwards.
-use Prim.Native.Nat.{ℕ, suc, _+_, _<_}
+-- Each deed that begins, reads, writes or waits from what its parts write: r, t′, l′ and v′ are the answer and the tables afterwards.
+use Prim.Native.Nat.{ℕ, suc, _+_, _≤_, _<_}
 use mathlib.Core.Path.{_≡_, sym, ap, _∙_}
 use mathlib.Core.List.{List}
 use lib.ListN.{set}
+use lib.Bits.{bitOr, or-zero-l}
 use Rattle.names.specs.Sizes.{base}
-use Rattle.names.specs.Layout.{lastNumberAt, clockAt}
+use Rattle.names.specs.Layout.{lastNumberAt}
 use Rattle.names.specs.Answers.{refusal, numbered, found, plain}
 use Rattle.names.specs.declared.Answer.{Answer}
 use Rattle.names.specs.declared.Slot.{Slot}
 use Rattle.names.specs.declared.Item.{Item}
 use Rattle.names.specs.declared.Stamp.{Stamp}
-use Rattle.rules.specs.Tables.{Tables, tables, lastNumber, clock, txn, setTxn, noTxn, newTxn, starts, aSettled, Lock, lock, release, unshare}
-use Rattle.rules.specs.Waits.{noted, closedUp}
-use Rattle.rules.specs.Versions.{versionsOf, newest, place, choice, rewritten}
+use Rattle.rules.specs.Tables.{Tables, tables, lastNumber, setTxn, newTxn, readerIn, Lock, lock, haveRead}
+use Rattle.rules.specs.Waits.{noted}
+use Rattle.rules.specs.Versions.{versionsOf, newest, hiddenNow, place, choice}
 use Rattle.rules.specs.Good.{Good}
-use Rattle.rules.specs.Answers.{Outcome, outcome, Wait, Deed, Waits, Begins, ReadsByStart, ReadsOwn, ReadsNewest, TakesShared, Replaces, TakesExclusive, Commits, CommitsEmpty, Ends, Aborts, Settles, CommitsSettled, AbortsSettled}
-use Rattle.rules.specs.Step.{done, begun, counted, cleared, locked, replaced, sharedToo, taken, queryRead, withNew, committed, committedUnder, ended, aborted, settled, settledCommitted, settledAborted}
+use Rattle.rules.specs.Answers.{Outcome, outcome, Wait, Deed, Waits, Begins, ReadsVersion, ReadsOwn, ReadsNewest, TakesShared, Replaces, TakesExclusive}
+use Rattle.rules.specs.Step.{done, begun, counted, cleared, joined, askingJoins, grantJoins, locked, lockedAnew, replaced, sharedToo, taken, versionRead, readNoted}
 use Rattle.ranks.specs.Lines.{RanksSmall}
 use Rattle.ranks.proofs.Ranks.{ranks-small}
 use Rattle.choices.proofs.Handed.{good-least}
+use Rattle.cells.proofs.Others.{lock-slots}
 use Rattle.deeds.specs.Asked.{Lockable, HasNewest, GrantedTo}
 
 -- the deed that was told
@@ -35,6 +37,9 @@ waitable G g s x i k = (lockable G g s x i k, ranks-small G g)
 pub has-newest : (G : Tables) → Good base G → (x : ℕ) → x < base .items → HasNewest (G .versions) x
 has-newest G g x k = record { versionsExact = g .versionsExact; known = k; some = good-least G g x k }
 
+pub holder-inside : (G : Tables) → Good base G → (x : ℕ) → x < base .items → (lock (G .locks) x) .exclusive ≤ base .slots
+holder-inside G g x k = lock-slots (G .txns) (G .locks) (G .versions) g x k .exclusive
+
 module _ (t l v : List ℕ) where
   pub begins-done :
       (s : Slot) (k : ℕ) (q : Stamp) {n : ℕ} {r : Answer} {t′ : List ℕ} → n ≡ lastNumber t + 1
@@ -43,17 +48,17 @@ module _ (t l v : List ℕ) where
   begins-done s k q en et er = rw (er, et, en)
 
   pub waits-done :
-      (s : Slot) (k : ℕ) (x : Item) {r : Answer} {t′ : List ℕ} → t′ ≡ noted base t l (s .0) k (x .0) → r ≡ refusal Wait
-      → outcome r t′ l v ≡ done base (Waits s k x) (tables t l v)
+      (s : Slot) (k : ℕ) (x : Item) {m : ℕ} {r : Answer} {u t′ : List ℕ} → m ≡ askingJoins base t k (x .0) → u ≡ noted base t l (s .0) k (x .0)
+      → t′ ≡ joined u (s .0) m → r ≡ refusal Wait → outcome r t′ l v ≡ done base (Waits s k x) (tables t l v)
   unfolding done
-  waits-done s k x et er = rw (er, et)
+  waits-done s k x em eu et er = rw (er, et, eu, em)
 
-  pub start-done :
-      (s : Slot) (x : Item) {q w j : ℕ} {r : Answer} {t′ : List ℕ} → q ≡ (txn t (s .0)) .start → w ≡ (choice q (versionsOf base v (x .0))) .value
-      → j ≡ suc (place q (versionsOf base v (x .0))) → t′ ≡ counted t (s .0) j → r ≡ found w j
-      → outcome r t′ l v ≡ done base (ReadsByStart s x) (tables t l v)
-  unfolding done queryRead
-  start-done s x eq ew ej et er = rw (er, et, ew, ej, eq)
+  pub version-done :
+      (s : Slot) (x : Item) {w j : ℕ} {r : Answer} {u t′ : List ℕ} → w ≡ (choice (readerIn t (s .0)) (versionsOf base v (x .0))) .value
+      → j ≡ suc (place (readerIn t (s .0)) (versionsOf base v (x .0))) → u ≡ readNoted t l (s .0) (x .0) → t′ ≡ counted u (s .0) j → r ≡ found w j
+      → outcome r t′ l v ≡ done base (ReadsVersion s x) (tables t l v)
+  unfolding done versionRead
+  version-done s x ew ej eu et er = rw (er, et, eu, ew, ej)
 
   pub own-done :
       (s : Slot) (x : Item) {w : ℕ} {r : Answer} {t′ : List ℕ} → t′ ≡ cleared base t (s .0) → w ≡ (lock l (x .0)) .working → r ≡ found w 0
@@ -67,69 +72,22 @@ module _ (t l v : List ℕ) where
   unfolding done
   newest-done s x et ew er = rw (er, et, ew)
 
-  module _ (s : Slot) (x : Item) {h : Lock} {t′ l′ : List ℕ} (g : GrantedTo (s .0) (x .0) h t l t′ l′) where
-    pub shared-done :
-        {w : ℕ} {r : Answer} → h ≡ sharedToo (lock l (x .0)) (s .0) → w ≡ newest base v (x .0) → r ≡ found w 1
-        → outcome r t′ l′ v ≡ done base (TakesShared s x) (tables t l v)
-    unfolding done locked
-    shared-done eh ew er = rw (er, ew, g .txns, g .locks, eh)
+  pub replaced-done :
+      (s : Slot) (x : Item) {h : Lock} {t′ l′ : List ℕ} → GrantedTo (s .0) (x .0) h t l t′ l′ → (w : ℕ) {r : Answer} → h ≡ replaced (lock l (x .0)) w → r ≡ plain
+      → outcome r t′ l′ v ≡ done base (Replaces s x w) (tables t l v)
+  unfolding done locked
+  replaced-done s x g w eh er = rw (er, g .txns, g .locks, eh)
 
-    pub replaced-done :
-        (w : ℕ) {r : Answer} → h ≡ replaced (lock l (x .0)) w → r ≡ plain → outcome r t′ l′ v ≡ done base (Replaces s x w) (tables t l v)
-    unfolding done locked
-    replaced-done w eh er = rw (er, g .txns, g .locks, eh)
+  -- a further lock, by the sets m that its taker joins
+  module _ (s : Slot) (x : Item) {h : Lock} {m : ℕ} {t′ l′ : List ℕ} (g : GrantedTo (s .0) (x .0) h (joined t (s .0) m) l t′ l′) where
+    pub shared-done :
+        {w : ℕ} {r : Answer} → h ≡ sharedToo (lock l (x .0)) (s .0) → m ≡ hiddenNow base v (x .0) → w ≡ newest base v (x .0) → r ≡ found w 1
+        → outcome r t′ l′ v ≡ done base (TakesShared s x) (tables t l v)
+    unfolding done lockedAnew locked grantJoins askingJoins
+    shared-done eh em ew er = rw (er, ew, g .txns, g .locks, eh, em, or-zero-l (hiddenNow base v (x .0)))
 
     pub taken-done :
-        (w : ℕ) {r : Answer} → h ≡ taken (lock l (x .0)) (s .0) w → r ≡ plain → outcome r t′ l′ v ≡ done base (TakesExclusive s x w) (tables t l v)
-    unfolding done locked
-    taken-done w eh er = rw (er, g .txns, g .locks, eh)
-
-  pub ends-done :
-      (s : Slot) {r : Answer} {t′ v′ : List ℕ} → t′ ≡ setTxn t (s .0) noTxn
-      → v′ ≡ rewritten base (starts base (setTxn t (s .0) noTxn)) (λ x vs. vs) v
-      → {n w : ℕ} → n ≡ (txn t (s .0)) .readCount → w ≡ (txn t (s .0)) .weightSum → r ≡ found w n
-      → outcome r t′ l v′ ≡ done base (Ends s) (tables t l v)
-  unfolding done ended
-  ends-done s et ev en ew er = rw (er, et, ev, en, ew)
-
-  pub commits-done :
-      (s : Slot) {c : ℕ} {r : Answer} {t′ l′ v′ : List ℕ} → c ≡ clock t + 1 → t′ ≡ setTxn (set t clockAt c) (s .0) noTxn → l′ ≡ release base (s .0) l
-      → v′ ≡ rewritten base (starts base (setTxn (set t clockAt c) (s .0) noTxn)) (withNew l (s .0) c) v → r ≡ numbered c
-      → outcome r t′ l′ v′ ≡ done base (Commits s) (tables t l v)
-  unfolding done committed committedUnder
-  commits-done s ec et el ev er = rw (er, et, el, ev, ec)
-
-  pub aborts-done :
-      (s : Slot) {r : Answer} {t′ l′ : List ℕ} → t′ ≡ setTxn (closedUp base t (s .0)) (s .0) noTxn → l′ ≡ release base (s .0) l → r ≡ plain
-      → outcome r t′ l′ v ≡ done base (Aborts s) (tables t l v)
-  unfolding done aborted
-  aborts-done s et el er = rw (er, et, el)
-
-  -- request E7: what an abort leaves, and the clock is answered
-  pub empty-done :
-      (s : Slot) {n : ℕ} {r a : Answer} {t′ l′ : List ℕ} → n ≡ clock t → outcome a t′ l′ v ≡ done base (Aborts s) (tables t l v) → r ≡ numbered n
-      → outcome r t′ l′ v ≡ done base (CommitsEmpty s) (tables t l v)
-  unfolding done
-  empty-done s en e er = rw (er, en) (ap (λ (o : Outcome). record { answer = numbered (clock t); after = o .after }) e)
-
-  pub settles-done :
-      (s : Slot) {c : ℕ} {r : Answer} {t′ l′ : List ℕ} → c ≡ clock t + 1
-      → t′ ≡ setTxn (set t clockAt c) (s .0) (newTxn ((txn t (s .0)) .number) aSettled c) → l′ ≡ unshare base (s .0) l → r ≡ numbered c
-      → outcome r t′ l′ v ≡ done base (Settles s) (tables t l v)
-  unfolding done settled
-  settles-done s ec et el er = rw (er, et, el, ec)
-
-  -- one past its writing
-  pub settled-commits-done :
-      (s : Slot) {c : ℕ} {r : Answer} {t′ l′ v′ : List ℕ} → c ≡ (txn t (s .0)) .start → t′ ≡ setTxn t (s .0) noTxn → l′ ≡ release base (s .0) l
-      → v′ ≡ rewritten base (starts base (setTxn t (s .0) noTxn)) (withNew l (s .0) c) v → r ≡ numbered c
-      → outcome r t′ l′ v′ ≡ done base (CommitsSettled s) (tables t l v)
-  unfolding done settledCommitted committedUnder
-  settled-commits-done s ec et el ev er = rw (er, et, el, ev, ec)
-
-  pub settled-aborts-done :
-      (s : Slot) {r : Answer} {t′ l′ v′ : List ℕ} → t′ ≡ setTxn t (s .0) noTxn → l′ ≡ release base (s .0) l
-      → v′ ≡ rewritten base (starts base (setTxn t (s .0) noTxn)) (λ x vs. vs) v → r ≡ plain
-      → outcome r t′ l′ v′ ≡ done base (AbortsSettled s) (tables t l v)
-  unfolding done settledAborted
-  settled-aborts-done s et el ev er = rw (er, et, el, ev)
+        (w : ℕ) {a b : ℕ} {r : Answer} → h ≡ taken (lock l (x .0)) (s .0) w → m ≡ bitOr a b → a ≡ haveRead base t (x .0) → b ≡ hiddenNow base v (x .0) → r ≡ plain
+        → outcome r t′ l′ v ≡ done base (TakesExclusive s x w) (tables t l v)
+    unfolding done lockedAnew locked grantJoins askingJoins
+    taken-done w eh em ea eb er = rw (er, g .txns, g .locks, eh, em, ea, eb)

@@ -1,3 +1,2 @@
 -- Laws of the deeds.
 pub mod Deeds
-pub mod Settled

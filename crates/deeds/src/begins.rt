@@ -26,11 +26,14 @@ pub fn begins(txns: &mut [u64], slot: Slot, kind: u64, start: Stamp) -> Answer
     Answer::numbered(number)
 }
 
-// The slot awaits a lock of this kind on this item: it takes its place in the line.
+// The slot awaits a lock of this kind on this item: it takes its place in the line, and joins the sets
+// of those that have read what it asks to write.
 pub fn waits(txns: &mut [u64], locks: &[u64], slot: Slot, lock: u64, item: Item) -> Answer
     requires { ⌜ Lockable (now txns) (now locks) (slot .0) (item .0) × RanksSmall (now txns) ⌝ }
     ensures { λ r. ⌜ ((v : List ℕ) → outcome r (now (txns .exit)) (now (locks .entry)) v ≡ done base (Waits slot lock item) (tables (now (txns .entry)) (now (locks .entry)) v)) ⌝ }
 {
+    let sets = notes::asking_joins(&txns[..], lock, item);
     ranks::note(txns, locks, slot, lock, item);
+    notes::join(txns, slot, sets);
     Answer::refused(Refusal::Wait)
 }

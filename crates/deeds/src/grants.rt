@@ -10,7 +10,7 @@ ghost use Prim.Native.Nat.{ℕ};
 ghost use Rattle.names.specs.Sizes.{base};
 ghost use Rattle.rules.specs.Tables.{tables};
 ghost use Rattle.rules.specs.Answers.{outcome, TakesShared, Replaces, TakesExclusive};
-ghost use Rattle.rules.specs.Step.{done};
+ghost use Rattle.rules.specs.Step.{joined, done};
 ghost use Rattle.rows.specs.Founds.{lockOf};
 ghost use Rattle.deeds.specs.Asked.{Lockable, HasNewest, GrantedTo};
 
@@ -21,6 +21,22 @@ fn granted(txns: &mut [u64], locks: &mut [u64], slot: Slot, item: Item, row: Loc
 {
     ranks::clear(txns, slot);
     rows::set_lock(locks, item, row);
+}
+
+// A further lock: the slot joins these sets besides.
+fn granted_anew(
+    txns: &mut [u64],
+    locks: &mut [u64],
+    slot: Slot,
+    item: Item,
+    row: LockRow,
+    sets: u64,
+)
+    requires { ⌜ Lockable (now txns) (now locks) (slot .0) (item .0) ⌝ }
+    ensures { λ _. ⌜ GrantedTo (slot .0) (item .0) (lockOf row) (joined (now (txns .entry)) (slot .0) sets) (now (locks .entry)) (now (txns .exit)) (now (locks .exit)) ⌝ }
+{
+    notes::join(txns, slot, sets);
+    granted(txns, locks, slot, item, row);
 }
 
 pub fn takes_shared(
@@ -34,7 +50,15 @@ pub fn takes_shared(
     ensures { λ r. ⌜ outcome r (now (txns .exit)) (now (locks .exit)) (now (versions .entry)) ≡ done base (TakesShared slot item) (tables (now (txns .entry)) (now (locks .entry)) (now (versions .entry))) ⌝ }
 {
     let row = rows::lock_at(&locks[..], item);
-    granted(txns, locks, slot, item, cells::shared_too(row, slot));
+    let hidden = choices::hidden_now(versions, item);
+    granted_anew(
+        txns,
+        locks,
+        slot,
+        item,
+        cells::shared_too(row, slot),
+        hidden,
+    );
     Answer::found(choices::newest(versions, item), 1)
 }
 
@@ -55,14 +79,24 @@ pub fn replaces(txns: &mut [u64], locks: &mut [u64], slot: Slot, item: Item, val
 pub fn takes_exclusive(
     txns: &mut [u64],
     locks: &mut [u64],
+    versions: &[u64],
     slot: Slot,
     item: Item,
     value: u64,
 ) -> Answer
-    requires { ⌜ Lockable (now txns) (now locks) (slot .0) (item .0) ⌝ }
-    ensures { λ r. ⌜ ((v : List ℕ) → outcome r (now (txns .exit)) (now (locks .exit)) v ≡ done base (TakesExclusive slot item value) (tables (now (txns .entry)) (now (locks .entry)) v)) ⌝ }
+    requires { ⌜ Lockable (now txns) (now locks) (slot .0) (item .0) × HasNewest (now versions) (item .0) ⌝ }
+    ensures { λ r. ⌜ outcome r (now (txns .exit)) (now (locks .exit)) (now (versions .entry)) ≡ done base (TakesExclusive slot item value) (tables (now (txns .entry)) (now (locks .entry)) (now (versions .entry))) ⌝ }
 {
     let row = rows::lock_at(&locks[..], item);
-    granted(txns, locks, slot, item, cells::taken(row, slot, value));
+    let readers = notes::have_read(&txns[..], item);
+    let hidden = choices::hidden_now(versions, item);
+    granted_anew(
+        txns,
+        locks,
+        slot,
+        item,
+        cells::taken(row, slot, value),
+        readers | hidden,
+    );
     Answer::granted()
 }

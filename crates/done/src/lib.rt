@@ -1,12 +1,12 @@
-// Each deed done by its own function of `deeds`: its answer, and the tables that are lent as they are
-// afterwards. Proved equal to `done` of the rules, on good tables and for a deed that they allow, as a
-// judged one is.
-use deeds::aborts;
+// Each deed done by its own function of `deeds` or `endings`: its answer, and the tables that are lent
+// as they are afterwards. Proved equal to `done` of the rules, on good tables and for a deed that they
+// allow, as a judged one is.
 use deeds::begins;
-use deeds::ends;
 use deeds::grants;
 use deeds::reads;
-use deeds::settles;
+use endings::aborts;
+use endings::ends;
+use endings::settles;
 use names::Answer;
 use names::Deed;
 ghost use mathlib.Core.Path.{_≡_};
@@ -25,7 +25,9 @@ pub fn done(deed: Deed, txns: &mut [u64], locks: &mut [u64], versions: &mut [u64
         Deed::Refused(why) => Answer::refused(why),
         Deed::Waits(slot, lock, item) => begins::waits(txns, &locks[..], slot, lock, item),
         Deed::Begins(slot, kind, start) => begins::begins(txns, slot, kind, start),
-        Deed::ReadsByStart(slot, item) => reads::by_start(txns, &versions[..], slot, item),
+        Deed::ReadsVersion(slot, item) => {
+            reads::version(txns, &locks[..], &versions[..], slot, item)
+        }
         Deed::ReadsOwn(slot, item) => reads::own(txns, &locks[..], slot, item),
         Deed::ReadsNewest(slot, item) => reads::newest(txns, &versions[..], slot, item),
         Deed::TakesShared(slot, item) => {
@@ -33,7 +35,7 @@ pub fn done(deed: Deed, txns: &mut [u64], locks: &mut [u64], versions: &mut [u64
         }
         Deed::Replaces(slot, item, value) => grants::replaces(txns, locks, slot, item, value),
         Deed::TakesExclusive(slot, item, value) => {
-            grants::takes_exclusive(txns, locks, slot, item, value)
+            grants::takes_exclusive(txns, locks, &versions[..], slot, item, value)
         }
         Deed::Commits(slot) => ends::commits(txns, locks, versions, slot),
         Deed::CommitsEmpty(slot) => aborts::commits_empty(txns, locks, slot),

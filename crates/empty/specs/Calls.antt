@@ -2,7 +2,7 @@
 use Prim.Native.Nat.{ℕ}
 use mathlib.Core.Bool.{Bool, true, false, _&&_}
 use lib.Dec.{leb}
-use Rattle.rules.specs.Answers.{Call, BeginUpdate, BeginQuery, Read, Write, Commit, Abort, Settle}
+use Rattle.rules.specs.Answers.{Call, BeginUpdate, BeginQuery, Read, Write, Commit, Abort, Settle, BeginRelaxed}
 
 -- "Values are any 64-bit number."
 abbrev pub greatestWord : ℕ
@@ -19,6 +19,7 @@ callOfWords (Write n x v) = isWord n && isWord x && isWord v
 callOfWords (Commit n) = isWord n
 callOfWords (Abort n) = isWord n
 callOfWords (Settle n) = isWord n
+callOfWords BeginRelaxed = true
 
 -- the calls that read
 unfoldable pub isRead : Call → Bool
@@ -29,8 +30,9 @@ isRead (Write n x v) = false
 isRead (Commit n) = false
 isRead (Abort n) = false
 isRead (Settle n) = false
+isRead BeginRelaxed = false
 
--- the two begins
+-- the three begins
 unfoldable pub isBegin : Call → Bool
 isBegin BeginUpdate = true
 isBegin BeginQuery = true
@@ -39,3 +41,4 @@ isBegin (Write n x v) = false
 isBegin (Commit n) = false
 isBegin (Abort n) = false
 isBegin (Settle n) = false
+isBegin BeginRelaxed = true

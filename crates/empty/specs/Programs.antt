@@ -24,7 +24,7 @@ pub record Input : Type 0 where
 abbrev pub Program : Type 0
 Program = Input → Outcome
 
--- what the contracts of the seven public routines say together: "for every input, its four answer numbers and every word of the
+-- what the contracts of the eight public routines say together: "for every input, its four answer numbers and every word of the
 -- three tables afterwards"
 abbrev pub Meets : Program → Type 0
 Meets P = (i : Input) → P i ≡ step base (i .call) (i .before)

@@ -1,5 +1,5 @@
 -- Words set to 0 one by one, the counts of version rows set to 1 row by row, and the tables that come of it.
-use Prim.Native.Nat.{ℕ, zero, suc, _+_, _*_, _/_, _%_, _≤_, _<_}
+use Prim.Native.Nat.{ℕ, zero, suc, _+_, _-_, _*_, _/_, _%_, _≤_, _<_}
 use mathlib.Core.Path.{_≡_, refl, sym, ap, _∙_, subst}
 use mathlib.Core.Logic.{_≢_, _⊎_, inl, inr}
 use mathlib.Core.Bool.{Bool, true, false, not, cond}
@@ -52,7 +52,7 @@ abbrev rowWords : ℕ
 rowWords = versionRow base
 
 abbrev behind : ℕ
-behind = 2 * base .places
+behind = versionRow base - 1
 
 -- ---- the rows below x have the count 1, and no other word is changed
 pub record Counted (before after : List ℕ) (x : ℕ) : Type 0 where

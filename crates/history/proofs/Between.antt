@@ -8,7 +8,7 @@ use mathlib.Core.List.{List}
 use native.Mathlib.Omega.{arith}
 use lib.Dec.{T, leb, ltb}
 use borrow.Author.Tests.{leb-true, leb-false, ltb-true, ltb-false}
-use Rattle.rules.specs.Tables.{anUpdate, aSettled}
+use Rattle.rules.specs.Tables.{anUpdate, aSettled, aRelaxed}
 use Rattle.rules.proofs.Tests.{true-is, false-is, is-false}
 use Rattle.history.specs.Happened.{Access}
 use Rattle.history.specs.Serial.{Entry, insert, oneByOne, Absent, numbersOf}
@@ -40,7 +40,7 @@ module _
     O = J .slots s (L .alive) .own k
 
     low : t ≤ W .clock
-    low = F .low s (L .alive, λ z. omega arith)
+    low = F .low s (L .alive, λ z. omega arith, λ z. omega arith)
 
     ends : (a : Array) (x : ℕ) → x < items → final (log (W .number s)) a x ≡ cond (W .writes s x) (W .working x) (a x)
     ends = J .slots s (L .alive) .ends (λ z. omega arith)
@@ -125,11 +125,11 @@ module _
             }
 
       -- what it sees
-      snapped-on : W′ .alive r → W′ .kind r ≢ anUpdate → (x : ℕ) → x < items → arrayAt (2 * W .start r + 1) (insert e es) log x ≡ W′ .snapshot r x
-      snapped-on a′ j x b = go (leb t (W .start r)) refl ∙ sym (snap r x d b (a′, j))
+      snapped-on : W′ .alive r → W′ .kind r ≢ anUpdate → W′ .kind r ≢ aRelaxed → (x : ℕ) → x < items → arrayAt (2 * W .start r + 1) (insert e es) log x ≡ W′ .snapshot r x
+      snapped-on a′ j i x b = go (leb t (W .start r)) refl ∙ sym (snap r x d b (a′, j, i))
         where
           seen : arrayAt (2 * W .start r + 1) es log x ≡ W .snapshot r x
-          seen = old .snapped (λ z. j (R .kind-is ∙ z)) x b
+          seen = old .snapped (λ z. j (R .kind-is ∙ z)) (λ z. i (R .kind-is ∙ z)) x b
 
           both : (w : Bool) → cond w (W .working x) (W .snapshot r x) ≡ cond (w && true) (W .working x) (W .snapshot r x)
           both true = refl
@@ -156,7 +156,7 @@ module _
                 rw (R .number-is)
                 (pending-kept items W W′ r K (log (W .number r)) still (old .pending (sym (R .kind-is) ∙ j)));
             own = λ j. own-on (sym (R .kind-is) ∙ j);
-            snapped = λ j x b. rw (R .start-is) (snapped-on a′ j x b);
+            snapped = λ j i x b. rw (R .start-is) (snapped-on a′ j i x b);
             placed = λ j.
                 rw (R .start-is, R .number-is)
                 (all-insert (λ p n. n ≡ W .number r → p ≡ 2 * W .start r + 1) e (λ z. absurd (other z)) es (old .placed (sym (R .kind-is) ∙ j)));

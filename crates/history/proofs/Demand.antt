@@ -9,6 +9,7 @@ use Rattle.history.specs.Serial.{Serializes}
 use Rattle.history.specs.Undisturbed.{ReadsAsBegun, Undisturbed}
 use Rattle.history.specs.Ended.{EndedForEver}
 use Rattle.history.specs.Weighed.{EndWeighs}
+use Rattle.history.specs.Relaxed.{RelaxedSerial, StampsAgree}
 use Rattle.history.specs.Beside.{Beside}
 use Rattle.history.proofs.Theorem.{serializes}
 use Rattle.history.proofs.Query.{reads-as-begun, undisturbed}
@@ -16,6 +17,8 @@ use Rattle.history.proofs.Happens.{run-good}
 use Rattle.history.proofs.Ended.{run-never-bad, ended-for-ever}
 use Rattle.history.proofs.Numbers.{upward}
 use Rattle.history.proofs.Weighed.{end-weighs}
+use Rattle.history.proofs.RelaxedDemand.{relaxed-serial}
+use Rattle.history.proofs.RelaxedStampRun.{stamps-agree}
 
 -- ---- of all sizes
 module _ (S : Sizes) (enough : S .slots ≤ S .places) (room : 1 ≤ S .places) where
@@ -39,6 +42,9 @@ module _ (S : Sizes) (enough : S .slots ≤ S .places) (room : 1 ≤ S .places) 
   pub weighed-sizes : EndWeighs S
   weighed-sizes = end-weighs S enough room
 
+  pub relaxed-sizes : RelaxedSerial S × StampsAgree S
+  relaxed-sizes = (relaxed-serial S enough room, stamps-agree S enough room)
+
 -- ---- of the appliance's
 pub demand-3 : ((cs : List Call) → Serializes base cs) × Undisturbed base
 demand-3 = demand-3-sizes base (omega arith) (omega arith)
@@ -53,3 +59,7 @@ demand-3-beside = beside-sizes base (omega arith) (omega arith)
 -- request E8: "A query's commit or abort answers the sum as value and the count as looked"
 pub weighed : EndWeighs base
 weighed = weighed-sizes base (omega arith) (omega arith)
+
+-- request E11: "For these queries demand 3 reads: .."
+pub relaxed : RelaxedSerial base × StampsAgree base
+relaxed = relaxed-sizes base (omega arith) (omega arith)

@@ -3,26 +3,27 @@ use Prim.Native.Nat.{ℕ, _+_, _≤_, _<_}
 use mathlib.Core.Path.{_≡_, refl, sym, ap, _∙_, subst}
 use mathlib.Core.Logic.{_≢_}
 use mathlib.Core.Bool.{Bool, true, false, _&&_, cond}
-use mathlib.Core.List.{List}
+use mathlib.Core.List.{List, List·Memᴰ}
 use native.Mathlib.Omega.{arith}
-use lib.Dec.{T}
+use lib.Dec.{T, leb}
 use borrow.Author.Tests.{lt-leb}
 use Rattle.names.specs.declared.Sizes.{Sizes}
-use Rattle.rules.specs.Tables.{Tables, lastNumber, clock, Txn, txn, setTxn, noTxn, newTxn, liveUpdate, liveSettled, byStart, starts}
+use Rattle.rules.specs.Tables.{Tables, lastNumber, clock, Txn, txn, noTxn, newTxn, liveUpdate, liveSettled, byStart, Reader, upTo, readers}
 use Rattle.rules.specs.Tables.{aSettled, Lock, lock, unshared, holdsExclusive}
-use Rattle.rules.specs.Versions.{rewritten}
 use Rattle.rules.specs.Good.{Good}
 use Rattle.rules.specs.Answers.{Call}
 use Rattle.rules.specs.Step.{committedUnder, committed, settledCommitted, ended, aborted, settledAborted, settled}
 use Rattle.rules.proofs.Views.{lock-unshare}
+use Rattle.rules.proofs.ChangedVersions.{committed-versions, settled-commit-versions}
 use Rattle.rules.proofs.EqualRows.{live-number, number-live, update-live, settled-live}
 use Rattle.rules.proofs.Callers.{Caller}
 use Rattle.history.specs.Happened.{Happening, updateCommitted, emptyCommitted, settledUnder, onlyEnded, names}
 use Rattle.history.proofs.Turns.{Left, Turn, commits, commitsEmpty, settles, commitsSettled, ends}
 use Rattle.history.proofs.Tables.{SameRow, same-row, SameHold, same-hold, release-hold, unshared-hold}
-use Rattle.history.proofs.Leaving.{readAt, reads-newest, under-here, under-there, under-newest, under-reads}
+use Rattle.history.proofs.Leaving.{readAt, reads-newest, start-in, under-here, under-there, under-newest, under-reads}
 use Rattle.history.proofs.Leaving.{aborted-here, aborted-there, aborted-last, aborted-clock, ended-here, ended-there, ended-last, ended-clock}
-use Rattle.history.proofs.Leaving.{ended-newest, ended-reads, ticked, ticked-size, ticked-rows, committed-last, committed-clock}
+use Rattle.history.proofs.Leaving.{ended-newest, ended-reads, dropped-here, dropped-there, dropped-last, dropped-clock, dropped-newest, dropped-reads}
+use Rattle.history.proofs.Leaving.{settled-commit-last, settled-commit-clock, ticked, ticked-size, ticked-rows, committed-last, committed-clock}
 use Rattle.history.proofs.Leaving.{settled-here, settled-there, settled-last, settled-clock}
 use Rattle.history.proofs.Seen.{seen, row-by, locks-by, by-start, sees-by, free-dead}
 
@@ -63,7 +64,7 @@ module _ (S : Sizes) (G : Tables) (g : Good S G) (enough : S .slots ≤ S .place
   pub abort-turn : {c : Call} → T (names n c) → TurnTo (aborted S s G) c (onlyEnded n)
   abort-turn a =
       ends n s (C .name) a aborted-left
-      (λ r d. sees-by S G (aborted S s G) r (aborted-there S G g s i r d) (λ x b j q. unfold aborted in refl))
+      (λ r d. sees-by S G (aborted S s G) r g (aborted-there S G g s i r d) (λ x b j q. unfold aborted in refl))
       (λ x b. unfold aborted in refl) (aborted-clock S G g s i)
 
   -- request E7: who holds nothing exclusively commits without a stamp of its own
@@ -72,29 +73,25 @@ module _ (S : Sizes) (G : Tables) (g : Good S G) (enough : S .slots ≤ S .place
       → TurnTo (aborted S s G) c (emptyCommitted n (clock t))
   empty-turn a k w =
       commitsEmpty n s (C .name) a (update-live (txn t s) k .1) w aborted-left
-      (λ r d. sees-by S G (aborted S s G) r (aborted-there S G g s i r d) (λ x b j q. unfold aborted in refl))
+      (λ r d. sees-by S G (aborted S s G) r g (aborted-there S G g s i r d) (λ x b j q. unfold aborted in refl))
       (λ x b. unfold aborted in refl) (aborted-clock S G g s i)
 
   -- no version comes, and the rows are trimmed
-  trimmed-turn :
-      {c : Call} (G′ : Tables) → G′ .txns ≡ setTxn t s noTxn → G′ .versions ≡ rewritten S (starts S (setTxn t s noTxn)) (λ x vs. vs) v
-      → ((r x : ℕ) → r ≢ s → x < S .items → SameHold (lock l x) (lock (G′ .locks) x) r) → T (names n c) → TurnTo G′ c (onlyEnded n)
-  trimmed-turn G′ e f locks a =
-      ends n s (C .name) a
-      (left-by G′ (rw e (ended-here S enough G g s i)) rows locks (rw e (ended-last S enough G g s i)))
-      (λ r d. sees-by S G G′ r (rows r d) (λ x b j q. rw f (ended-reads S enough G g s i r j (subst (λ (u : List ℕ). T (byStart (txn u r))) e q) x b)))
-      (λ x b. rw f (ended-newest S enough G g s i x b)) (rw e (ended-clock S enough G g s i))
-    where
-      rows : (r : ℕ) → r ≢ s → SameRow t (G′ .txns) r
-      rows r d = rw e (same-row (ended-there S enough G g s i r d))
-
   pub end-turn : {c : Call} → T (names n c) → TurnTo (ended S s G) c (onlyEnded n)
-  unfolding ended
-  end-turn a = trimmed-turn (ended S s G) refl refl (λ r x d b. same-hold (lock l x) (lock l x) r refl) a
+  end-turn a =
+      ends n s (C .name) a
+      (left-by (ended S s G) (ended-here S enough G g s i) (ended-there S enough G g s i)
+      (λ r x d b. unfold ended in same-hold (lock l x) (lock l x) r refl) (ended-last S enough G g s i))
+      (λ r d. sees-by S G (ended S s G) r g (ended-there S enough G g s i r d) (λ x b j q. ended-reads S enough G g s i r j q d x b))
+      (ended-newest S enough G g s i) (ended-clock S enough G g s i)
 
   pub settled-abort-turn : {c : Call} → T (names n c) → TurnTo (settledAborted S s G) c (onlyEnded n)
-  unfolding settledAborted
-  settled-abort-turn a = trimmed-turn (settledAborted S s G) refl refl (λ r x d b. release-hold S G g s r x b d) a
+  settled-abort-turn a =
+      ends n s (C .name) a
+      (left-by (settledAborted S s G) (dropped-here S enough G g s i) (λ r d. same-row (dropped-there S enough G g s i r d))
+      (λ r x d b. unfold settledAborted in release-hold S G g s r x b d) (dropped-last S enough G g s i))
+      (λ r d. sees-by S G (settledAborted S s G) r g (same-row (dropped-there S enough G g s i r d)) (λ x b j q. dropped-reads S enough G g s i r j q d x b))
+      (dropped-newest S enough G g s i) (dropped-clock S enough G g s i)
 
   -- ---- commits
   neither : (w : Bool) (a b : ℕ) → cond (w && false) a b ≡ b
@@ -102,7 +99,7 @@ module _ (S : Sizes) (G : Tables) (g : Good S G) (enough : S .slots ≤ S .place
   neither false a b = refl
 
   -- the update that commits now
-  module _ where
+  module _ (k : T (liveUpdate (txn t s))) where
     abbrev u : List ℕ
     u = ticked S G g s i
 
@@ -111,49 +108,59 @@ module _ (S : Sizes) (G : Tables) (g : Good S G) (enough : S .slots ≤ S .place
 
     gone-row : (r : ℕ) → r ≢ s → txn ((committed S s G) .txns) r ≡ txn t r
     unfolding committed
-    gone-row = under-there S enough G g s i u (ticked-size S G g s i) (ticked-rows S G g s i) c₁
+    gone-row = under-there S G g s i u (ticked-size S G g s i) c₁ (ticked-rows S G g s i)
 
     -- its stamp is above every start
     sees-on :
         (r : ℕ) → r ≢ s → (x : ℕ) → x < S .items → r < S .slots → T (byStart (txn ((committed S s G) .txns) r))
         → readAt S ((committed S s G) .versions) ((txn t r) .start) x ≡ readAt S v ((txn t r) .start) x
-    unfolding committed
     sees-on r d x b j q =
-        let le : (txn t r) .start ≤ clock t = g .txnGood r j .readerStart (subst (λ (o : Txn). T (byStart o)) (gone-row r d) q) in
-        under-reads S enough G g s i u (ticked-size S G g s i) (ticked-rows S G g s i) c₁ r j q x b
+        let h : T (byStart (txn t r)) = subst (λ (o : Txn). T (byStart o)) (gone-row r d) q in
+        let le : (txn t r) .start ≤ clock t = g .txnGood r j .readerStart h in
+        under-reads S G g s i u (ticked-size S G g s i) c₁ ((committed S s G) .versions) ((txn t s) .laterFor) (readers S t) x
+        (committed-versions S G g enough s i k x b) ((txn t r) .start) (start-in S t r j h)
         ∙ rw (lt-leb c₁ ((txn t r) .start) (omega arith)) (neither (holdsExclusive (lock l x) s) _ _)
 
-    pub commit-turn : {c : Call} → T (names n c) → T (liveUpdate (txn t s)) → TurnTo (committed S s G) c (updateCommitted n (clock t + 1))
-    commit-turn a k =
+    pub commit-turn : {c : Call} → T (names n c) → TurnTo (committed S s G) c (updateCommitted n (clock t + 1))
+    commit-turn a =
         commits n s (C .name) a (update-live (txn t s) k .1)
-        (left-by (committed S s G) (unfold committed in under-here S enough G g s i u (ticked-size S G g s i) (ticked-rows S G g s i) c₁)
+        (left-by (committed S s G) (unfold committed in under-here S G g s i u (ticked-size S G g s i) c₁)
         (λ r d. same-row (gone-row r d)) (λ r x d b. unfold committed committedUnder in release-hold S G g s r x b d) (committed-last S G g s i))
-        (λ r d. sees-by S G (committed S s G) r (same-row (gone-row r d)) (sees-on r d))
-        (unfold committed in under-newest S enough G g s i u (ticked-size S G g s i) (ticked-rows S G g s i) c₁)
+        (λ r d. sees-by S G (committed S s G) r g (same-row (gone-row r d)) (sees-on r d))
+        (λ x b.
+        under-newest S G g s i u (ticked-size S G g s i) c₁ ((committed S s G) .versions) ((txn t s) .laterFor) (readers S t) x (committed-versions S G g enough s i k x b))
         (committed-clock S G g s i)
 
   -- one past its writing commits, under its stamp
-  pub settled-commit-turn :
-      {c : Call} → T (names n c) → T (liveSettled (txn t s)) → TurnTo (settledCommitted S s G) c (updateCommitted n ((txn t s) .start))
-  unfolding settledCommitted
-  settled-commit-turn a k =
-      commitsSettled n s (C .name) a (settled-live (txn t s) k .1)
-      (left-by G′ (under-here S enough G g s i t (g .txnsExact) (λ r d. refl) q) rows
-      (λ r x d b. unfold committedUnder in release-hold S G g s r x b d) (unfold committedUnder in ended-last S enough G g s i))
-      (λ r x d b h.
-      ap (λ (m : ℕ). readAt S (G′ .versions) m x) (rows r d .start-is)
-      ∙ under-reads S enough G g s i t (g .txnsExact) (λ r d. refl) q r (h .0 .0) (by-start S G G′ r h .1) x b)
-      (under-newest S enough G g s i t (g .txnsExact) (λ r d. refl) q)
-      (unfold committedUnder in ended-clock S enough G g s i)
-    where
-      q : ℕ
-      q = (txn t s) .start
+  module _ (k : T (liveSettled (txn t s))) where
+    abbrev q₁ : ℕ
+    q₁ = (txn t s) .start
 
-      G′ : Tables
-      G′ = committedUnder S s ((txn t s) .start) t G
+    abbrev G₁ : Tables
+    G₁ = settledCommitted S s G
 
-      rows : (r : ℕ) → r ≢ s → SameRow t (G′ .txns) r
-      rows r d = same-row (under-there S enough G g s i t (g .txnsExact) (λ r d. refl) q r d)
+    past-row : (r : ℕ) → r ≢ s → txn (G₁ .txns) r ≡ txn t r
+    unfolding settledCommitted
+    past-row = under-there S G g s i t (g .txnsExact) q₁ (λ r d. refl)
+
+    sees-past :
+        (r x : ℕ) → r ≢ s → x < S .items → r < S .slots → T (byStart (txn (G₁ .txns) r))
+        → readAt S (G₁ .versions) ((txn (G₁ .txns) r) .start) x
+        ≡ cond (holdsExclusive (lock l x) s && leb q₁ ((txn t r) .start)) ((lock l x) .working) (readAt S v ((txn t r) .start) x)
+    sees-past r x d b j h =
+        let e : (txn (G₁ .txns) r) .start ≡ (txn t r) .start = ap (λ (o : Txn). o .start) (past-row r d) in
+        ap (λ (m : ℕ). readAt S (G₁ .versions) m x) e
+        ∙ under-reads S G g s i t (g .txnsExact) q₁ (G₁ .versions) 0 (readers S (G₁ .txns)) x (settled-commit-versions S G g enough s i k x b) ((txn t r) .start)
+        (subst (λ (m : ℕ). List·Memᴰ (upTo m) (readers S (G₁ .txns))) e (start-in S (G₁ .txns) r j h))
+
+    pub settled-commit-turn : {c : Call} → T (names n c) → TurnTo (settledCommitted S s G) c (updateCommitted n ((txn t s) .start))
+    settled-commit-turn a =
+        commitsSettled n s (C .name) a (settled-live (txn t s) k .1)
+        (left-by G₁ (unfold settledCommitted in under-here S G g s i t (g .txnsExact) q₁) (λ r d. same-row (past-row r d))
+        (λ r x d b. unfold settledCommitted committedUnder in release-hold S G g s r x b d) (settled-commit-last S G g s i))
+        (λ r x d b h. sees-past r x d b (h .0 .0) (by-start S G G₁ r g (same-row (past-row r d)) h .1))
+        (λ x b. under-newest S G g s i t (g .txnsExact) q₁ (G₁ .versions) 0 (readers S (G₁ .txns)) x (settled-commit-versions S G g enough s i k x b))
+        (settled-commit-clock S G g s i)
 
   -- ---- a settle
   pub settle-turn : {c : Call} → T (liveUpdate (txn t s)) → TurnTo (settled S s G) c (settledUnder n (clock t + 1))
@@ -163,7 +170,7 @@ module _ (S : Sizes) (G : Tables) (g : Good S G) (enough : S .slots ≤ S .place
         update = ((i, C .alive), update-live (txn t s) k .1);
         rows = λ r d. row-by S G (settled S s G) r (rows r d);
         locks = λ r d. locks-by S G (settled S s G) r (λ x b. rw (locks x b) (unshared-hold s (lock l x) r d));
-        sees = λ r d. sees-by S G (settled S s G) r (rows r d) (λ x b j q. unfold settled in refl);
+        sees = λ r d. sees-by S G (settled S s G) r g (rows r d) (λ x b j q. unfold settled in refl);
         current = λ x b. unfold settled in refl;
         last = settled-last S G g s i;
         clock = settled-clock S G g s i;

@@ -21,7 +21,7 @@ use Rattle.history.specs.Serial.{Entry, accessOf, grantedTo}
 use Rattle.history.specs.Undisturbed.{commitOf, commitIn, lastPut, Gives}
 use Rattle.history.proofs.Plain.{Array, store, final}
 use Rattle.history.proofs.Invariant.{View, Fair, Inv, settled}
-use Rattle.history.proofs.Turns.{Gets, byLock, byOwn, byStart, Turn, quiet, updateBegins, queryBegins, reads, writes, commits, commitsEmpty, settles, commitsSettled, ends}
+use Rattle.history.proofs.Turns.{Gets, byLock, byOwn, byStart, bySet, Turn, quiet, updateBegins, queryBegins, relaxedBegins, reads, writes, commits, commitsEmpty, settles, commitsSettled, ends}
 use Rattle.history.proofs.Marked.{Known}
 use Rattle.history.proofs.Preserved.{turn-step}
 use Rattle.history.proofs.Seen.{seen, seen-fair}
@@ -45,6 +45,7 @@ module _ (items : ℕ) (W W′ : View) (F : Fair items W) (m : ℕ) where
   commit-unknown (quiet A) t = absurd t
   commit-unknown (updateBegins s B k f) t = absurd t
   commit-unknown (queryBegins s B q z e) t = absurd t
+  commit-unknown (relaxedBegins s B q e) t = absurd t
   commit-unknown (reads n s x v e b A g) t = absurd t
   commit-unknown (writes n s x v e b P) t = absurd t
   commit-unknown (commits n s e a k L o f i) t = left-unknown items W W′ m F s (e ∙ eqb→eq n m t) L
@@ -58,15 +59,17 @@ module _ (items : ℕ) (W W′ : View) (F : Fair items W) (m : ℕ) where
   caller s x v (byLock u h is) = u .0
   caller s x v (byOwn u w is) = u .0
   caller s x v (byStart u h is) = u .0
+  caller s x v (bySet u is) = u .0
 
   not-it : Unknown m W → (s n : ℕ) → W .number s ≡ n → W .alive s → eqb n m ≡ false
   not-it U s n e a = ne-eqb n m (λ z. U .nobody s a (e ∙ z))
 
-  unknown-quiet : {c : Call} {h : Happening} → Unknown m W → Turn items W W′ c h → (commitOf m h ≡ false) × (accessOf m h ≡ [])
+  pub unknown-quiet : {c : Call} {h : Happening} → Unknown m W → Turn items W W′ c h → (commitOf m h ≡ false) × (accessOf m h ≡ [])
   unfolding commitOf accessOf
   unknown-quiet U (quiet A) = (refl, refl)
   unknown-quiet U (updateBegins s B k f) = (refl, refl)
   unknown-quiet U (queryBegins s B q z e) = (refl, refl)
+  unknown-quiet U (relaxedBegins s B q e) = (refl, refl)
   unknown-quiet U (reads n s x v e b A g) = (refl, rw (not-it U s n e (caller s x v g)))
   unknown-quiet U (writes n s x v e b P) = (refl, rw (not-it U s n e (P .alive)))
   unknown-quiet U (commits n s e a k L o f i) = (not-it U s n e (L .alive), refl)

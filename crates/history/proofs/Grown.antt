@@ -6,7 +6,7 @@ use mathlib.Core.Bool.{false, cond}
 use mathlib.Core.List.{List, [], _∷_, _++_}
 use native.Mathlib.Omega.{arith}
 use lib.Dec.{T}
-use Rattle.rules.specs.Tables.{anUpdate, aQuery, aSettled}
+use Rattle.rules.specs.Tables.{anUpdate, aQuery, aSettled, aRelaxed}
 use Rattle.rules.proofs.Tests.{is-true, is-false, same?}
 use Rattle.history.specs.Happened.{Access, got, put}
 use Rattle.history.specs.Serial.{Entry, oneByOne, Absent, numbersOf}
@@ -137,7 +137,21 @@ module _ (items : ℕ) (es : List Entry) (log : ℕ → List Access) (W W′ : V
               ends = λ z a x b. rw (rows s .number-is, added-here log n c) (ends a x b);
               pending = λ z. rw (rows s .number-is, added-here log n c) p;
               own = λ z. absurd (let i = rows s .kind-is in omega arith);
-              snapped = λ z. absurd (z (rows s .kind-is ∙ k));
+              snapped = λ z j. absurd (z (rows s .kind-is ∙ k));
+              placed = λ z. absurd (let i = rows s .kind-is in omega arith);
+            })
+            (λ r d a b l. absurd (let z = b .1 in omega arith)) (λ b. absurd (let z = b .1 in omega arith))
+
+        -- a relaxed query
+        relaxed-grown : W .kind s ≡ aRelaxed → Ends → Inv items es log′ W′
+        relaxed-grown k ends =
+            absent-grown
+            (record {
+              waiting = λ z. rw (rows s .number-is) nowhere;
+              ends = λ z a x b. rw (rows s .number-is, added-here log n c) (ends a x b);
+              pending = λ z. absurd (let i = rows s .kind-is in omega arith);
+              own = λ z. absurd (let i = rows s .kind-is in omega arith);
+              snapped = λ z j. absurd (j (rows s .kind-is ∙ k));
               placed = λ z. absurd (let i = rows s .kind-is in omega arith);
             })
             (λ r d a b l. absurd (let z = b .1 in omega arith)) (λ b. absurd (let z = b .1 in omega arith))
@@ -157,9 +171,9 @@ module _ (items : ℕ) (es : List Entry) (log : ℕ → List Access) (W W′ : V
               ends = λ z a x b. rw (rows s .number-is, added-here log n c) (ends a x b);
               pending = λ z. absurd (let i = rows s .kind-is in omega arith);
               own = λ z. own;
-              snapped = λ z x b.
+              snapped = λ z j x b.
                   rw (rows s .start-is, arrays (2 * W .start s + 1))
-                  (old .snapped (λ i. omega arith) x b ∙ sym (sees s x b (rows s .lives-on alive, z)));
+                  (old .snapped (λ i. omega arith) (λ i. omega arith) x b ∙ sym (sees s x b (rows s .lives-on alive, z, j)));
               placed = λ z. absurd (let i = rows s .kind-is in omega arith);
             })
             (λ r d a b l.
@@ -225,11 +239,16 @@ module _ (items : ℕ) (es : List Entry) (log : ℕ → List Access) (W W′ : V
         settled-read-step k (old .ends (λ z. omega arith) (arrayAt (2 * W .start s) es log) x bx ∙ rw (is-true (W .writes s x) w) (sym is))
         (λ r d a l u. F .alone r s x bx d u (F .written-held s x w))
 
+    -- by a relaxed query, which stands nowhere
+    pub relaxed-read-step : W .kind s ≡ aRelaxed → Next
+    relaxed-read-step k =
+        relaxed-grown (got x v) item (S .rows) (λ r d. S .locks r) (S .sees) (S .current) (S .last) (S .clock) (λ z. omega arith) k (ends-on (λ z. omega arith))
+
     -- by a start, where nobody past its writing holds it back
     module _ (held : (r : ℕ) → settled W r → W .start r ≤ W .start s → T (W .writes r x) → ⊥) (is : v ≡ W .snapshot s x) where
       pub start-read-step : W .kind s ≡ aSettled → Next
       start-read-step k =
-          settled-read-step k (old .ends (λ z. omega arith) (arrayAt (2 * W .start s) es log) x bx ∙ rw is-not (at-place ∙ old .snapped (λ z. omega arith) x bx ∙ sym is))
+          settled-read-step k (old .ends (λ z. omega arith) (arrayAt (2 * W .start s) es log) x bx ∙ rw is-not (at-place ∙ old .snapped (λ z. omega arith) (λ z. omega arith) x bx ∙ sym is))
           (λ r d a l. held r a (omega arith))
         where
           is-not : W .writes s x ≡ false
@@ -254,9 +273,9 @@ module _ (items : ℕ) (es : List Entry) (log : ℕ → List Access) (W W′ : V
             ends = λ z. absurd (z (S .rows s .kind-is ∙ k));
             pending = λ z. absurd (let i = S .rows s .kind-is in omega arith);
             own = λ z. absurd (let i = S .rows s .kind-is in omega arith);
-            snapped = λ z y b.
+            snapped = λ z j y b.
                 rw (S .rows s .start-is, arrays (2 * W .start s + 1))
-                (old .snapped (λ i. omega arith) y b ∙ sym (S .sees s y b (S .rows s .lives-on alive, z)));
+                (old .snapped (λ i. omega arith) (λ i. omega arith) y b ∙ sym (S .sees s y b (S .rows s .lives-on alive, z, j)));
             placed = λ z. rw (S .rows s .start-is, S .rows s .number-is) (old .placed k);
           })
           (λ r d a b l. absurd (let z = b .1 in omega arith)) (λ b. absurd (let z = b .1 in omega arith))
@@ -274,7 +293,7 @@ module _ (items : ℕ) (es : List Entry) (log : ℕ → List Access) (W W′ : V
                   let f = place e in
                   let value : final (log n) (arrayAt p es log) x ≡ v =
                   ap (λ (a : Array). a x) (subst (λ (j : ℕ). final (log j) (arrayAt p es log) ≡ arrayAt p es log) e (still (omega arith) (arrayAt p es log)))
-                  ∙ ap (λ (q : ℕ). arrayAt q es log x) f ∙ old .snapped (λ z. omega arith) x bx ∙ sym is in
+                  ∙ ap (λ (q : ℕ). arrayAt q es log x) f ∙ old .snapped (λ z. omega arith) (λ z. omega arith) x bx ∙ sym is in
                   subst (λ (j : ℕ). T (agrees (added log n (got x v) j) (arrayAt p es log))) (sym e)
                   (rw (added-here log n (got x v))
                   (agrees-append (log n) (got x v ∷ []) (arrayAt p es log) (subst (λ (j : ℕ). T (agrees (log j) (arrayAt p es log))) e h)

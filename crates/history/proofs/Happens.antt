@@ -2,7 +2,7 @@
 -- was called from fresh tables, they are good and it is known who began as an update.
 use Prim.Native.Nat.{ℕ, _+_, _≤_, _<_}
 use mathlib.Core.Path.{_≡_, refl, sym, ap, _∙_, subst}
-use mathlib.Core.Logic.{_≢_, inl, inr}
+use mathlib.Core.Logic.{_≢_, _⊎_, inl, inr}
 use mathlib.Core.Bool.{Bool, true, false, cond}
 use mathlib.Core.List.{List, [], _∷_}
 use native.Mathlib.Omega.{arith}
@@ -12,39 +12,49 @@ use Rattle.names.specs.declared.Sizes.{Sizes}
 use Rattle.names.specs.declared.Answer.{Answer}
 use Rattle.names.specs.Sizes.{firstStamp}
 use Rattle.rules.specs.Words.{some}
-use Rattle.rules.specs.Tables.{Tables, clock, txn, live, anUpdate, aQuery, fresh}
+use Rattle.rules.specs.Tables.{Tables, clock, Txn, txn, live, liveQuery, liveRelaxed, anUpdate, aQuery, aRelaxed, fresh}
 use Rattle.rules.specs.Good.{Good}
 use Rattle.rules.specs.Answers.{Call, Commit, Outcome, says, granted, refuses, code, Refusal, BadTables, Deed, Wait}
-use Rattle.rules.specs.Step.{queryRead, committed, settledCommitted, aborted, judged, done, act, step}
+use Rattle.rules.specs.Step.{askingJoins, versionRead, committed, settledCommitted, aborted, judged, done, act, step}
 use Rattle.rules.specs.Changed.{lookedAt}
 use Rattle.rules.proofs.Tests.{is-true, is-false, eq-make}
 use Rattle.rules.proofs.Steps.{acts}
 use Rattle.rules.proofs.EqualRows.{live-number, update-live, query-live, settled-live}
+use Rattle.rules.proofs.RowKinds.{query-cases, relaxed-live}
 use Rattle.rules.proofs.Callers.{Caller}
 use Rattle.rules.proofs.Quotas.{held-none, held-some}
 use Rattle.rules.proofs.Keeps.{keeps}
 use Rattle.rules.proofs.Fresh.{fresh-good}
 use Rattle.rules.proofs.Judged.{way}
-use Rattle.rules.proofs.Ways.{refusal-code, Way, refused, waited, keptWaiting, beganUpdate, beganQuery, readOwn, readNewest, readShared, readSettled, readByStart}
+use Rattle.rules.proofs.Ways.{refusal-code, Way, refused, waited, keptWaiting, beganUpdate, beganQuery, beganRelaxed, readOwn, readNewest, readShared, readSettled, readVersion}
 use Rattle.rules.proofs.Ways.{wroteOwn, wroteSettled, wroteTaken, committedUpdate, committedEmpty, committedSettled, committedQuery, abortedUpdate, abortedSettled, abortedQuery, settledUpdate}
 use Rattle.history.specs.Runs.{endOf}
 use Rattle.history.specs.Happened.{Happening, updateCommitted, emptyCommitted, onlyEnded, nothing, did, told, SoFar, noneSoFar, happened, begunWith, names}
+use Rattle.history.proofs.Invariant.{Asks}
 use Rattle.history.proofs.Turns.{Turn}
 use Rattle.history.proofs.Marked.{Marks, Known, known-on}
 use Rattle.history.proofs.Tables.{fresh-last}
-use Rattle.history.proofs.Leaving.{readAt}
 use Rattle.history.proofs.Seen.{seen, seen-fair}
-use Rattle.history.proofs.Moves.{refused-turn, wait-turn, begin-update-turn, begin-query-turn, own-turn, newest-turn, shared-turn, past-turn, start-read-turn}
+use Rattle.history.proofs.Moves.{refused-turn, wait-turn, begin-update-turn, begin-query-turn, begin-relaxed-turn, own-turn, newest-turn, shared-turn, past-turn, version-read-turn}
 use Rattle.history.proofs.Moves.{own-write-turn, past-write-turn, taken-turn}
 use Rattle.history.proofs.Endings.{commit-turn, empty-turn, settled-commit-turn, end-turn, abort-turn, settled-abort-turn, settle-turn}
 
-told-refused : (u w : Bool) (c : Call) (a : Answer) → a .code ≢ granted → told u w c a ≡ nothing
+pub told-refused : (u w : Bool) (c : Call) (a : Answer) → a .code ≢ granted → told u w c a ≡ nothing
 unfolding told
 told-refused u w c a d = ap (λ (b : Bool). cond b (did u w c a) nothing) (ne-eqb (a .code) granted d)
 
-told-granted : (u w : Bool) (c : Call) (a : Answer) → a .code ≡ granted → told u w c a ≡ did u w c a
+pub told-granted : (u w : Bool) (c : Call) (a : Answer) → a .code ≡ granted → told u w c a ≡ did u w c a
 unfolding told
 told-granted u w c a e = ap (λ (b : Bool). cond b (did u w c a) nothing) (eq-eqb (a .code) granted e)
+
+-- who is a query, relaxed or not, and who is none
+pub query-asks : (r : Txn) → T (liveQuery r) ⊎ T (liveRelaxed r) → Asks (r .kind)
+query-asks r (inl q) = inl (query-live r q .1)
+query-asks r (inr q) = inr (relaxed-live r q .1)
+
+pub writes-not-asks : {j k : ℕ} → k ≡ j → j ≢ aQuery → j ≢ aRelaxed → Asks k → ⊥
+writes-not-asks e a b (inl z) = a (sym e ∙ z)
+writes-not-asks e a b (inr z) = b (sym e ∙ z)
 
 -- ---- what happens at the call c on the tables G, with the outcome o
 pub record Happens (S : Sizes) (G : Tables) (c : Call) (o : Outcome) : Type 0 where
@@ -60,7 +70,7 @@ module _ (S : Sizes) (enough : S .slots ≤ S .places) (G : Tables) (g : Good S 
   abbrev TurnTo : Tables → Call → Happening → Type 0
   TurnTo G′ c h = Turn (S .items) (seen S G) (seen S G′) c h
 
-  silent : (c : Call) (r : Refusal) (G′ : Tables) → code r ≢ code BadTables → TurnTo G′ c nothing → Happens S G c (refuses r G′)
+  unfoldable pub silent : (c : Call) (r : Refusal) (G′ : Tables) → code r ≢ code BadTables → TurnTo G′ c nothing → Happens S G c (refuses r G′)
   unfolding happened
   silent c r G′ m e =
       record {
@@ -71,7 +81,7 @@ module _ (S : Sizes) (enough : S .slots ≤ S .places) (G : Tables) (g : Good S 
         notBad = m;
       }
 
-  grants :
+  unfoldable pub grants :
       (c : Call) (o : Outcome) (h : Happening) → o .answer .code ≡ granted → TurnTo (o .after) c h
       → ((us : SoFar) → Known (S .items) us (seen S G) → did (some (λ n. names n c) (us .updates)) (some (λ n. names n c) (us .stamped)) c (o .answer) ≡ h)
       → Happens S G c o
@@ -86,14 +96,14 @@ module _ (S : Sizes) (enough : S .slots ≤ S .places) (G : Tables) (g : Good S 
       }
 
   -- how the transaction began does not matter
-  plainly :
+  unfoldable pub plainly :
       (c : Call) (o : Outcome) (h : Happening) → o .answer .code ≡ granted → TurnTo (o .after) c h → ((u w : Bool) → did u w c (o .answer) ≡ h)
       → Happens S G c o
   plainly c o h e t f = grants c o h e t (λ us K. f _ _)
 
   -- a commit of an update, which answers k: w says whether it was granted a write, or settled
-  commits-as :
-      (n s k : ℕ) (C : Caller S G n s) (G′ : Tables) (w : Bool) → (txn (G .txns) s) .kind ≢ aQuery
+  unfoldable pub commits-as :
+      (n s k : ℕ) (C : Caller S G n s) (G′ : Tables) (w : Bool) → (Asks ((txn (G .txns) s) .kind) → ⊥)
       → ((us : SoFar) → Known (S .items) us (seen S G) → some (eqb n) (us .stamped) ≡ w)
       → TurnTo G′ (Commit n) (cond w (updateCommitted n k) (emptyCommitted n k)) → Happens S G (Commit n) (says granted 0 k 0 G′)
   unfolding did names
@@ -105,13 +115,13 @@ module _ (S : Sizes) (enough : S .slots ≤ S .places) (G : Tables) (g : Good S 
       ∙ ap (λ (b : Bool). did true b (Commit n) ((says granted 0 k 0 G′) .answer)) (d us K))
 
   -- who holds something exclusively, or is past its writing, was granted a write or settled
-  stamped :
-      (n s : ℕ) (C : Caller S G n s) → (txn (G .txns) s) .kind ≢ aQuery → Marks (S .items) (seen S G) s
+  pub stamped :
+      (n s : ℕ) (C : Caller S G n s) → (Asks ((txn (G .txns) s) .kind) → ⊥) → Marks (S .items) (seen S G) s
       → (us : SoFar) → Known (S .items) us (seen S G) → some (eqb n) (us .stamped) ≡ true
   stamped n s C u m us K =
-      is-true (some (eqb n) (us .stamped)) (subst (λ (m : ℕ). T (some (eqb m) (us .stamped))) (C .name) (K .marked .there s (C .inside, C .alive) u m))
+      is-true (some (eqb n) (us .stamped)) (subst (λ (m : ℕ). T (some (eqb m) (us .stamped))) (C .name) (K .marked .there s (C .inside, C .alive) (λ z. u (inl z)) m))
 
-  unstamped :
+  pub unstamped :
       (n s : ℕ) (C : Caller S G n s) → (Marks (S .items) (seen S G) s → ⊥)
       → (us : SoFar) → Known (S .items) us (seen S G) → some (eqb n) (us .stamped) ≡ false
   unstamped n s C d us K =
@@ -119,27 +129,28 @@ module _ (S : Sizes) (enough : S .slots ≤ S .places) (G : Tables) (g : Good S 
       (λ a. d (K .marked .only s (C .inside, C .alive) (subst (λ (m : ℕ). T (some (eqb m) (us .stamped))) (sym (C .name)) a)))
 
   -- ---- every way
-  happens : (c : Call) (d : Deed) → Way S G c d → Happens S G c (done S d G)
-  unfolding done did told names queryRead readAt
+  unfoldable pub happens : (c : Call) (d : Deed) → Way S G c d → Happens S G c (done S d G)
+  unfolding done did told names versionRead
   happens c d (refused r m) = silent c r G (m .0) (refused-turn S G g)
-  happens c d (waited s k x w) = silent c Wait _ (λ z. omega arith) (wait-turn S G g s k x (w .caller .inside))
+  happens c d (waited s k x w) = silent c Wait _ (λ z. omega arith) (wait-turn S G g s k x (askingJoins S (G .txns) k x) (w .caller .inside))
   happens c d (keptWaiting s C q) = silent c Wait G (λ z. omega arith) (refused-turn S G g)
   happens c d (beganUpdate s free l) = plainly c _ _ refl (begin-update-turn S G g anUpdate firstStamp s free refl) (λ u w. refl)
   happens c d (beganQuery s free l) = plainly c _ _ refl (begin-query-turn S G g aQuery (clock (G .txns)) s free refl refl) (λ u w. refl)
+  happens c d (beganRelaxed s free l a) = plainly c _ _ refl (begin-relaxed-turn S G g aRelaxed firstStamp s free refl) (λ u w. refl)
   happens c d (readOwn n s x U h) = plainly c _ _ refl (own-turn S G g n s x (U .caller) (U .known) (U .update) h) (λ u w. refl)
   happens c d (readNewest n s x U h) = plainly c _ _ refl (newest-turn S G g n s x (U .caller) (U .known) (U .update) h) (λ u w. refl)
   happens c d (readShared n s x U h f) = plainly c _ _ refl (shared-turn S G g n s x (U .caller) (U .known) (U .update) f) (λ u w. refl)
   happens c d (readSettled n s x C p b h) = plainly c _ _ refl (past-turn S G g n s x C b p h) (λ u w. refl)
-  happens c d (readByStart n s x C q b own free) = plainly c _ _ refl (start-read-turn S G g n s x (lookedAt S G s x) C q b own free) (λ u w. refl)
+  happens c d (readVersion n s x C q b own free) = plainly c _ _ refl (version-read-turn S G g n s x (lookedAt S G s x) C q b own free) (λ u w. refl)
   happens c d (wroteOwn n s x v U h) = plainly c _ _ refl (own-write-turn S G g n s x (U .caller) (U .known) (U .update) v h) (λ u w. refl)
   happens c d (wroteSettled n s x v C p b h) = plainly c _ _ refl (past-write-turn S G g n s x C b v p h) (λ u w. refl)
   happens c d (wroteTaken n s x v U h alone q) = plainly c _ _ refl (taken-turn S G g n s x (U .caller) (U .known) (U .update) v alone) (λ u w. refl)
   happens c d (committedUpdate n s C u i l w) =
-      let q : (txn (G .txns) s) .kind ≢ aQuery = λ z. let k = update-live (txn (G .txns) s) u .1 in omega arith in
+      let q = writes-not-asks (update-live (txn (G .txns) s) u .1) (λ z. omega arith) (λ z. omega arith) in
       commits-as n s (clock (G .txns) + 1) C (committed S s G) true q (stamped n s C q (inr (held-some S (G .locks) s w)))
-      (commit-turn S G g enough n s C (eq-make n n refl) u)
+      (commit-turn S G g enough n s C u (eq-make n n refl))
   happens c d (committedEmpty n s C u i e) =
-      commits-as n s (clock (G .txns)) C (aborted S s G) false (λ z. let k = update-live (txn (G .txns) s) u .1 in omega arith)
+      commits-as n s (clock (G .txns)) C (aborted S s G) false (writes-not-asks (update-live (txn (G .txns) s) u .1) (λ z. omega arith) (λ z. omega arith))
       (unstamped n s C none) (empty-turn S G g enough n s C (eq-make n n refl) u (held-none S (G .locks) s e))
     where
       none : Marks (S .items) (seen S G) s → ⊥
@@ -147,19 +158,19 @@ module _ (S : Sizes) (enough : S .slots ≤ S .places) (G : Tables) (g : Good S 
       none (inr (x, b, h)) = subst T (held-none S (G .locks) s e x b) h
   happens c d (committedSettled n s C p) =
       let k = settled-live (txn (G .txns) s) p .1 in
-      let q : (txn (G .txns) s) .kind ≢ aQuery = λ z. omega arith in
+      let q = writes-not-asks k (λ z. omega arith) (λ z. omega arith) in
       commits-as n s ((txn (G .txns) s) .start) C (settledCommitted S s G) true q (stamped n s C q (inl k))
-      (settled-commit-turn S G g enough n s C (eq-make n n refl) p)
+      (settled-commit-turn S G g enough n s C p (eq-make n n refl))
   happens c d (committedQuery n s C q) =
       grants c _ _ refl (end-turn S G g enough n s C (eq-make n n refl))
       (λ us K.
       ap (λ (b : Bool). did b (some (eqb n) (us .stamped)) (Commit n) ((done S d G) .answer))
       (is-false (some (eqb n) (us .updates))
-      (λ a. K .begun .queries s ((C .inside, C .alive), query-live (txn (G .txns) s) q .1) (subst (λ (m : ℕ). T (some (eqb m) (us .updates))) (sym (C .name)) a))))
+      (λ a. K .begun .queries s (C .inside, C .alive) (query-asks (txn (G .txns) s) (query-cases (txn (G .txns) s) q)) (subst (λ (m : ℕ). T (some (eqb m) (us .updates))) (sym (C .name)) a))))
   happens c d (abortedUpdate n s C u) = plainly c _ _ refl (abort-turn S G g enough n s C (eq-make n n refl)) (λ u w. refl)
   happens c d (abortedSettled n s C p) = plainly c _ _ refl (settled-abort-turn S G g enough n s C (eq-make n n refl)) (λ u w. refl)
   happens c d (abortedQuery n s C q) = plainly c _ _ refl (end-turn S G g enough n s C (eq-make n n refl)) (λ u w. refl)
-  happens c d (settledUpdate n s C u i l) = plainly c _ _ refl (settle-turn S G g enough n s C u) (λ u w. refl)
+  happens c d (settledUpdate n s C u i l a) = plainly c _ _ refl (settle-turn S G g enough n s C u) (λ u w. refl)
 
 -- ---- a step
 module _ (S : Sizes) (enough : S .slots ≤ S .places) where
@@ -211,7 +222,7 @@ module _ (S : Sizes) (enough : S .slots ≤ S .places) where
     unfolding some
     fresh-known =
         record {
-          begun = record { updates = λ s a k. absurd (nobody s (a .0) (a .1)); queries = λ s q a. a; given = λ n a. absurd a };
+          begun = record { updates = λ s a k. absurd (nobody s (a .0) (a .1)); queries = λ s b q a. a; given = λ n a. absurd a };
           marked = record { there = λ s a k m. absurd (nobody s (a .0) (a .1)); only = λ s a h. absurd h; given = λ n a. absurd a };
         }
 

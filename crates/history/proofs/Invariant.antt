@@ -8,6 +8,7 @@
 -- Who is past its writing (request E6) has its place from its settle on, though it stands there only when it commits: what it has done
 -- it could do at that place (Own), and whoever stands behind, or will stand behind, names no item that it may change (`clear`), for
 -- its locks keep updates away and hold later readers back. So its commit changes nothing for them.
+-- A relaxed query (request E11) stands nowhere, holds nothing and changes nothing of what the others see.
 -- Trimming does not matter: it takes only versions that nobody's start chooses, and the newest stays.
 use Prim.Native.Nat.{ℕ, _+_, _*_, _≤_, _<_, _%_}
 use mathlib.Core.Path.{_≡_}
@@ -15,7 +16,7 @@ use mathlib.Core.Logic.{_≢_, _⊎_}
 use mathlib.Core.Bool.{Bool, cond}
 use mathlib.Core.List.{List, []}
 use lib.Dec.{T}
-use Rattle.rules.specs.Tables.{anUpdate, aQuery, aSettled}
+use Rattle.rules.specs.Tables.{anUpdate, aQuery, aSettled, aRelaxed}
 use Rattle.history.specs.Happened.{Access}
 use Rattle.history.specs.Serial.{Entry, numbersOf, Absent, Once}
 use Rattle.history.proofs.Plain.{Array, agrees, final}
@@ -40,8 +41,10 @@ pub record View : Type 1 where
   pub working : ℕ → ℕ
   -- what who reads by a start, in the slot, reads of the item
   pub snapshot : ℕ → ℕ → ℕ
+  -- what a relaxed query in the slot reads of it: no theorem on strict queries goes by this
+  pub shown : ℕ → ℕ → ℕ
 
--- an update that still writes; a query; an update past its writing; who reads by a start
+-- an update that still writes; a query; an update past its writing; a relaxed query (request E11); who reads by a start
 abbrev pub update : View → ℕ → Type 0
 update W s = W .alive s × (W .kind s ≡ anUpdate)
 
@@ -51,14 +54,21 @@ query W s = W .alive s × (W .kind s ≡ aQuery)
 abbrev pub settled : View → ℕ → Type 0
 settled W s = W .alive s × (W .kind s ≡ aSettled)
 
+abbrev pub relaxed : View → ℕ → Type 0
+relaxed W s = W .alive s × (W .kind s ≡ aRelaxed)
+
 abbrev pub reader : View → ℕ → Type 0
-reader W s = W .alive s × (W .kind s ≢ anUpdate)
+reader W s = W .alive s × (W .kind s ≢ anUpdate) × (W .kind s ≢ aRelaxed)
+
+-- a query, relaxed or not
+abbrev pub Asks : ℕ → Type 0
+Asks k = (k ≡ aQuery) ⊎ (k ≡ aRelaxed)
 
 -- ---- what good tables give
 pub record Fair (items : ℕ) (W : View) : Type 0 where
   pub known : (s : ℕ) → W .alive s → W .number s ≤ W .last
   pub apart : (s r : ℕ) → W .alive s → W .alive r → s ≢ r → W .number s ≢ W .number r
-  pub listed : (s : ℕ) → W .alive s → (W .kind s ≡ anUpdate) ⊎ ((W .kind s ≡ aQuery) ⊎ (W .kind s ≡ aSettled))
+  pub listed : (s : ℕ) → W .alive s → (W .kind s ≡ anUpdate) ⊎ ((W .kind s ≡ aQuery) ⊎ ((W .kind s ≡ aSettled) ⊎ (W .kind s ≡ aRelaxed)))
   pub low : (s : ℕ) → reader W s → W .start s ≤ W .clock
   pub stamps-apart : (s r : ℕ) → settled W s → settled W r → s ≢ r → W .start s ≢ W .start r
   pub alone : (s r x : ℕ) → x < items → s ≢ r → T (W .writes s x) → T (W .holds r x) → ⊥
@@ -103,7 +113,7 @@ pub record Own (items : ℕ) (es : List Entry) (log : ℕ → List Access) (W : 
 
 -- ---- whoever lives in slot s
 pub record Slot (items : ℕ) (es : List Entry) (log : ℕ → List Access) (W : View) (s : ℕ) : Type 0 where
-  -- an update is not yet in the order, so that what it does changes nothing there
+  -- an update is not yet in the order, so that what it does changes nothing there, and a relaxed query never is
   pub waiting : W .kind s ≢ aQuery → Absent (W .number s) (numbersOf es)
   -- on whatever array it is done again, it ends in its working values, where it holds exclusively, and changes nothing elsewhere
   pub ends :
@@ -111,7 +121,7 @@ pub record Slot (items : ℕ) (es : List Entry) (log : ℕ → List Access) (W :
   pub pending : W .kind s ≡ anUpdate → Pending items W s (log (W .number s))
   pub own : W .kind s ≡ aSettled → Own items es log W s
   -- who reads by a start sees the array behind all updates with stamps up to it
-  pub snapped : W .kind s ≢ anUpdate → (x : ℕ) → x < items → arrayAt (2 * W .start s + 1) es log x ≡ W .snapshot s x
+  pub snapped : W .kind s ≢ anUpdate → W .kind s ≢ aRelaxed → (x : ℕ) → x < items → arrayAt (2 * W .start s + 1) es log x ≡ W .snapshot s x
   -- a query stands there
   pub placed : W .kind s ≡ aQuery → All (λ p n. n ≡ W .number s → p ≡ 2 * W .start s + 1) es
 

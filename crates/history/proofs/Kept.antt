@@ -7,7 +7,7 @@ use mathlib.Core.Bool.{Bool, true, false, cond}
 use mathlib.Core.List.{List}
 use native.Mathlib.Omega.{arith}
 use lib.Dec.{T}
-use Rattle.rules.specs.Tables.{anUpdate, aQuery, aSettled}
+use Rattle.rules.specs.Tables.{anUpdate, aQuery, aSettled, aRelaxed}
 use Rattle.rules.proofs.Tests.{true-is}
 use Rattle.history.specs.Happened.{Access}
 use Rattle.history.specs.Serial.{Entry, numbersOf, Absent}
@@ -57,7 +57,7 @@ module _
   where
     own-kept : W .kind r ≡ aSettled → Own items es log W r → Own items es′ log′ W′ r
     own-kept k o =
-        let l = F .low r (a, λ z. omega arith) in
+        let l = F .low r (a, λ z. omega arith, λ z. omega arith) in
         let same : arrayAt (2 * W .start r) es′ log′ ≡ arrayAt (2 * W .start r) es log = U .arrays (2 * W .start r) (omega arith) in
         record {
           vacant = rw (R .start-is) (U .vacant k (o .vacant));
@@ -74,10 +74,11 @@ module _
               rw (R .number-is, U .log-is)
               (pending-kept items W W′ r L (log (W .number r)) (U .current) (S .pending (sym (R .kind-is) ∙ k)));
           own = λ k. own-kept (sym (R .kind-is) ∙ k) (S .own (sym (R .kind-is) ∙ k));
-          snapped = λ k x b.
+          snapped = λ k j x b.
               let k′ : W .kind r ≢ anUpdate = λ z. k (R .kind-is ∙ z) in
-              let l = F .low r (a, k′) in
-              rw (R .start-is, U .arrays (2 * W .start r + 1) (omega arith)) (S .snapped k′ x b ∙ sym (sees x b (R .lives-on a, k)));
+              let j′ : W .kind r ≢ aRelaxed = λ z. j (R .kind-is ∙ z) in
+              let l = F .low r (a, k′, j′) in
+              rw (R .start-is, U .arrays (2 * W .start r + 1) (omega arith)) (S .snapped k′ j′ x b ∙ sym (sees x b (R .lives-on a, k, j)));
           placed = λ k. rw (R .start-is, R .number-is) (U .placed (sym (R .kind-is) ∙ k) (S .placed (sym (R .kind-is) ∙ k)));
         }
 

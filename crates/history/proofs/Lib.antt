@@ -29,4 +29,16 @@ pub mod Numbers
 pub mod Reading
 pub mod Follows
 pub mod Query
+pub mod RelaxedMoves
+pub mod RelaxedItems
+pub mod RelaxedLists
+pub mod RelaxedTurns
+pub mod RelaxedPhase
+pub mod RelaxedBegin
+pub mod RelaxedDuring
+pub mod RelaxedStamps
+pub mod RelaxedStampTurn
+pub mod RelaxedRun
+pub mod RelaxedStampRun
+pub mod RelaxedDemand
 pub mod Demand

@@ -14,7 +14,7 @@ use Rattle.rules.proofs.Tests.{or-cases, or-left, or-right, eq-make, true-is, s
 use Rattle.history.specs.Happened.{Happening, SoFar, begunWith}
 use Rattle.history.proofs.Invariant.{View, Fair, Row, Locks}
 use Rattle.history.proofs.Turns.{New, Puts, Left, Settles, Begun, begun-on}
-use Rattle.history.proofs.Turns.{Turn, quiet, updateBegins, queryBegins, reads, writes, commits, commitsEmpty, settles, commitsSettled, ends}
+use Rattle.history.proofs.Turns.{Turn, quiet, updateBegins, queryBegins, relaxedBegins, reads, writes, commits, commitsEmpty, settles, commitsSettled, ends}
 
 -- slot s is past its writing, or holds an item exclusively
 abbrev pub Marks : ℕ → View → ℕ → Type 0
@@ -118,15 +118,17 @@ module _ (items : ℕ) (W W′ : View) (F : Fair items W) (so : SoFar) (K : Know
   abbrev M : Marked items ws W
   M = K .marked
 
+  -- who begins holds nothing
+  none : (s : ℕ) {k : ℕ} → W′ .kind s ≡ k → k ≢ aSettled → ((x : ℕ) → x < items → W′ .writes s x ≡ false) → Marks items W′ s → ⊥
+  none s e d free (inl z) = d (sym e ∙ z)
+  none s e d free (inr (x, b, w)) = subst T (free x b) w
+
   marked-on : {c : Call} {h : Happening} → Turn items W W′ c h → Marked items ((begunWith h so) .stamped) W′
   unfolding begunWith
   marked-on (quiet A) = kept items W W′ F ws M (λ r a. A .rows r) (λ r a. A .locks r) (A .last)
-  marked-on (updateBegins s B k free) = new items W W′ F ws M s B (λ z m. none m)
-    where
-      none : Marks items W′ s → ⊥
-      none (inl e) = omega arith
-      none (inr (x, b, w)) = subst T (free x b) w
+  marked-on (updateBegins s B k free) = new items W W′ F ws M s B (λ z m. none s k (λ e. omega arith) free m)
   marked-on (queryBegins s B q z e) = new items W W′ F ws M s B (λ d m. d (q .1))
+  marked-on (relaxedBegins s B q free) = new items W W′ F ws M s B (λ z m. none s (q .1) (λ e. omega arith) free m)
   marked-on (reads n s x v m b A g) = kept items W W′ F ws M (λ r a. A .rows r) (λ r a. A .locks r) (A .last)
   marked-on (writes n s x v m b P) =
       marks items W W′ F ws M n s m (P .alive) (P .rows s .number-is) (inr (x, b, true-is (P .writes-it))) (λ r d. P .rows r) (P .locks) (P .last)

@@ -18,7 +18,7 @@ use Rattle.history.specs.Runs.{run}
 use Rattle.history.specs.Happened.{SoFar, noneSoFar, Happening, updateCommitted, emptyCommitted, happened, begunWith, happeningsAfter, happenings, allOf}
 use Rattle.history.specs.Numbers.{numberOf, stampOf, stampsAfter, CountsFrom, CommitsUnder, StampsKept, Upward}
 use Rattle.history.proofs.Invariant.{View}
-use Rattle.history.proofs.Turns.{Turn, quiet, updateBegins, queryBegins, reads, writes, commits, commitsEmpty, settles, commitsSettled, ends}
+use Rattle.history.proofs.Turns.{Turn, quiet, updateBegins, queryBegins, relaxedBegins, reads, writes, commits, commitsEmpty, settles, commitsSettled, ends}
 use Rattle.history.proofs.Marked.{Known}
 use Rattle.history.proofs.Tables.{fresh-last, fresh-clock}
 use Rattle.history.proofs.Seen.{seen, seen-fair}
@@ -44,6 +44,7 @@ module _ (items : ℕ) (W W′ : View) where
   numbers-turn (quiet A) = inl (refl, A .last)
   numbers-turn (updateBegins s B q f) = inr (refl, B .last)
   numbers-turn (queryBegins s B q u e) = inr (refl, B .last)
+  numbers-turn (relaxedBegins s B q e) = inr (refl, B .last)
   numbers-turn (reads n s x v e b A g) = inl (refl, A .last)
   numbers-turn (writes n s x v e b P) = inl (refl, P .last)
   numbers-turn (commits n s e a u L o f k) = inl (refl, L .last)
@@ -57,6 +58,7 @@ module _ (items : ℕ) (W W′ : View) where
   stamps-turn ss P (quiet A) = inl (refl, A .clock)
   stamps-turn ss P (updateBegins s B q f) = inl (refl, B .clock)
   stamps-turn ss P (queryBegins s B q u e) = inl (refl, B .clock)
+  stamps-turn ss P (relaxedBegins s B q e) = inl (refl, B .clock)
   stamps-turn ss P (reads n s x v e b A g) = inl (refl, A .clock)
   stamps-turn ss P (writes n s x v e b Q) = inl (refl, Q .clock)
   stamps-turn ss P (commits n s e a u L o f k) =

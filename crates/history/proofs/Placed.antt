@@ -82,7 +82,7 @@ module _ (items : ℕ) (es : List Entry) (log : ℕ → List Access) (W W′ : V
           ends = λ z. absurd (z (q .1));
           pending = λ z. absurd (let k = q .1 in omega arith);
           own = λ z. absurd (let k = q .1 in omega arith);
-          snapped = λ z x b.
+          snapped = λ z j x b.
               rw st
               (ap (λ (a : Array). a x) (arrays e (omega arith) (2 * W .clock + 1) (omega arith)) ∙ newest x b ∙ sym (sees x b));
           placed = λ z.
@@ -179,7 +179,7 @@ module _ (items : ℕ) (es : List Entry) (log : ℕ → List Access) (W W′ : V
               let R = L .rows r d in
               slot-kept items es (insert E es) log log W W′ F r R (L .locks r d) (R .was a)
               (unmoved E (omega arith) r (F .apart s r (L .alive) (R .was a) (λ z. d (sym z)))
-              (λ k z. let l = F .low r (R .was a, λ i. omega arith) in let z′ : 2 * (W .clock + 1) ≡ 2 * W .start r = z in omega arith)
+              (λ k z. let l = F .low r (R .was a, λ i. omega arith, λ i. omega arith) in let z′ : 2 * (W .clock + 1) ≡ 2 * W .start r = z in omega arith)
               (λ k. pending-free items W F r s (log (W .number s)) d P) (still r d))
               (sees r d) (J .slots r (R .was a))
 

@@ -3,18 +3,18 @@ use Prim.Native.Nat.{ℕ, _+_, _*_, _≤_, _<_}
 use mathlib.Core.Path.{_≡_, sym, subst, fun-ext}
 use mathlib.Core.Logic.{_⊎_, inl, inr}
 use mathlib.Core.List.{List, [], _++_, append-nil}
-use Rattle.rules.specs.Tables.{anUpdate, aQuery, aSettled}
+use Rattle.rules.specs.Tables.{anUpdate, aQuery, aSettled, aRelaxed}
 use Rattle.rules.specs.Answers.{Call}
 use lib.Dec.{T}
 use Rattle.history.specs.Happened.{Access, got, put, Happening}
 use Rattle.history.specs.Serial.{Entry, insert, insertAll, accessOf, placeOf}
 use Rattle.history.proofs.Replay.{added}
 use Rattle.history.proofs.Invariant.{View, Fair, Inv, reader, settled}
-use Rattle.history.proofs.Turns.{Same, byLock, byOwn, byStart, Turn, quiet, updateBegins, queryBegins, reads, writes, commits, commitsEmpty, settles, commitsSettled, ends}
-use Rattle.history.proofs.Steps.{quiet-step, left-step, begin-update-step, settle-step}
+use Rattle.history.proofs.Turns.{Same, byLock, byOwn, byStart, bySet, Turn, quiet, updateBegins, queryBegins, relaxedBegins, reads, writes, commits, commitsEmpty, settles, commitsSettled, ends}
+use Rattle.history.proofs.Steps.{quiet-step, left-step, begin-unplaced-step, settle-step}
 use Rattle.history.proofs.Placed.{begin-query-step, commit-step, empty-commit-step}
 use Rattle.history.proofs.Between.{settled-commit-step}
-use Rattle.history.proofs.Grown.{lock-read-step, own-read-step, start-read-step, query-read-step, write-step}
+use Rattle.history.proofs.Grown.{lock-read-step, own-read-step, start-read-step, query-read-step, relaxed-read-step, write-step}
 
 module _ (items : ℕ) (es : List Entry) (log : ℕ → List Access) (W W′ : View) (F : Fair items W) (J : Inv items es log W) where
   abbrev Next : Happening → Type 0
@@ -37,22 +37,25 @@ module _ (items : ℕ) (es : List Entry) (log : ℕ → List Access) (W W′ : V
       → v ≡ W .snapshot s x → Inv items es (added log (W .number s) (got x v)) W′
   by-start s x v q b A held is = go (F .listed s (q .0))
     where
-      go : (W .kind s ≡ anUpdate) ⊎ ((W .kind s ≡ aQuery) ⊎ (W .kind s ≡ aSettled)) → Inv items es (added log (W .number s) (got x v)) W′
+      go : (W .kind s ≡ anUpdate) ⊎ ((W .kind s ≡ aQuery) ⊎ ((W .kind s ≡ aSettled) ⊎ (W .kind s ≡ aRelaxed))) → Inv items es (added log (W .number s) (got x v)) W′
       go (inl k) = absurd (q .1 k)
       go (inr (inl k)) = query-read-step items es log W W′ F J s (q .0) x v b A held is k
-      go (inr (inr k)) = start-read-step items es log W W′ F J s (q .0) x v b A held is k
+      go (inr (inr (inr k))) = absurd (q .2 k)
+      go (inr (inr (inl k))) = start-read-step items es log W W′ F J s (q .0) x v b A held is k
 
   pub turn-step : {c : Call} {h : Happening} → Turn items W W′ c h → Next h
   unfolding placeOf accessOf added insertAll
   turn-step (quiet A) = unlogged (quiet-step items es log W W′ F J A)
-  turn-step (updateBegins s B k free) = unlogged (begin-update-step items es log W W′ F J s B k free)
+  turn-step (updateBegins s B k free) = unlogged (begin-unplaced-step items es log W W′ F J s B (inl k) free)
   turn-step (queryBegins s B q z sees) =
       unlogged (placed (2 * W .clock + 1) (B .number) (begin-query-step items es log W W′ F J s B q z sees))
+  turn-step (relaxedBegins s B q free) = unlogged (begin-unplaced-step items es log W W′ F J s B (inr (q .1)) free)
   turn-step (reads n s x v e b A (byLock u h is)) =
       logged n (W .number s) (got x v) e (lock-read-step items es log W W′ F J s (u .0) x v b A (u .1) h is)
   turn-step (reads n s x v e b A (byOwn u w is)) =
       logged n (W .number s) (got x v) e (own-read-step items es log W W′ F J s (u .0) x v b A (u .1) w is)
   turn-step (reads n s x v e b A (byStart q held is)) = logged n (W .number s) (got x v) e (by-start s x v q b A held is)
+  turn-step (reads n s x v e b A (bySet q is)) = logged n (W .number s) (got x v) e (relaxed-read-step items es log W W′ F J s (q .0) x v b A (q .1))
   turn-step (writes n s x v e b P) = logged n (W .number s) (put x v) e (write-step items es log W W′ F J s (P .alive) x v b P)
   turn-step (commits n s e a k L sees cur c) =
       unlogged (placed (2 * (W .clock + 1)) e (commit-step items es log W W′ F J s k L sees cur c))

@@ -15,7 +15,7 @@ use Rattle.history.specs.Happened.{got, Happening, accessed, updateCommi
 use Rattle.history.specs.Serial.{accessOf}
 use Rattle.history.specs.Undisturbed.{commitOf}
 use Rattle.history.proofs.Invariant.{View, Fair, Row, Locks, update, query, settled, reader}
-use Rattle.history.proofs.Turns.{Same, New, Gets, byLock, byOwn, byStart, Puts, Left, Settles, Turn, quiet, updateBegins, queryBegins, reads, writes}
+use Rattle.history.proofs.Turns.{Same, New, Gets, byLock, byOwn, byStart, bySet, Puts, Left, Settles, Turn, quiet, updateBegins, queryBegins, relaxedBegins, reads, writes}
 use Rattle.history.proofs.Turns.{commits, commitsEmpty, settles, commitsSettled, ends}
 use Rattle.history.proofs.Standing.{Unknown, left-unknown}
 
@@ -53,7 +53,7 @@ module _ (items x : ℕ) (bx : x < items) (W W′ : View) (F : Fair items W) (s 
   pub began-open : (b : ℕ) → settled W b → T (W .writes b x) → Open (W .last + 1) x (W .number b) (W .current x) W′
   began-open b p w =
       let R = B .rows b (other b (p .0)) in
-      let l = F .low b (p .0, λ k. let j = p .1 in omega arith) in
+      let l = F .low b (p .0, λ k. let j = p .1 in omega arith, λ k. let j = p .1 in omega arith) in
       record {
         lives = L;
         sees = sees x bx;
@@ -91,6 +91,8 @@ module _ (items : ℕ) (W W′ : View) (F : Fair items W) (n x : ℕ) (bx : x < 
       absurd (let z : W .kind s ≡ W .kind (L .slot) = ap (W .kind) (by-query L s v e (u .0)) in let k = u .1 in let j = L .query .1 in omega arith)
   query-gets L s v e (byOwn u w is) =
       absurd (let z : W .kind s ≡ W .kind (L .slot) = ap (W .kind) (by-query L s v e (u .0)) in let k = u .1 in let j = L .query .1 in omega arith)
+  query-gets L s v e (bySet u is) =
+      absurd (let z : W .kind s ≡ W .kind (L .slot) = ap (W .kind) (by-query L s v e (u .0)) in let k = u .1 in let j = L .query .1 in omega arith)
   query-gets L s v e (byStart q held is) =
       let z = by-query L s v e (q .0) in
       (is ∙ ap (λ (m : ℕ). W .snapshot m x) z, subst (λ (k : ℕ). (r : ℕ) → settled W r → W .start r ≤ W .start k → T (W .writes r x) → ⊥) z held)
@@ -106,7 +108,7 @@ module _ (items : ℕ) (W W′ : View) (F : Fair items W) (n x : ℕ) (bx : x < 
   lives-on L R = record { slot = L .slot; query = (R .lives-on (L .query .0), R .kind-is ∙ L .query .1); name = R .number-is ∙ L .name }
 
   as-reader : (L : Lives n W) (R : Row W W′ (L .slot)) → reader W′ (L .slot)
-  as-reader L R = (R .lives-on (L .query .0), λ z. let k = R .kind-is in let j = L .query .1 in omega arith)
+  as-reader L R = (R .lives-on (L .query .0), λ z. let k = R .kind-is in let j = L .query .1 in omega arith, λ z. let k = R .kind-is in let j = L .query .1 in omega arith)
 
   -- who is past its writing since, with a stamp up to its start, and holds the item, was and did so before
   abbrev Before : ℕ → Type 0
@@ -231,7 +233,7 @@ module _ (items : ℕ) (W W′ : View) (F : Fair items W) (n x : ℕ) (bx : x < 
             (let i : W′ .start r ≡ W′ .start s = ap (W′ .start) e in
             let j = B .start in
             let q = H .lives .query in
-            let o = F .low (H .lives .slot) (q .0, λ z. let k = q .1 in omega arith) in
+            let o = F .low (H .lives .slot) (q .0, λ z. let k = q .1 in omega arith, λ z. let k = q .1 in omega arith) in
             omega arith)
         go r p l w (inr d) = before-kept (H .lives .slot) r (B .rows r d) (B .locks r d) p l w
 
@@ -298,6 +300,7 @@ module _ (items : ℕ) (W W′ : View) (F : Fair items W) (n x : ℕ) (bx : x < 
   fixed-on H (quiet A) = inr (same-fixed A H)
   fixed-on H (updateBegins s B k f) = inr (new-fixed s B (λ z. omega arith) H)
   fixed-on H (queryBegins s B q z e) = inr (new-fixed s B (λ z. let k = q .1 in omega arith) H)
+  fixed-on H (relaxedBegins s B q e) = inr (new-fixed s B (λ z. let k = q .1 in omega arith) H)
   fixed-on H (reads m s y u e b A g) = inr (same-fixed A H)
   fixed-on H (writes m s y u e b P) = inr (put-fixed s y u P H)
   fixed-on H (commits m s e a k L sees f i) =
@@ -330,6 +333,7 @@ module _ (items : ℕ) (W W′ : View) (F : Fair items W) (n x : ℕ) (bx : x < 
   open-on H (quiet A) = stays (same-open A H)
   open-on H (updateBegins s B k f) = stays (new-open s B (λ z. omega arith) H)
   open-on H (queryBegins s B q z e) = stays (new-open s B (λ z. let k = q .1 in omega arith) H)
+  open-on H (relaxedBegins s B q e) = stays (new-open s B (λ z. let k = q .1 in omega arith) H)
   open-on H (reads k s y u e b A g) = stays (same-open A H)
   open-on H (writes k s y u e b P) = stays (put-open s y u P H)
   open-on H (commits j s e a k L sees f i) =

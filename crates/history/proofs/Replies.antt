@@ -8,7 +8,7 @@ use Rattle.names.specs.declared.Sizes.{Sizes}
 use Rattle.rules.specs.Words.{some}
 use Rattle.rules.specs.Tables.{Tables, slotOf}
 use Rattle.rules.specs.Good.{Good}
-use Rattle.rules.specs.Answers.{Call, BeginUpdate, BeginQuery, Read, Write, Commit, Abort, Settle, granted, refuses, UnknownTransaction, Refused}
+use Rattle.rules.specs.Answers.{Call, BeginUpdate, BeginQuery, Read, Write, Commit, Abort, Settle, BeginRelaxed, granted, refuses, UnknownTransaction, Refused}
 use Rattle.rules.specs.Step.{readBy, writeBy, commitBy, abortBy, settleBy, judged, done, act, step}
 use Rattle.rules.proofs.Callers.{caller-in}
 use Rattle.rules.proofs.Steps.{acts}
@@ -34,6 +34,7 @@ module _ (S : Sizes) (n : ℕ) (G : Tables) (g : Good S G) (U : Unknown n (seen 
   unfolding judged names readBy writeBy commitBy abortBy settleBy
   unknown-judged BeginUpdate a = absurd a
   unknown-judged BeginQuery a = absurd a
+  unknown-judged BeginRelaxed a = absurd a
   unknown-judged (Read m x) a = rw (eqb→eq m n a, nowhere)
   unknown-judged (Write m x v) a = rw (eqb→eq m n a, nowhere)
   unknown-judged (Commit m) a = rw (eqb→eq m n a, nowhere)

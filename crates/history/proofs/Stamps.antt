@@ -14,7 +14,7 @@ use Rattle.rules.proofs.Tests.{or-cases, or-left, or-right, eq-make, same?}
 use Rattle.history.specs.Happened.{Happening, updateCommitted, emptyCommitted, settledUnder}
 use Rattle.history.specs.Numbers.{settledWith}
 use Rattle.history.proofs.Invariant.{View, Fair, Row, settled}
-use Rattle.history.proofs.Turns.{New, Left, Settles, Turn, quiet, updateBegins, queryBegins, reads, writes, commits, commitsEmpty, settles, commitsSettled, ends}
+use Rattle.history.proofs.Turns.{New, Left, Settles, Turn, quiet, updateBegins, queryBegins, relaxedBegins, reads, writes, commits, commitsEmpty, settles, commitsSettled, ends}
 use Rattle.history.proofs.Standing.{Unknown, left-unknown}
 
 -- ---- those past their writing are among ss, the others are not, and all of ss were given
@@ -93,6 +93,7 @@ module _ (items : ℕ) (W W′ : View) (F : Fair items W) where
     past-on (quiet A) = kept-past (λ r a. A .rows r) (A .last)
     past-on (updateBegins s B k f) = new-past s B (λ z. omega arith)
     past-on (queryBegins s B q z f) = new-past s B (λ e. let k = q .1 in omega arith)
+    past-on (relaxedBegins s B q f) = new-past s B (λ e. let k = q .1 in omega arith)
     past-on (reads n s x v e b A g) = kept-past (λ r a. A .rows r) (A .last)
     past-on (writes n s x v e b Q) = kept-past (λ r a. Q .rows r) (Q .last)
     past-on (commits n s e a k L o f i) = left-past s L
@@ -154,6 +155,7 @@ module _ (items : ℕ) (W W′ : View) (F : Fair items W) (n d : ℕ) (H : Took 
   took-on (quiet A) = inl (row-took (A .rows (H .slot)))
   took-on (updateBegins s B k f) = inl (new-took s B)
   took-on (queryBegins s B q z f) = inl (new-took s B)
+  took-on (relaxedBegins s B q f) = inl (new-took s B)
   took-on (reads m s x v e b A g) = inl (row-took (A .rows (H .slot)))
   took-on (writes m s x v e b Q) = inl (row-took (Q .rows (H .slot)))
   took-on (commits m s e a k L o f i) = left-took s L

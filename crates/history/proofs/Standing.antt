@@ -8,7 +8,7 @@ use Rattle.rules.specs.Answers.{Call}
 use Rattle.rules.proofs.Tests.{same?}
 use Rattle.history.specs.Happened.{Happening, updateCommitted, emptyCommitted, onlyEnded}
 use Rattle.history.proofs.Invariant.{View, Fair}
-use Rattle.history.proofs.Turns.{Old, row-old, left-old, settles-old, New, Left, Turn, quiet, updateBegins, queryBegins, reads, writes}
+use Rattle.history.proofs.Turns.{Old, row-old, left-old, settles-old, New, Left, Turn, quiet, updateBegins, queryBegins, relaxedBegins, reads, writes}
 use Rattle.history.proofs.Turns.{commits, commitsEmpty, settles, commitsSettled, ends}
 
 -- ---- nobody has the number n, and it was given (or a later one was)
@@ -45,6 +45,7 @@ module _ (items : ℕ) (W W′ : View) (n : ℕ) where
   unknown-on (quiet A) U = old-unknown U (λ r. row-old items W W′ r (A .rows r)) (A .last)
   unknown-on (updateBegins s B q f) U = new-unknown U s B
   unknown-on (queryBegins s B q u e) U = new-unknown U s B
+  unknown-on (relaxedBegins s B q e) U = new-unknown U s B
   unknown-on (reads m s x v e b A g) U = old-unknown U (λ r. row-old items W W′ r (A .rows r)) (A .last)
   unknown-on (writes m s x v e b P) U = old-unknown U (λ r. row-old items W W′ r (P .rows r)) (P .last)
   unknown-on (commits m s e a u L o f k) U = old-unknown U (left-old items W W′ s L) (L .last)

@@ -6,7 +6,7 @@ use mathlib.Core.Logic.{_≢_, _⊎_, inl, inr}
 use mathlib.Core.Bool.{Bool, true, false, cond}
 use mathlib.Core.List.{List}
 use native.Mathlib.Omega.{arith}
-use Rattle.rules.specs.Tables.{anUpdate}
+use Rattle.rules.specs.Tables.{anUpdate, aQuery, aSettled, aRelaxed}
 use Rattle.rules.proofs.Tests.{true-is, same?}
 use Rattle.history.specs.Happened.{Access}
 use Rattle.history.specs.Serial.{Entry, oneByOne}
@@ -85,10 +85,31 @@ module _ (items : ℕ) (es : List Entry) (log : ℕ → List Access) (W W′ : V
       stays : (r : ℕ) → W′ .alive r → r ≢ s
       stays r a e = L .gone (subst (λ (m : ℕ). W′ .alive m) e a)
 
-  -- ---- an update begins, in slot s
-  module _ (s : ℕ) (B : New items W W′ s) (k : W′ .kind s ≡ anUpdate) (free : (x : ℕ) → x < items → W′ .writes s x ≡ false) where
+  -- ---- an update begins, in slot s, or a relaxed query
+  module _ (s : ℕ) (B : New items W W′ s) (k : (W′ .kind s ≡ anUpdate) ⊎ (W′ .kind s ≡ aRelaxed)) (free : (x : ℕ) → x < items → W′ .writes s x ≡ false) where
     new : W .last < W′ .number s
     new = omega (arith, B .number)
+
+    not-settled : W′ .kind s ≢ aSettled
+    not-settled z = go k
+      where
+        go : (W′ .kind s ≡ anUpdate) ⊎ (W′ .kind s ≡ aRelaxed) → ⊥
+        go (inl e) = omega arith
+        go (inr e) = omega arith
+
+    not-query : W′ .kind s ≢ aQuery
+    not-query z = go k
+      where
+        go : (W′ .kind s ≡ anUpdate) ⊎ (W′ .kind s ≡ aRelaxed) → ⊥
+        go (inl e) = omega arith
+        go (inr e) = omega arith
+
+    no-reader : W′ .kind s ≢ anUpdate → W′ .kind s ≢ aRelaxed → ⊥
+    no-reader z j = go k
+      where
+        go : (W′ .kind s ≡ anUpdate) ⊎ (W′ .kind s ≡ aRelaxed) → ⊥
+        go (inl e) = z e
+        go (inr e) = j e
 
     new-slot : Slot items es log W′ s
     unfolding agrees final
@@ -97,16 +118,16 @@ module _ (items : ℕ) (es : List Entry) (log : ℕ → List Access) (W W′ : V
           waiting = λ z. J .unplaced (W′ .number s) new;
           ends = λ z a x b. rw (J .unlogged (W′ .number s) new, free x b);
           pending = λ z. rw (J .unlogged (W′ .number s) new) (record { within = within-none _; reads = tt });
-          own = λ z. absurd (omega arith);
-          snapped = λ z. absurd (z k);
-          placed = λ z. absurd (omega arith);
+          own = λ z. absurd (not-settled z);
+          snapped = λ z j. absurd (no-reader z j);
+          placed = λ z. absurd (not-query z);
         }
 
     other : (r : ℕ) → settled W′ r → r ≢ s
-    other r a e = let z : W′ .kind r ≡ W′ .kind s = ap (W′ .kind) e in let b = a .1 in omega arith
+    other r a e = not-settled (sym (ap (W′ .kind) e) ∙ a .1)
 
-    pub begin-update-step : Inv items es log W′
-    begin-update-step =
+    pub begin-unplaced-step : Inv items es log W′
+    begin-unplaced-step =
         same-step (B .current) (let l = B .last in omega arith) (let c = B .clock in omega arith) (λ r a. go r a (same? r s))
         (λ q r a b l. clear-kept items log log W W′ q r (B .rows q (other q a)) (B .rows r (other r b)) (B .locks q (other q a)) refl (J .clear q r) a b l)
       where
@@ -150,7 +171,7 @@ module _ (items : ℕ) (es : List Entry) (log : ℕ → List Access) (W W′ : V
               rw (B .number) (J .slots s (B .update .0) .ends (λ q. let k = B .update .1 in omega arith) a x b ∙ working-on x b (a x));
           pending = λ z. absurd (let k = B .kind in omega arith);
           own = λ z. settled-own;
-          snapped = λ z x b. rw (B .start) (top-array (2 * (W .clock + 1) + 1) (omega arith) x b ∙ sym (B .snapshot x b));
+          snapped = λ z j x b. rw (B .start) (top-array (2 * (W .clock + 1) + 1) (omega arith) x b ∙ sym (B .snapshot x b));
           placed = λ z. absurd (let k = B .kind in omega arith);
         }
 
@@ -175,7 +196,7 @@ module _ (items : ℕ) (es : List Entry) (log : ℕ → List Access) (W W′ : V
             (let R = B .rows r d in
             let z : W′ .start q ≡ W′ .start s = ap (W′ .start) e in
             let c = B .start in
-            let m = F .low r (R .was (b .0), λ k. let i = R .kind-is in let j = b .1 in omega arith) in
+            let m = F .low r (R .was (b .0), λ k. let i = R .kind-is in let j = b .1 in omega arith, λ k. let i = R .kind-is in let j = b .1 in omega arith) in
             let o = R .start-is in
             omega arith)
         -- and it names only what it held

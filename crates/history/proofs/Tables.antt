@@ -13,15 +13,17 @@ use Rattle.names.specs.declared.Sizes.{Sizes}
 use Rattle.rules.specs.Words.{bit, withBit, withoutBit}
 use Rattle.rules.specs.Tables.{Tables, txnWords, lastNumber, clock, Txn, txn, newTxn, withRank}
 use Rattle.rules.specs.Tables.{Lock, lock, holds, holdsShared, holdsExclusive, released, release, unshared, fresh}
-use Rattle.rules.specs.Versions.{noVersion, pairs, versionsIn, versionsOf, newest}
+use Rattle.rules.specs.Versions.{noVersion, versionsFrom, versionsIn, versionsOf, newest}
 use Rattle.rules.specs.Waits.{awaitsOn, rankFor, raised, noted, closedUp}
 use Rattle.rules.specs.Good.{Good}
 use Rattle.rules.specs.Changed.{leaving}
-use Rattle.rules.specs.Step.{sharedToo, replaced, taken, begun, counted, cleared}
+use Rattle.rules.specs.Step.{sharedToo, replaced, taken, begun, counted, cleared, joined, readNoted}
 use Rattle.rules.proofs.Tests.{or-cases, or-left, or-right, is-false, true-is, false-is, same?}
 use Rattle.rules.proofs.Bits.{withBit-here, withBit-there, withoutBit-there}
 use Rattle.rules.proofs.Views.{awaiting, lastNumber-setTxn, clock-setTxn, txn-setTxn, txn-setTxn-other, txn-top, lock-release}
 use Rattle.rules.proofs.Counting.{counted-same, counted-last, counted-clock}
+use Rattle.rules.proofs.Joined.{joined-same, joined-last, joined-clock}
+use Rattle.rules.proofs.ReadNoted.{read-same, read-last, read-clock}
 use Rattle.rules.proofs.Noting.{noted-known, noted-last, noted-clock, noted-there, noted-out, noted-here, closed-row, closed-out}
 use Rattle.rules.proofs.Waited.{cleared-last, cleared-clock, cleared-here, cleared-as-closed}
 use Rattle.rules.proofs.Decisions.{exclusive-one}
@@ -42,11 +44,24 @@ same-but-rank p e = record { number-is = ap (λ (o : Txn). o .number) e; kind-is
 same-but-wait : {t t′ : List ℕ} {r : ℕ} (k x p : ℕ) → txn t′ r ≡ awaiting (txn t r) k x p → SameRow t t′ r
 same-but-wait k x p e = record { number-is = ap (λ (o : Txn). o .number) e; kind-is = ap (λ (o : Txn). o .kind) e; start-is = ap (λ (o : Txn). o .start) e }
 
--- ---- a wait is noted or cleared, a read is counted: nothing of this is seen
+-- ---- a wait is noted or cleared, a read is counted or noted, an update joins sets: nothing of this is seen
 pub record Quiet (t t′ : List ℕ) : Type 0 where
   pub rows : (r : ℕ) → SameRow t t′ r
   pub last : lastNumber t′ ≡ lastNumber t
   pub clock-is : clock t′ ≡ clock t
+
+pub quiet-on : {t u w : List ℕ} → Quiet t u → Quiet u w → Quiet t w
+quiet-on p q =
+    record {
+      rows = λ r.
+          record {
+            number-is = q .rows r .number-is ∙ p .rows r .number-is;
+            kind-is = q .rows r .kind-is ∙ p .rows r .kind-is;
+            start-is = q .rows r .start-is ∙ p .rows r .start-is;
+          };
+      last = q .last ∙ p .last;
+      clock-is = q .clock-is ∙ p .clock-is;
+    }
 
 pub inside? : (r n : ℕ) → (r < n) ⊎ (n ≤ r)
 inside? r n = go (ltb r n) refl
@@ -72,6 +87,33 @@ module _ (S : Sizes) (t : List ℕ) (size : length t ≡ txnWords S) (s : ℕ) (
             last = noted-last S t l s k x (false-is e);
             clock-is = noted-clock S t l s k x (false-is e);
           }
+
+  -- request E11
+  pub joined-quiet : (m : ℕ) → Quiet t (joined t s m)
+  joined-quiet m =
+      record {
+        rows = λ r.
+            record {
+              number-is = joined-same t s m S size inside (λ (o : Txn). o .number) (λ o v. refl) r;
+              kind-is = joined-same t s m S size inside (λ (o : Txn). o .kind) (λ o v. refl) r;
+              start-is = joined-same t s m S size inside (λ (o : Txn). o .start) (λ o v. refl) r;
+            };
+        last = joined-last t s m;
+        clock-is = joined-clock t s m;
+      }
+
+  pub read-quiet : (l : List ℕ) (x : ℕ) → ((b : ℕ) → (lock l x) .exclusive ≡ suc b → b < S .slots) → Quiet t (readNoted t l s x)
+  read-quiet l x h =
+      record {
+        rows = λ r.
+            record {
+              number-is = read-same S t l s x size inside h (λ (o : Txn). o .number) (λ o n w i m. refl) r;
+              kind-is = read-same S t l s x size inside h (λ (o : Txn). o .kind) (λ o n w i m. refl) r;
+              start-is = read-same S t l s x size inside h (λ (o : Txn). o .start) (λ o n w i m. refl) r;
+            };
+        last = read-last S t l s x size inside h;
+        clock-is = read-clock S t l s x size inside h;
+      }
 
   -- request E8
   pub counted-quiet : (k : ℕ) → Quiet t (counted t s k)
@@ -236,5 +278,5 @@ unfolding fresh
 fresh-clock S = zeros (txnWords S) 1
 
 pub fresh-newest : (S : Sizes) (x : ℕ) → x < S .items → newest S ((fresh S) .versions) x ≡ 0
-unfolding newest versionsOf versionsIn pairs
-fresh-newest S x i = ap (λ (r : List ℕ). (getD (versionsIn r) 0 noVersion) .value) (fresh-row S x i) ∙ fresh-row-zero S x 1
+unfolding newest versionsOf versionsIn versionsFrom
+fresh-newest S x i = ap (λ (r : List ℕ). (getD (versionsIn S r) 0 noVersion) .value) (fresh-row S x i) ∙ fresh-row-zero S x 1

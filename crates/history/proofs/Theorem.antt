@@ -67,16 +67,22 @@ module _ (S : Sizes) (enough : S .slots ≤ S .places) where
           clear = λ s r a b l. absurd (nobody S enough room s (a .0 .0) (a .0 .1));
         }
 
+    -- ---- of every run
+    pub run-inv : (cs : List Call) → Inv (S .items) (entriesFrom 0 [] (happenings S cs)) (λ n. grantedTo n (happenings S cs)) (seen S (endOf S cs (fresh S)))
+    unfolding happenings
+    run-inv cs =
+        let hs = happenings S cs in
+        subst (λ (k : ℕ). Inv (S .items) (entriesFrom k [] hs) (λ n. grantedTo n hs) (seen S (endOf S cs (fresh S)))) (fresh-clock S)
+        (after-run cs noneSoFar [] (λ m. []) (fresh S) (fresh-good S room) (fresh-known S enough room) after-fresh)
+
     -- ---- demand 3, its first sentence
     pub serializes : (cs : List Call) → Serializes S cs
-    unfolding serial happenings order
+    unfolding serial order
     serializes cs =
         let hs = happenings S cs in
         let es = entriesFrom 0 [] hs in
         let log : ℕ → List Access = λ n. grantedTo n hs in
-        let J : Inv (S .items) es log (seen S (endOf S cs (fresh S))) =
-        subst (λ (k : ℕ). Inv (S .items) (entriesFrom k [] hs) log (seen S (endOf S cs (fresh S)))) (fresh-clock S)
-        (after-run cs noneSoFar [] (λ m. []) (fresh S) (fresh-good S room) (fresh-known S enough room) after-fresh) in
+        let J = run-inv cs in
         let q = 2 * clock ((endOf S cs (fresh S)) .txns) + 2 in
         let all = oneByOne log (numbersOf es) in
         let whole = below-all q es (all-map _ _ (λ p n l. omega arith) es (J .most)) in

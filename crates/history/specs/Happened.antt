@@ -13,7 +13,7 @@ use Rattle.names.specs.declared.Sizes.{Sizes}
 use Rattle.names.specs.declared.Answer.{Answer}
 use Rattle.rules.specs.Words.{some}
 use Rattle.rules.specs.Tables.{fresh}
-use Rattle.rules.specs.Answers.{Call, BeginUpdate, BeginQuery, Read, Write, Commit, Abort, Settle, granted}
+use Rattle.rules.specs.Answers.{Call, BeginUpdate, BeginQuery, Read, Write, Commit, Abort, Settle, BeginRelaxed, granted}
 use Rattle.history.specs.Runs.{Event, run}
 
 -- a granted read of item x, which gave the number v; a granted write of the number v to item x
@@ -22,7 +22,8 @@ pub data Access : Type 0 where
 
 -- each with the number of its transaction
 pub data Happening : Type 0 where
-  updateBegan queryBegan : ℕ → Happening
+  -- request E11: a relaxed query is told from the others by its begin
+  updateBegan queryBegan relaxedBegan : ℕ → Happening
   accessed : ℕ → Access → Happening
   -- an update committed, under this stamp
   updateCommitted : ℕ → ℕ → Happening
@@ -44,6 +45,7 @@ names n (Write m x v) = eqb m n
 names n (Commit m) = eqb m n
 names n (Abort m) = eqb m n
 names n (Settle m) = eqb m n
+names n BeginRelaxed = false
 
 -- what a granted call did, u being whether the transaction that it names began as an update, and w whether it was granted a write, or
 -- settled
@@ -51,6 +53,7 @@ unfoldable pub did : Bool → Bool → Call → Answer → Happening
 -- "begin: number is the new number"
 did u w BeginUpdate r = updateBegan (r .number)
 did u w BeginQuery r = queryBegan (r .number)
+did u w BeginRelaxed r = relaxedBegan (r .number)
 -- "read: value"
 did u w (Read n x) r = accessed n (got x (r .value))
 did u w (Write n x v) r = accessed n (put x v)
@@ -88,6 +91,7 @@ withStamped n us = record { updates = us .updates; stamped = n ∷ us .stamped }
 unfoldable pub begunWith : Happening → SoFar → SoFar
 begunWith (updateBegan n) us = withUpdate n us
 begunWith (queryBegan n) us = us
+begunWith (relaxedBegan n) us = us
 begunWith (accessed n (got x v)) us = us
 begunWith (accessed n (put x v)) us = withStamped n us
 begunWith (updateCommitted n c) us = us
@@ -114,6 +118,7 @@ clockAfter c (updateCommitted n d) = cond (leb d c) c d
 clockAfter c (emptyCommitted n d) = c
 clockAfter c (updateBegan n) = c
 clockAfter c (queryBegan n) = c
+clockAfter c (relaxedBegan n) = c
 clockAfter c (accessed n a) = c
 clockAfter c (onlyEnded n) = c
 clockAfter c nothing = c

@@ -1,8 +1,9 @@
--- Document 01, demand 3 (Runs, Happened, Serial, Undisturbed), what stands beside it, and what a query's end answers (Weighed).
+-- Document 01, demand 3 (Runs, Happened, Serial, Undisturbed; for relaxed queries Relaxed), what stands beside it, and what a query's end answers (Weighed).
 pub mod Runs
 pub mod Happened
 pub mod Serial
 pub mod Undisturbed
+pub mod Relaxed
 pub mod Ended
 pub mod Weighed
 pub mod Numbers

@@ -7,13 +7,14 @@ use lib.Dec.{T, eqb}
 use Rattle.names.specs.declared.Sizes.{Sizes}
 use Rattle.rules.specs.Words.{some}
 use Rattle.rules.specs.Answers.{Call}
-use Rattle.history.specs.Happened.{Happening, updateBegan, queryBegan, accessed, updateCommitted, emptyCommitted, settledUnder, onlyEnded, nothing}
+use Rattle.history.specs.Happened.{Happening, updateBegan, queryBegan, relaxedBegan, accessed, updateCommitted, emptyCommitted, settledUnder, onlyEnded, nothing}
 use Rattle.history.specs.Happened.{happenings, allOf}
 
 -- the number that a begin gives
 unfoldable pub numberOf : Happening → List ℕ
 numberOf (updateBegan n) = n ∷ []
 numberOf (queryBegan n) = n ∷ []
+numberOf (relaxedBegan n) = n ∷ []
 numberOf (accessed n a) = []
 numberOf (updateCommitted n c) = []
 numberOf (emptyCommitted n c) = []
@@ -28,6 +29,7 @@ settledWith (updateCommitted n d) ss = ss
 settledWith (emptyCommitted n d) ss = ss
 settledWith (updateBegan n) ss = ss
 settledWith (queryBegan n) ss = ss
+settledWith (relaxedBegan n) ss = ss
 settledWith (accessed n a) ss = ss
 settledWith (onlyEnded n) ss = ss
 settledWith nothing ss = ss
@@ -39,6 +41,7 @@ stampOf ss (updateCommitted n d) = cond (some (eqb n) ss) [] (d ∷ [])
 stampOf ss (emptyCommitted n d) = []
 stampOf ss (updateBegan n) = []
 stampOf ss (queryBegan n) = []
+stampOf ss (relaxedBegan n) = []
 stampOf ss (accessed n a) = []
 stampOf ss (onlyEnded n) = []
 stampOf ss nothing = []

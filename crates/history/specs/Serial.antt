@@ -13,7 +13,7 @@ use Rattle.rules.specs.Tables.{fresh}
 use Rattle.rules.specs.Versions.{newest}
 use Rattle.rules.specs.Answers.{Call}
 use Rattle.history.specs.Runs.{endOf}
-use Rattle.history.specs.Happened.{Access, got, put, Happening, updateBegan, queryBegan, accessed, updateCommitted, emptyCommitted, settledUnder, onlyEnded, nothing}
+use Rattle.history.specs.Happened.{Access, got, put, Happening, updateBegan, queryBegan, relaxedBegan, accessed, updateCommitted, emptyCommitted, settledUnder, onlyEnded, nothing}
 use Rattle.history.specs.Happened.{clockAfter, happenings, allOf}
 
 -- ---- a plain array, a number for each item, at first all zero
@@ -37,6 +37,7 @@ unfoldable pub accessOf : ℕ → Happening → List Access
 accessOf n (accessed m a) = cond (eqb m n) (a ∷ []) []
 accessOf n (updateBegan m) = []
 accessOf n (queryBegan m) = []
+accessOf n (relaxedBegan m) = []
 accessOf n (updateCommitted m c) = []
 accessOf n (emptyCommitted m c) = []
 accessOf n (settledUnder m c) = []
@@ -62,6 +63,8 @@ placeOf c (queryBegan n) = record { place = 2 * c + 1; number = n } ∷ []
 placeOf c (emptyCommitted n d) = record { place = 2 * d + 1; number = n } ∷ []
 placeOf c (settledUnder n d) = []
 placeOf c (updateBegan n) = []
+-- request E11: a relaxed query stands nowhere here; what is shown of it instead is in Relaxed
+placeOf c (relaxedBegan n) = []
 placeOf c (accessed n a) = []
 placeOf c (onlyEnded n) = []
 placeOf c nothing = []

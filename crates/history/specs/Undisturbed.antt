@@ -2,7 +2,8 @@
 -- Since request E6 "Demand 2's query reads the newest version stamped up to its start", which one past its writing when the query began
 -- may still commit, and demand 3's last sentence "now speaks of granted reads, and supposes that each transaction past its writing when
 -- the query began, if it commits in either run, commits in both with the same values." Request E8: it "covers reads only"; what a query's
--- end answers goes by the places of the versions that it read (Weighed), and others' commits move these.
+-- end answers goes by the places of the versions that it read (Weighed), and others' commits move these. Request E11: it "no longer covers"
+-- relaxed queries.
 use Prim.Native.Nat.{ℕ, _<_}
 use mathlib.Core.Bool.{Bool, false, _||_, cond}
 use mathlib.Core.List.{List, [], _∷_, _++_}
@@ -15,7 +16,7 @@ use Rattle.rules.specs.Versions.{newest}
 use Rattle.rules.specs.Answers.{Call, BeginQuery, Read, granted}
 use Rattle.rules.specs.Step.{step}
 use Rattle.history.specs.Runs.{Event, run, endOf, Every}
-use Rattle.history.specs.Happened.{Access, got, put, Happening, updateBegan, queryBegan, accessed, updateCommitted, emptyCommitted, settledUnder, onlyEnded, nothing}
+use Rattle.history.specs.Happened.{Access, got, put, Happening, updateBegan, queryBegan, relaxedBegan, accessed, updateCommitted, emptyCommitted, settledUnder, onlyEnded, nothing}
 use Rattle.history.specs.Happened.{happenings}
 use Rattle.history.specs.Serial.{grantedTo}
 
@@ -26,6 +27,7 @@ commitOf m (updateCommitted n c) = eqb n m
 commitOf m (emptyCommitted n c) = eqb n m
 commitOf m (updateBegan n) = false
 commitOf m (queryBegan n) = false
+commitOf m (relaxedBegan n) = false
 commitOf m (accessed n a) = false
 commitOf m (settledUnder n c) = false
 commitOf m (onlyEnded n) = false

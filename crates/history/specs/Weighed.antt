@@ -11,7 +11,7 @@ use Rattle.names.specs.declared.Answer.{Answer}
 use Rattle.names.specs.Answers.{found}
 use Rattle.names.specs.Words.{heldAtLast}
 use Rattle.rules.specs.Tables.{fresh}
-use Rattle.rules.specs.Answers.{Call, BeginUpdate, BeginQuery, Read, Write, Commit, Abort, Settle, granted}
+use Rattle.rules.specs.Answers.{Call, BeginUpdate, BeginQuery, Read, Write, Commit, Abort, Settle, BeginRelaxed, granted}
 use Rattle.rules.specs.Step.{step}
 use Rattle.history.specs.Runs.{Event, run, endOf}
 
@@ -24,6 +24,7 @@ asksToRead n (Write m x v) = false
 asksToRead n (Commit m) = false
 asksToRead n (Abort m) = false
 asksToRead n (Settle m) = false
+asksToRead n BeginRelaxed = false
 
 -- a read is granted to n. A wait and a refusal are none
 unfoldable pub grantedRead : ℕ → Event → Bool
@@ -41,13 +42,13 @@ unfoldable pub sumOver : (Event → ℕ) → List Event → ℕ
 sumOver f [] = 0
 sumOver f (e ∷ es) = f e + sumOver f es
 
--- after the calls `before` from fresh tables a query begins under the number n, the calls cs follow, and then its commit or its abort is
--- granted: "answers the sum as value and the count as looked", over the reads that were granted to it, "both held at 4,294,967,295 once
--- there"
+-- after the calls `before` from fresh tables a query begins under the number n, relaxed (request E11) or not, the calls cs follow, and then
+-- its commit or its abort is granted: "answers the sum as value and the count as looked", over the reads that were granted to it, "both held
+-- at 4,294,967,295 once there"
 unfoldable pub EndWeighs : Sizes → Type 0
 EndWeighs S =
-    (before cs : List Call) (n : ℕ) (c : Call) → (c ≡ Commit n) ⊎ (c ≡ Abort n)
-    → let o = step S BeginQuery (endOf S before (fresh S)) in
+    (before cs : List Call) (n : ℕ) (b c : Call) → (b ≡ BeginQuery) ⊎ (b ≡ BeginRelaxed) → (c ≡ Commit n) ⊎ (c ≡ Abort n)
+    → let o = step S b (endOf S before (fresh S)) in
     o .answer .code ≡ granted → o .answer .number ≡ n
     → let es = run S cs (o .after) in
     let a = (step S c (endOf S cs (o .after))) .answer in

@@ -1,7 +1,7 @@
 -- Right runs pass, wrong ones do not, a query is undisturbed and an update is not: by computation, on tables that stay good and so are not
 -- tested at each call.
 use Prim.Native.Nat.{ℕ}
-use mathlib.Core.Bool.{not}
+use mathlib.Core.Bool.{Bool, not}
 use mathlib.Core.List.{List, [], _∷_}
 use mathlib.Core.Path.{_≡_, refl, sym, ap, subst, _∙_}
 use lib.Dec.{T}
@@ -9,26 +9,26 @@ use native.Mathlib.Omega.{arith}
 use Rattle.names.specs.Sizes.{base}
 use Rattle.names.specs.Answers.{plain, found}
 use Rattle.names.specs.Words.{heldAtLast}
-use Rattle.rules.specs.Words.{implies, everyBelow, someBelow, countBelow, firstFrom, every, some, tabulateFrom, row, everyRow, mapRows, bit, withBit, withoutBit}
-use Rattle.rules.specs.Tables.{txn, setTxn, setAwaited, setReads, reranked, live, liveUpdate, liveQuery, liveSettled, mayHold, byStart, slotOf, freeSlot, startsFrom, starts, lock, setLock, holdsShared, holdsExclusive, holds, exclusivesOf, released, release, unshare, fresh}
-use Rattle.rules.specs.Versions.{pairs, versionsIn, versionsOf, pairWords, rowOf, stampAt, newest, place, choice, readBySome, keptFrom, kept, rewritten}
+use Rattle.rules.specs.Words.{implies, everyBelow, someBelow, countBelow, firstFrom, every, some, tabulateFrom, row, everyRow, mapRows, bit, withBit, withoutBit, contains, slotsThat}
+use Rattle.rules.specs.Tables.{txn, setTxn, setAwaited, setReads, setItemsRead, setLaterFor, reworded, live, liveUpdate, liveQuery, liveSettled, liveRelaxed, queryKind, anyQuery, mayHold, isReader, byStart, slotOf, freeSlot, someSettled, someRelaxed, relaxedIn, haveRead, readerIn, readersFrom, readers, lock, setLock, holdsShared, holdsExclusive, holds, exclusivesOf, released, release, unshare, fresh}
+use Rattle.rules.specs.Versions.{versionsFrom, versionsIn, versionsOf, pairWords, maskWords, rowOf, stampAt, hiddenAt, newest, hiddenNow, sees, place, choice, readBySome, keptFrom, kept, rewritten, revealed}
 use Rattle.rules.specs.Waits.{awaits, awaitsOn, waitersOn, exchangersOn, rankFor, raised, lowered, noted, closedUp, conflicts, ahead, blocks, blocked, waitsFor, marked, spread, rounds, reached, circleAt, noCircle}
 use Rattle.rules.specs.Locks.{heldBy, decide, anotherShares, anotherExcludes, anotherAhead, decision}
-use Rattle.rules.specs.Step.{begun, beginBy, conflicted, cleared, locked, cellDeed, access, awaitsOther, writesFurther, holdsBack, heldBack, startRead, writesPast, counted, queryRead, readBy, writeBy, withNew, committedUnder, committed, settledCommitted, ended, commitUpdate, commitBy, aborted, settledAborted, settled, abortBy, settleBy, judged, done, act}
-use Rattle.rules.specs.Answers.{Call, BeginQuery}
+use Rattle.rules.specs.Step.{begun, meetsSettled, beginBy, conflicted, cleared, joined, askingJoins, grantJoins, holderJoins, readNoted, forgotten, locked, lockedAnew, cellDeed, access, awaitsOther, writesFurther, holdsBack, heldBack, startRead, writesPast, counted, versionRead, readBy, writeBy, withNew, committedUnder, committed, settledCommitted, ended, commitUpdate, commitBy, aborted, settledAborted, settled, abortBy, settleBy, judged, done, act}
+use Rattle.rules.specs.Answers.{Call, BeginQuery, BeginRelaxed}
 use Rattle.rules.specs.Tables.{Tables}
 use Rattle.rules.proofs.Fresh.{fresh-good}
 use Rattle.history.specs.Runs.{Event, run, endOf}
 use Rattle.history.specs.Happened.{got, put, Happening, emptyCommitted, onlyEnded, updateBegan, queryBegan, noneSoFar, did, told, happened, begunWith, happeningsAfter, happenings, clockAfter, allOf, names}
 use Rattle.history.specs.Serial.{zeros, agrees, final, accessOf, grantedTo, placeOf, insert, insertAll, entriesFrom, numbersOf, order, oneByOne, serial}
 use Rattle.history.proofs.Played.{played, playedEnd, run-played, end-played}
-use Rattle.history_samples.specs.Samples.{serializes, runPasses, mixed, pastWriting, withoutStamp, settledLater, settledSooner, byClock, agreesIn, emptyUpdate, endedQuery, stored, lateSnapshot, timelySnapshot, lostUpdate, keptUpdate, dirtyRead, hasty, patient}
+use Rattle.history_samples.specs.Samples.{serializes, runPasses, mixed, pastWriting, withoutStamp, settledLater, settledSooner, byClock, agreesIn, emptyUpdate, endedQuery, stored, lateSnapshot, timelySnapshot, fresher, circle, lostUpdate, keptUpdate, dirtyRead, hasty, patient}
 use Rattle.history_samples.specs.Samples.{endsMoved, endsUnmoved, lastAnswer, quietly, among, undisturbed, settledBefore, thenCommits, thenAborts, thenRewrites, updateAlone, updateAfter, readsAlone, readsAfter}
 
 -- what happens in a run from fresh tables, as it is computed: whoever unfolds this computes with all the rules and with the definitions of
 -- demand 3
 unfoldable computed : List Call → List Event
-unfolding played playedEnd names did told happened begunWith happeningsAfter allOf agrees final accessOf grantedTo clockAfter placeOf insert insertAll entriesFrom numbersOf order oneByOne serial serializes agreesIn implies everyBelow someBelow countBelow firstFrom every some tabulateFrom row everyRow mapRows bit withBit withoutBit txn setTxn setAwaited setReads reranked live liveUpdate liveQuery liveSettled mayHold byStart slotOf freeSlot startsFrom starts lock setLock holdsShared holdsExclusive holds exclusivesOf released release unshare fresh pairs versionsIn versionsOf pairWords rowOf stampAt newest place choice readBySome keptFrom kept rewritten awaits awaitsOn waitersOn exchangersOn rankFor raised lowered noted closedUp conflicts ahead blocks blocked waitsFor marked spread rounds reached circleAt noCircle heldBy decide anotherShares anotherExcludes anotherAhead decision begun beginBy conflicted cleared locked cellDeed access awaitsOther writesFurther holdsBack heldBack startRead writesPast heldAtLast counted queryRead readBy writeBy withNew committedUnder committed settledCommitted ended commitUpdate commitBy aborted settledAborted settled abortBy settleBy judged done act
+unfolding played playedEnd names did told happened begunWith happeningsAfter allOf agrees final accessOf grantedTo clockAfter placeOf insert insertAll entriesFrom numbersOf order oneByOne serial serializes agreesIn implies everyBelow someBelow countBelow firstFrom every some tabulateFrom row everyRow mapRows bit withBit withoutBit contains slotsThat txn setTxn setAwaited setReads setItemsRead setLaterFor reworded live liveUpdate liveQuery liveSettled liveRelaxed queryKind anyQuery mayHold isReader byStart slotOf freeSlot someSettled someRelaxed relaxedIn haveRead readerIn readersFrom readers lock setLock holdsShared holdsExclusive holds exclusivesOf released release unshare fresh versionsFrom versionsIn versionsOf pairWords maskWords rowOf stampAt hiddenAt newest hiddenNow sees place choice readBySome keptFrom kept rewritten revealed awaits awaitsOn waitersOn exchangersOn rankFor raised lowered noted closedUp conflicts ahead blocks blocked waitsFor marked spread rounds reached circleAt noCircle heldBy decide anotherShares anotherExcludes anotherAhead decision begun meetsSettled beginBy conflicted cleared joined askingJoins grantJoins holderJoins readNoted forgotten locked lockedAnew cellDeed access awaitsOther writesFurther holdsBack heldBack startRead writesPast heldAtLast counted versionRead readBy writeBy withNew committedUnder committed settledCommitted ended commitUpdate commitBy aborted settledAborted settled abortBy settleBy judged done act
 computed cs = played base cs (fresh base)
 
 abbrev playedHappenings : List Call → List Happening
@@ -212,3 +212,52 @@ update-alone = reads-so 1 updateAlone ∙ refl
 update-after : grantedTo 1 (happenings base updateAfter) ≡ readsAfter
 unfolding computed updateAfter readsAfter
 update-after = reads-so 1 updateAfter ∙ refl
+
+-- ---- request E11: a relaxed query reads what was committed since its begin, and a strict one does not
+relaxed-fresher : grantedTo 1 (happenings base (fresher BeginRelaxed)) ≡ got 5 77 ∷ []
+unfolding computed fresher
+relaxed-fresher = reads-so 1 (fresher BeginRelaxed) ∙ refl
+
+strict-older : grantedTo 1 (happenings base (fresher BeginQuery)) ≡ got 5 0 ∷ []
+unfolding computed fresher
+strict-older = reads-so 1 (fresher BeginQuery) ∙ refl
+
+-- its end answers as a query's does
+relaxed-end : lastAnswer plain (run base (fresher BeginRelaxed) (fresh base)) ≡ found 1 1
+unfolding computed fresher lastAnswer
+relaxed-end = ap (lastAnswer plain) (run-so (fresher BeginRelaxed)) ∙ refl
+
+-- what no strict query could read: in no order of the three do all reads agree, and update 3 alone gives the query its numbers
+circle-reads : grantedTo 1 (happenings base circle) ≡ got 5 0 ∷ got 6 88 ∷ []
+unfolding computed circle
+circle-reads = reads-so 1 circle ∙ refl
+
+agrees-so : (ns : List ℕ) → agreesIn ns (happenings base circle) ≡ agreesIn ns (playedHappenings circle)
+agrees-so ns = ap (agreesIn ns) (happenings-so circle)
+
+no-order :
+    T (not (agreesIn (1 ∷ 2 ∷ 3 ∷ []) (happenings base circle))) × T (not (agreesIn (1 ∷ 3 ∷ 2 ∷ []) (happenings base circle)))
+    × T (not (agreesIn (2 ∷ 1 ∷ 3 ∷ []) (happenings base circle))) × T (not (agreesIn (2 ∷ 3 ∷ 1 ∷ []) (happenings base circle)))
+    × T (not (agreesIn (3 ∷ 1 ∷ 2 ∷ []) (happenings base circle))) × T (not (agreesIn (3 ∷ 2 ∷ 1 ∷ []) (happenings base circle)))
+unfolding computed circle
+no-order = (
+  subst (λ (b : Bool). T (not b)) (sym (agrees-so (1 ∷ 2 ∷ 3 ∷ []))) tt,
+  subst (λ (b : Bool). T (not b)) (sym (agrees-so (1 ∷ 3 ∷ 2 ∷ []))) tt,
+  subst (λ (b : Bool). T (not b)) (sym (agrees-so (2 ∷ 1 ∷ 3 ∷ []))) tt,
+  subst (λ (b : Bool). T (not b)) (sym (agrees-so (2 ∷ 3 ∷ 1 ∷ []))) tt,
+  subst (λ (b : Bool). T (not b)) (sym (agrees-so (3 ∷ 1 ∷ 2 ∷ []))) tt,
+  subst (λ (b : Bool). T (not b)) (sym (agrees-so (3 ∷ 2 ∷ 1 ∷ []))) tt,
+)
+
+outside-alone : T (agreesIn (3 ∷ 1 ∷ []) (happenings base circle))
+unfolding computed circle
+outside-alone = subst T (sym (agrees-so (3 ∷ 1 ∷ []))) tt
+
+-- the updates stand in their order, as they would without it
+circle-order : order (happenings base circle) ≡ 2 ∷ 3 ∷ []
+unfolding computed circle
+circle-order = ap order (happenings-so circle) ∙ refl
+
+circle-passes : T (runPasses circle)
+unfolding computed circle
+circle-passes = passes-so circle tt

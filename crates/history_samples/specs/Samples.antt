@@ -9,7 +9,7 @@ use Rattle.names.specs.Sizes.{base}
 use Rattle.rules.specs.Words.{everyBelow}
 use Rattle.rules.specs.Tables.{Tables, fresh}
 use Rattle.rules.specs.Versions.{newest}
-use Rattle.rules.specs.Answers.{Call, BeginUpdate, BeginQuery, Read, Write, Commit, Abort, Settle}
+use Rattle.rules.specs.Answers.{Call, BeginUpdate, BeginQuery, Read, Write, Commit, Abort, Settle, BeginRelaxed}
 use Rattle.history.specs.Runs.{Event, endOf}
 use Rattle.history.specs.Happened.{Access, got, Happening, happenings}
 use Rattle.history.specs.Serial.{zeros, agrees, final, grantedTo, oneByOne, serial}
@@ -72,6 +72,17 @@ emptyUpdate = BeginUpdate ∷ Commit 1 ∷ []
 
 unfoldable pub endedQuery : List Call
 endedQuery = BeginQuery ∷ Commit 1 ∷ []
+
+-- ---- request E11. Query 1 begins, relaxed or not; update 2 writes and commits; then 1 reads
+unfoldable pub fresher : Call → List Call
+fresher c = c ∷ BeginUpdate ∷ Write 2 5 77 ∷ Commit 2 ∷ Read 1 5 ∷ Commit 1 ∷ []
+
+-- Relaxed query 1 reads item 5, which update 2 then writes, and so joins its set. 2 reads item 7 and commits; update 3 writes it, and 6, and
+-- commits; then 1 reads 6. So 1 comes before 2, 2 before 3, and 3 before 1: no order of the three gives every read its number
+unfoldable pub circle : List Call
+circle =
+    BeginRelaxed ∷ BeginUpdate ∷ BeginUpdate ∷ Read 1 5 ∷ Write 2 5 77 ∷ Read 2 7 ∷ Commit 2 ∷ Write 3 7 99 ∷ Write 3 6 88 ∷ Commit 3
+    ∷ Read 1 6 ∷ Commit 1 ∷ []
 
 -- an update writes and commits
 unfoldable pub stored : List Call

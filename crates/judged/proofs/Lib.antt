@@ -1,4 +1,2 @@
 -- Laws of the judging.
-pub mod Copies
-pub mod Conflicts
 pub mod Exits

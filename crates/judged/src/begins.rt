@@ -1,4 +1,5 @@
 // A begin.
+use callers::meets_settled;
 use names::Deed;
 use names::LAST_WORD;
 use names::Refusal;
@@ -7,8 +8,7 @@ use rows::Found;
 ghost use mathlib.Core.Path.{_≡_};
 ghost use Rattle.names.specs.Sizes.{base};
 ghost use Rattle.rules.specs.Step.{beginBy};
-ghost use Rattle.callers.specs.Searchable.{Searchable};
-ghost use Rattle.judged.specs.Searched.{ofTxns};
+ghost use Rattle.callers.specs.Searchable.{Searchable, ofTxns};
 
 // The lowest free slot begins a transaction of this kind with this start.
 pub fn begin_by(txns: &[u64], kind: u64, start: Stamp) -> Deed
@@ -21,6 +21,9 @@ pub fn begin_by(txns: &[u64], kind: u64, start: Stamp) -> Deed
     };
     if rows::last_number(txns) == LAST_WORD {
         return Deed::Refused(Refusal::NumbersSpent);
+    }
+    if meets_settled(txns, kind) {
+        return Deed::Refused(Refusal::KeptApart);
     }
     Deed::Begins(slot, kind, start)
 }

@@ -2,7 +2,6 @@
 use names::Deed;
 use names::NO_LOCK;
 use names::NextStamp;
-use names::QUERY_KIND;
 use names::Refusal;
 use names::SETTLED_KIND;
 use names::Slot;
@@ -13,16 +12,16 @@ ghost use lib.ListN.{length};
 ghost use Prim.Native.Nat.{_<_};
 ghost use Rattle.rules.specs.Tables.{lockWords};
 ghost use Rattle.rules.specs.Step.{commitUpdate, commitBy, abortBy, settleBy};
-ghost use Rattle.callers.specs.Searchable.{Searchable};
-ghost use Rattle.judged.specs.Searched.{ofTxns, ofLocks};
+ghost use Rattle.callers.specs.Searchable.{Searchable, ofTxns, ofLocks};
 use callers::find;
+use callers::is_query;
 
 // An update that still writes: without an exclusive lock it needs no stamp.
 fn commit_update(txns: &[u64], locks: &[u64], slot: Slot) -> Deed
     requires { ⌜ Searchable (now txns) × (length (now locks) ≡ lockWords base) × (slot .0 < base .slots) ⌝ }
     ensures { λ r. ⌜ r ≡ commitUpdate base (slot .0) (ofLocks (now (txns .entry)) (now (locks .entry))) ⌝ }
 {
-    if !rows::holds_some(locks, slot) {
+    if !own_locks::holds_some(locks, slot) {
         return Deed::CommitsEmpty(slot);
     }
     let next = rows::clock(txns).next();
@@ -43,11 +42,10 @@ pub fn commit_by(txns: &[u64], locks: &[u64], number: u64) -> Deed
     if rows::awaited_lock(txns, slot) != NO_LOCK {
         return Deed::Refused(Refusal::StillWaiting);
     }
-    let kind = rows::kind(txns, slot);
-    if kind == QUERY_KIND {
+    if is_query(txns, slot) {
         return Deed::Ends(slot);
     }
-    if kind == SETTLED_KIND {
+    if rows::kind(txns, slot) == SETTLED_KIND {
         return Deed::CommitsSettled(slot);
     }
     commit_update(txns, locks, slot)
@@ -62,11 +60,10 @@ pub fn abort_by(txns: &[u64], number: u64) -> Deed
     let Found::At(slot) = found else {
         return Deed::Refused(Refusal::UnknownTransaction);
     };
-    let kind = rows::kind(txns, slot);
-    if kind == QUERY_KIND {
+    if is_query(txns, slot) {
         return Deed::Ends(slot);
     }
-    if kind == SETTLED_KIND {
+    if rows::kind(txns, slot) == SETTLED_KIND {
         return Deed::AbortsSettled(slot);
     }
     Deed::Aborts(slot)
@@ -80,11 +77,10 @@ pub fn settle_by(txns: &[u64], number: u64) -> Deed
     let Found::At(slot) = found else {
         return Deed::Refused(Refusal::UnknownTransaction);
     };
-    let kind = rows::kind(txns, slot);
-    if kind == QUERY_KIND {
+    if is_query(txns, slot) {
         return Deed::Refused(Refusal::QueryMayNotWrite);
     }
-    if kind == SETTLED_KIND {
+    if rows::kind(txns, slot) == SETTLED_KIND {
         return Deed::Refused(Refusal::PastWriting);
     }
     if rows::awaited_lock(txns, slot) != NO_LOCK {
@@ -94,5 +90,8 @@ pub fn settle_by(txns: &[u64], number: u64) -> Deed
     let NextStamp::At(_) = next else {
         return Deed::Refused(Refusal::ClockSpent);
     };
+    if notes::some_relaxed(txns) {
+        return Deed::Refused(Refusal::KeptApart);
+    }
     Deed::Settles(slot)
 }

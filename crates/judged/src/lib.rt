@@ -3,6 +3,7 @@
 use names::Call;
 use names::Deed;
 use names::QUERY_KIND;
+use names::RELAXED_KIND;
 use names::Stamp;
 use names::UPDATE_KIND;
 ghost use mathlib.Core.Path.{_≡_};
@@ -11,7 +12,6 @@ ghost use Rattle.rules.specs.Tables.{tables};
 ghost use Rattle.rules.specs.Good.{Good};
 ghost use Rattle.rules.specs.Step.{judged};
 
-mod asks;
 mod begins;
 mod ends;
 
@@ -22,14 +22,15 @@ pub fn judged(call: Call, txns: &[u64], locks: &[u64], versions: &[u64]) -> Deed
     match call {
         Call::BeginUpdate => begins::begin_by(txns, UPDATE_KIND, Stamp::FIRST),
         Call::BeginQuery => begins::begin_by(txns, QUERY_KIND, rows::clock(txns)),
-        Call::Read { number, item } => asks::read_by(txns, locks, versions, number, item),
+        Call::Read { number, item } => asked::read_by(txns, locks, versions, number, item),
         Call::Write {
             number,
             item,
             value,
-        } => asks::write_by(txns, locks, versions, number, item, value),
+        } => asked::write_by(txns, locks, versions, number, item, value),
         Call::Commit { number } => ends::commit_by(txns, locks, number),
         Call::Abort { number } => ends::abort_by(txns, number),
         Call::Settle { number } => ends::settle_by(txns, number),
+        Call::BeginRelaxed => begins::begin_by(txns, RELAXED_KIND, Stamp::FIRST),
     }
 }

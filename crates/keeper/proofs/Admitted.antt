@@ -12,7 +12,7 @@ use Rattle.rules.proofs.Tests.{true-is}
 use Rattle.rules.proofs.Equal.{good→Good}
 use Rattle.rules.proofs.Steps.{acts}
 use Rattle.rules.proofs.Judged.{way}
-use Rattle.rules.proofs.Ways.{Way, refused, waited, keptWaiting, beganUpdate, beganQuery, readOwn, readNewest, readShared, readSettled, readByStart}
+use Rattle.rules.proofs.Ways.{Way, refused, waited, keptWaiting, beganUpdate, beganQuery, beganRelaxed, readOwn, readNewest, readShared, readSettled, readVersion}
 use Rattle.rules.proofs.Ways.{wroteOwn, wroteSettled, wroteTaken, committedUpdate, committedEmpty, committedSettled, committedQuery, abortedUpdate, abortedSettled, abortedQuery, settledUpdate}
 use Rattle.done.specs.Able.{Able}
 
@@ -30,11 +30,12 @@ way-able G c d (keptWaiting s C b) = tt
 way-able G c d (waited s k x w) = (w .caller .inside, w .may .known (w .some))
 way-able G c d (beganUpdate s f l) = f .inside
 way-able G c d (beganQuery s f l) = f .inside
+way-able G c d (beganRelaxed s f l n) = f .inside
 way-able G c d (readOwn n s x U h) = (U .caller .inside, U .known)
 way-able G c d (readNewest n s x U h) = (U .caller .inside, U .known)
 way-able G c d (readShared n s x U h f) = (U .caller .inside, U .known)
 way-able G c d (readSettled n s x C p i h) = (C .inside, i)
-way-able G c d (readByStart n s x C b i h f) = (C .inside, i, b)
+way-able G c d (readVersion n s x C b i h f) = (C .inside, i, b)
 way-able G c d (wroteOwn n s x v U h) = (U .caller .inside, U .known)
 way-able G c d (wroteSettled n s x v C p i h) = (C .inside, i)
 way-able G c d (wroteTaken n s x v U h f r) = (U .caller .inside, U .known)
@@ -45,7 +46,7 @@ way-able G c d (committedQuery n s C q) = (C .inside, q)
 way-able G c d (abortedUpdate n s C u) = C .inside
 way-able G c d (abortedSettled n s C p) = (C .inside, p)
 way-able G c d (abortedQuery n s C q) = (C .inside, q)
-way-able G c d (settledUpdate n s C u i l) = C .inside
+way-able G c d (settledUpdate n s C u i l r) = C .inside
 
 pub judged-able : (G : Tables) → Good base G → (c : Call) {d : Deed} → d ≡ judged base c G → Able G d
 judged-able G g c {d} e = subst (Able G) (sym e) (way-able G c (judged base c G) (way base G g c))

@@ -1,6 +1,6 @@
 // The keeper: one door over three lent tables, transactions, locks and versions.
 //
-// `call` makes any call; the seven routines are its names. None has a `requires`: each says, for every
+// `call` makes any call; the eight routines are its names. None has a `requires`: each says, for every
 // input whatever, its four answer numbers and every word of the three tables afterwards, by one
 // equation with the rules' `step`. All tables are tested, then the call is judged without changing a
 // word, then the deed is done.
@@ -9,7 +9,7 @@ use names::Refusal;
 ghost use mathlib.Core.Path.{_≡_};
 ghost use Rattle.names.specs.Sizes.{base};
 ghost use Rattle.rules.specs.Tables.{tables};
-ghost use Rattle.rules.specs.Answers.{outcome, BeginUpdate, BeginQuery, Read, Write, Commit, Abort, Settle};
+ghost use Rattle.rules.specs.Answers.{outcome, BeginUpdate, BeginQuery, Read, Write, Commit, Abort, Settle, BeginRelaxed};
 ghost use Rattle.rules.specs.Step.{step};
 
 // Makes a call.
@@ -93,4 +93,12 @@ pub fn settle(txns: &mut [u64], locks: &mut [u64], versions: &mut [u64], number:
     ensures { λ r. ⌜ outcome r (now (txns .exit)) (now (locks .exit)) (now (versions .exit)) ≡ step base (Settle number) (tables (now (txns .entry)) (now (locks .entry)) (now (versions .entry))) ⌝ }
 {
     call(names::Call::Settle { number }, txns, locks, versions)
+}
+
+// Begins a relaxed query, which reads the newest version of an item whose creator is not in its set of
+// later updates.
+pub fn begin_relaxed(txns: &mut [u64], locks: &mut [u64], versions: &mut [u64]) -> Answer
+    ensures { λ r. ⌜ outcome r (now (txns .exit)) (now (locks .exit)) (now (versions .exit)) ≡ step base BeginRelaxed (tables (now (txns .entry)) (now (locks .entry)) (now (versions .entry))) ⌝ }
+{
+    call(names::Call::BeginRelaxed, txns, locks, versions)
 }

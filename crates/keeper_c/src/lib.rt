@@ -1,4 +1,4 @@
-// The keeper for C and Rust: fresh tables and the seven calls under plain names, in a static library.
+// The keeper for C and Rust: fresh tables and the eight calls under plain names, in a static library.
 //
 // A slice is a pointer and a length. Each call has the contract of the keeper's routine that it
 // makes: no `requires`, and one equation with the rules' `step`. include/keeper.h says for C what a
@@ -7,7 +7,7 @@ use names::Answer;
 ghost use mathlib.Core.Path.{_≡_};
 ghost use Rattle.names.specs.Sizes.{base};
 ghost use Rattle.rules.specs.Tables.{tables};
-ghost use Rattle.rules.specs.Answers.{outcome, BeginUpdate, BeginQuery, Read, Write, Commit, Abort, Settle};
+ghost use Rattle.rules.specs.Answers.{outcome, BeginUpdate, BeginQuery, Read, Write, Commit, Abort, Settle, BeginRelaxed};
 ghost use Rattle.rules.specs.Step.{step};
 ghost use Rattle.rules.specs.Tested.{sizesExact};
 ghost use Rattle.fresh.specs.Made.{freshened};
@@ -111,4 +111,16 @@ pub extern "C" fn keeper_settle(
     ensures { λ r. ⌜ outcome r (now (txns .exit)) (now (locks .exit)) (now (versions .exit)) ≡ step base (Settle number) (tables (now (txns .entry)) (now (locks .entry)) (now (versions .entry))) ⌝ }
 {
     keeper::settle(txns, locks, versions, number)
+}
+
+// Begins a relaxed query.
+#[no_mangle]
+pub extern "C" fn keeper_begin_relaxed(
+    txns: &mut [u64],
+    locks: &mut [u64],
+    versions: &mut [u64],
+) -> Answer
+    ensures { λ r. ⌜ outcome r (now (txns .exit)) (now (locks .exit)) (now (versions .exit)) ≡ step base BeginRelaxed (tables (now (txns .entry)) (now (locks .entry)) (now (versions .entry))) ⌝ }
+{
+    keeper::begin_relaxed(txns, locks, versions)
 }

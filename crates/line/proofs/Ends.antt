@@ -12,7 +12,8 @@ use Rattle.rules.specs.Tables.{Tables, tables, txnWords, lastNumber, clock, Txn
 use Rattle.rules.specs.Waits.{closedUp}
 use Rattle.rules.specs.Good.{Good}
 use Rattle.rules.specs.Locks.{Asked, wanted}
-use Rattle.rules.specs.Step.{begun, committedUnder, committed, settledCommitted, ended, aborted, settledAborted}
+use Rattle.rules.specs.Words.{withoutBit}
+use Rattle.rules.specs.Step.{begun, forgotten, committedUnder, committed, settledCommitted, ended, aborted, settledAborted}
 use Rattle.rules.specs.Conditions.{Free}
 use Rattle.rules.proofs.EqualRows.{holder, holder-live}
 use Rattle.rules.proofs.EqualRanks.{awaits→, awaitsOn→}
@@ -21,7 +22,8 @@ use Rattle.rules.proofs.Walks.{conflicts→holds}
 use Rattle.rules.proofs.Carried.{NoMore}
 use Rattle.rules.proofs.Leaves.{released-fewer}
 use Rattle.rules.proofs.Noting.{closed-length, closed-row}
-use Rattle.line.proofs.Kept.{same-locks, rows-kept, left-kept}
+use Rattle.rules.proofs.Joined.{forgotten-length, forgotten-row}
+use Rattle.line.proofs.Kept.{same-locks, rows-kept, sets-kept, left-kept}
 use Rattle.line.proofs.Outsiders.{Outside, Harmless, Inv, carried}
 
 -- ---- on the good tables G, in which the transaction n waits, in slot s, for the item x
@@ -100,7 +102,12 @@ module _
 
     pub query-ends : (r : ℕ) → r < S .slots → s ≢ r → Good S (ended S r G) → J (ended S r G)
     unfolding ended
-    query-ends r i d g′ = ends r i d t l _ (g .txnsExact) (λ b e. refl) (λ b e. same-locks (lock l x) b) g′
+    query-ends r i d g′ =
+        carried S D a n s x G (ended S r G) g′ I r d
+        (sets-kept S G (ended S r G) g x r i
+        (λ b j e. (withoutBit ((txn t b) .laterFor) r, txn-setTxn-other (forgotten S r t) r noTxn b e ∙ forgotten-row S r t (g .txnsExact) b j))
+        (λ b e. same-locks (lock l x) b))
+        (gone (ended S r G) r (txn-setTxn (forgotten S r t) r noTxn S (forgotten-length S r t ∙ g .txnsExact) i))
 
     pub aborts : (r : ℕ) → r < S .slots → s ≢ r → Good S (aborted S r G) → J (aborted S r G)
     unfolding aborted

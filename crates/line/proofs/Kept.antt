@@ -6,7 +6,7 @@ use mathlib.Core.Logic.{_≢_, inl}
 use mathlib.Core.List.{List}
 use lib.Dec.{T}
 use Rattle.names.specs.declared.Sizes.{Sizes}
-use Rattle.rules.specs.Tables.{Tables, Txn, txn, withRank, Lock, lock, setLock, exclusiveLock, noLock}
+use Rattle.rules.specs.Tables.{Tables, Txn, txn, withRank, withLaterFor, Lock, lock, setLock, exclusiveLock, noLock}
 use Rattle.rules.specs.Waits.{awaits, awaitsOn, rankFor, raised, noted}
 use Rattle.rules.specs.Good.{Good}
 use Rattle.rules.specs.Changed.{leaving}
@@ -18,7 +18,7 @@ use Rattle.rules.proofs.Walks.{ahead→, →ahead}
 use Rattle.rules.proofs.Lines.{awaitsOn-rank, left-ahead}
 use Rattle.rules.proofs.Joins.{come-ahead}
 use Rattle.rules.proofs.Noting.{rank-least, rank-most, noted-there, noted-here}
-use Rattle.rules.proofs.Waiting.{same-row, but-rank}
+use Rattle.rules.proofs.Waiting.{same-row, but-rank, but-sets}
 
 -- from the tables G to the tables G′ at most slot r changed more than that
 pub record Kept (S : Sizes) (G G′ : Tables) (x r : ℕ) : Type 0 where
@@ -48,6 +48,19 @@ module _ (S : Sizes) (G G′ : Tables) (g : Good S G) (x r : ℕ) (inside : r < 
         rows = λ b i d. same-row (rows b d);
         locks = locks;
         order = λ a b i j d e h k u. subst (λ (w : Txn). (txn (G .txns) b) .rank < w .rank) (rows a d) (subst (λ (w : Txn). w .rank < (txn (G′ .txns) a) .rank) (rows b e) u);
+      }
+
+  -- all others are as they were, but for their sets
+  pub sets-kept :
+      ((b : ℕ) → b < S .slots → b ≢ r → (m : ℕ) × (txn (G′ .txns) b ≡ withLaterFor (txn (G .txns) b) m))
+      → ((b : ℕ) → b ≢ r → NoMore b (lock (G .locks) x) (lock (G′ .locks) x)) → Kept S G G′ x r
+  sets-kept rows locks =
+      record {
+        rows = λ b i d. but-sets (txn (G .txns) b) (rows b i d .1);
+        locks = locks;
+        order = λ a b i j d e h k u.
+            subst (λ (w : ℕ). (txn (G .txns) b) .rank < w) (ap (λ (w : Txn). w .rank) (rows a i d .1))
+            (subst (λ (w : ℕ). w < (txn (G′ .txns) a) .rank) (ap (λ (w : Txn). w .rank) (rows b j e .1)) u);
       }
 
   -- r left its line, if it stood in one

@@ -3,6 +3,7 @@ pub mod Kept
 pub mod InOrder
 pub mod Outsiders
 pub mod Ends
+pub mod Locking
 pub mod Turns
 pub mod Readers
 pub mod Served

@@ -3,19 +3,21 @@ use Prim.Native.Nat.{ℕ, _≤_, _<_}
 use mathlib.Core.Path.{_≡_, refl, sym, ap, _∙_, subst}
 use mathlib.Core.Logic.{_≢_, _⊎_, inl, inr}
 use mathlib.Core.Bool.{Bool, true, false}
+use mathlib.Core.List.{List}
 use native.Mathlib.Omega.{arith}
 use lib.Dec.{T, ltb}
 use borrow.Author.Tests.{ltb-true, ltb-false}
 use Rattle.names.specs.declared.Sizes.{Sizes}
 use Rattle.rules.specs.Tables.{Tables, Txn, txn, live, lock, holdsShared}
-use Rattle.rules.specs.Waits.{awaitsOn, waitersOn, rankFor, conflicts}
+use Rattle.rules.specs.Waits.{awaits, awaitsOn, waitersOn, rankFor, conflicts}
 use Rattle.rules.specs.Good.{Good}
 use Rattle.rules.specs.Locks.{Asked, wanted}
+use Rattle.rules.specs.Step.{withTxns}
 use Rattle.rules.specs.Promises.{SameButRank}
+use Rattle.rules.proofs.Notes.{noting, Beside, beside-same}
 use Rattle.rules.proofs.Tests.{true-is, false-is, same?}
 use Rattle.rules.proofs.Grants.{conflicts-fewer}
 use Rattle.rules.proofs.EqualRanks.{→awaits, awaitsOn→, →awaitsOn}
-use Rattle.rules.proofs.Lines.{awaitsOn-rank}
 use Rattle.rules.proofs.Noting.{rank-known, rank-last}
 use Rattle.rules.proofs.Decisions.{wanted-lock}
 use Rattle.line.specs.Served.{Waiting}
@@ -31,7 +33,8 @@ module _ (q r : Txn) (e : SameButRank q r) where
   same-live h = subst (λ (w : Txn). T (live w)) e h
 
   pub same-on : (x : ℕ) → T (awaitsOn x q) → T (awaitsOn x r)
-  same-on x h = subst T (ap (awaitsOn x) e ∙ awaitsOn-rank x (q .rank) r) h
+  unfolding awaitsOn awaits
+  same-on x h = subst (λ (w : Txn). T (awaitsOn x w)) e h
 
 -- so the request waits on
 pub same-wait :
@@ -66,6 +69,52 @@ module _ (S : Sizes) (D : ℕ → Type 0) (a : Asked) (n s x : ℕ) where
   pub record Inv (G : Tables) : Type 0 where
     pub waiting : Waiting S G a n s x
     pub harmless : (b : ℕ) → Outside G b → Harmless G b
+
+  -- ---- notes are made in the rows, which are as they were else
+  module _ (G : Tables) (u : List ℕ) (beside : (r : ℕ) → Beside (txn (G .txns) r) (txn u r)) where
+    same : {A : Type 0} (h : Txn → A) → ((r : Txn) (n w i m : ℕ) → h (noting r n w i m) ≡ h r) → (r : ℕ) → h (txn u r) ≡ h (txn (G .txns) r)
+    same h e r = beside-same h e (txn (G .txns) r) (txn u r) (beside r)
+
+    pub out-beside : (b : ℕ) → Outside (withTxns G u) b → Outside G b
+    unfolding live
+    out-beside b o =
+        record {
+          inside = o .inside;
+          other = o .other;
+          alive = subst T (same live (λ r n w i m. refl) b) (o .alive);
+          out = λ z. o .out (subst D (sym (same (λ (r : Txn). r .number) (λ r n w i m. refl) b)) z);
+        }
+
+    pub wait-beside : Waiting S G a n s x → Waiting S (withTxns G u) a n s x
+    unfolding live
+    wait-beside w =
+        record {
+          caller =
+              record {
+                inside = w .caller .inside;
+                alive = subst T (sym (same live (λ r n w i m. refl) s)) (w .caller .alive);
+                name = same (λ (r : Txn). r .number) (λ r n w i m. refl) s ∙ w .caller .name;
+              };
+          lockKind = same (λ (r : Txn). r .awaitedLock) (λ r n w i m. refl) s ∙ w .lockKind;
+          item = same (λ (r : Txn). r .awaitedItem) (λ r n w i m. refl) s ∙ w .item;
+        }
+
+    pub inv-beside : Inv G → Inv (withTxns G u)
+    unfolding awaitsOn awaits
+    inv-beside I =
+        record {
+          waiting = wait-beside (I .waiting);
+          harmless = λ b o.
+              let h = I .harmless b (out-beside b o) in
+              record {
+                free = h .free;
+                behind = λ w.
+                    let k = h .behind (subst T (same (awaitsOn x) (λ r n w i m. refl) b) w) in
+                    let p = same (λ (r : Txn). r .rank) (λ r n w i m. refl) s in
+                    let q = same (λ (r : Txn). r .rank) (λ r n w i m. refl) b in
+                    omega arith;
+              };
+        }
 
   -- ---- the request waits on the item
   module _ (G : Tables) (w : Waiting S G a n s x) where

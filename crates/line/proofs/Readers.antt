@@ -9,10 +9,10 @@ use native.Mathlib.Omega.{arith}
 use lib.Dec.{T, eqb, leb, leb→le, eqb→eq}
 use borrow.Author.Tests.{eq-eqb, ne-eqb, leb-true, leb-false}
 use Rattle.names.specs.declared.Sizes.{Sizes}
-use Rattle.rules.specs.Tables.{Tables, txn, byStart, liveSettled, anUpdate, aSettled, sharedLock, lock, holdsShared, holdsExclusive, holds}
+use Rattle.rules.specs.Tables.{Tables, txn, byStart, liveSettled, anUpdate, aSettled, aRelaxed, sharedLock, lock, holdsShared, holdsExclusive, holds}
 use Rattle.rules.specs.Good.{Good}
 use Rattle.rules.specs.Locks.{Asked, toRead, toWrite}
-use Rattle.rules.specs.Answers.{Call, BeginUpdate, BeginQuery, Read, Write, Commit, Abort, Settle, Outcome, granted, code}
+use Rattle.rules.specs.Answers.{Call, BeginUpdate, BeginQuery, Read, Write, Commit, Abort, Settle, BeginRelaxed, Outcome, granted, code}
 use Rattle.rules.specs.Answers.{Wait, Deadlock, UnknownTransaction, UnknownItem, QueryMayNotWrite, StillWaiting, BadTables, QuotaSpent, PastWriting}
 use Rattle.rules.specs.Step.{step, heldBack, holdsBack}
 use Rattle.rules.specs.Conditions.{Caller, CallerIn, HeldBackIn, Names, When, thenTested, order, Answered}
@@ -21,13 +21,14 @@ use Rattle.rules.proofs.Tests.{true-is, is-false, and-left, and-right, or-right
 use Rattle.rules.proofs.Counts.{someBelow→}
 use Rattle.rules.proofs.EqualRows.{settled-live, update-live, reader-live, live-reader}
 use Rattle.rules.proofs.Answered.{code-exactly}
-use Rattle.rules.proofs.Calls.{start-reads}
+use Rattle.rules.proofs.Calls.{version-reads}
+use Rattle.rules.proofs.RowKinds.{start-reads, start-not-relaxed}
 use Rattle.rules.proofs.Keeps.{keeps}
 use Rattle.rules.proofs.Waiting.{one-caller}
 use Rattle.history.specs.Runs.{endOf}
-use Rattle.history.specs.Happened.{Happening, updateBegan, queryBegan, accessed, updateCommitted, emptyCommitted, settledUnder, onlyEnded, nothing, did, told, names}
+use Rattle.history.specs.Happened.{Happening, updateBegan, queryBegan, relaxedBegan, accessed, updateCommitted, emptyCommitted, settledUnder, onlyEnded, nothing, did, told, names}
 use Rattle.history.proofs.Invariant.{View, Fair, Row, Locks, settled}
-use Rattle.history.proofs.Turns.{Same, New, Puts, Left, Settles, Turn, quiet, updateBegins, queryBegins, reads, writes, commits, commitsEmpty, settles, commitsSettled, ends}
+use Rattle.history.proofs.Turns.{Same, New, Puts, Left, Settles, Turn, quiet, updateBegins, queryBegins, relaxedBegins, reads, writes, commits, commitsEmpty, settles, commitsSettled, ends}
 use Rattle.history.proofs.Seen.{seen, seen-fair}
 use Rattle.history.proofs.Happens.{Happens, step-happens, good-run}
 use Rattle.line.specs.Served.{Before, Gone, EveryCall, Supposed}
@@ -36,6 +37,7 @@ use Rattle.line.specs.Served.{Before, Gone, EveryCall, Supposed}
 pub record Back (D : ℕ → Type 0) (n s x : ℕ) (W : View) : Type 0 where
   pub alive : W .alive s
   pub reader : W .kind s ≢ anUpdate
+  pub strict : W .kind s ≢ aRelaxed
   pub name : W .number s ≡ n
   pub notOwn : T (W .writes s x) → ⊥
   pub only : (b : ℕ) → b ≢ s → settled W b → W .start b ≤ W .start s → T (W .writes b x) → D (W .number b)
@@ -45,6 +47,7 @@ abbrev Something : Happening → Type 0
 Something nothing = ⊥
 Something (updateBegan n) = T true
 Something (queryBegan n) = T true
+Something (relaxedBegan n) = T true
 Something (accessed n a) = T true
 Something (updateCommitted n c) = T true
 Something (emptyCommitted n c) = T true
@@ -60,6 +63,7 @@ module _ (D : ℕ → Type 0) (n s x items : ℕ) (known : x < items) (W W′ : 
       record {
         alive = R .lives-on (B .alive);
         reader = λ e. B .reader (sym (R .kind-is) ∙ e);
+        strict = λ e. B .strict (sym (R .kind-is) ∙ e);
         name = R .number-is ∙ B .name;
         notOwn = λ h. B .notOwn (own h);
         only = λ b d p l h.
@@ -98,7 +102,7 @@ module _ (D : ℕ → Type 0) (n s x items : ℕ) (known : x < items) (W W′ : 
   settling : (r : ℕ) → Settles items W W′ r → Back D n s x W′
   settling r Q =
       but r (λ e. B .reader (ap (W .kind) e ∙ Q .update .1)) (Q .rows) (Q .locks)
-      (λ p l. let i = F .low s (B .alive, B .reader) in let j = Q .start in omega arith)
+      (λ p l. let i = F .low s (B .alive, B .reader, B .strict) in let j = Q .start in omega arith)
 
   -- who takes an item is not past its writing
   putting : (r y v : ℕ) → Puts items W W′ r y v → Back D n s x W′
@@ -125,6 +129,7 @@ module _ (D : ℕ → Type 0) (n s x items : ℕ) (known : x < items) (W W′ : 
   turned (quiet A) mine = same A
   turned (updateBegins r N k e) mine = begun r N (λ z. omega arith)
   turned (queryBegins r N q z e) mine = begun r N (λ i. let j = q .1 in omega arith)
+  turned (relaxedBegins r N q e) mine = begun r N (λ i. let j = q .1 in omega arith)
   turned (reads m r y v e b A g) mine = same A
   turned (writes m r y v e b P) mine = putting r y v P
   turned {c} (commits m r e a u L o i k) mine =
@@ -148,6 +153,7 @@ named n (Write m y v) h = eqb→eq m n h
 named n (Commit m) h = eqb→eq m n h
 named n (Abort m) h = eqb→eq m n h
 named n (Settle m) h = eqb→eq m n h
+named n BeginRelaxed h = h
 
 module _ (S : Sizes) (enough : S .slots ≤ S .places) (D : ℕ → Type 0) (n s x : ℕ) (known : x < S .items) where
   -- at a call that is not granted nothing happens
@@ -172,7 +178,7 @@ module _ (S : Sizes) (enough : S .slots ≤ S .places) (D : ℕ → Type 0) (n s
   unfolding heldBack holdsBack
   served G g B gone =
       ap (λ (o : Outcome). o .answer .code)
-      (start-reads S G g n s (record { inside = B .alive .0; alive = B .alive .1; name = B .name }) (live-reader (txn (G .txns) s) (B .alive .1) (B .reader)) x known (B .notOwn)
+      (version-reads S G g n s (record { inside = B .alive .0; alive = B .alive .1; name = B .name }) (live-reader (txn (G .txns) s) (B .alive .1) (B .reader)) x known (B .notOwn)
       (is-false (heldBack S (G .txns) (G .locks) x s) (λ h. none (someBelow→ (S .slots) (holdsBack (G .txns) (G .locks) x s) h))))
     where
       none : (b : ℕ) × (b < S .slots) × T (holdsBack (G .txns) (G .locks) x s b) → ⊥
@@ -210,6 +216,7 @@ first S G n s x B =
     record {
       alive = B .alive;
       reader = B .reader;
+      strict = B .strict;
       name = B .name;
       notOwn = B .notOwn;
       only = λ b d p l h.
@@ -226,7 +233,7 @@ module _ (S : Sizes) (enough : S .slots ≤ S .places) (G : Tables) (g : Good S 
   held : (c : Call) → Names c n → When S c G Wait → (y : ℕ) × HeldBackIn c S G s y
   unfolding When
   held c m = λ w. ⊎-elim
-      (λ p. absurd (reader-live (txn (G .txns) s) q .1 (ap (λ (r : ℕ). (txn (G .txns) r) .kind) (sym (here (p .0) (p .3 .caller))) ∙ update-live (txn (G .txns) (p .0)) (p .3 .update) .1)))
+      (λ p. absurd (reader-live (txn (G .txns) s) (start-reads (txn (G .txns) s) q) .1 (ap (λ (r : ℕ). (txn (G .txns) r) .kind) (sym (here (p .0) (p .3 .caller))) ∙ update-live (txn (G .txns) (p .0)) (p .3 .update) .1)))
       (λ p. (p .1, subst (λ (r : ℕ). HeldBackIn c S G r (p .1)) (here (p .0) (p .2 .caller)) (p .2)))
       w
     where
@@ -259,7 +266,8 @@ module _ (S : Sizes) (enough : S .slots ≤ S .places) (G : Tables) (g : Good S 
         let h = held (Read n x) refl (facts .1) in
         record {
           alive = (C .inside, C .alive);
-          reader = reader-live (txn (G .txns) s) q .1;
+          reader = reader-live (txn (G .txns) s) (start-reads (txn (G .txns) s) q) .1;
+          strict = start-not-relaxed (txn (G .txns) s) q;
           name = C .name;
           notOwn = λ w. h .1 .notOwn (subst (λ (y : ℕ). T (holdsExclusive (lock (G .locks) y) s)) (h .1 .wants .1) w);
           only = λ b d p l w. tt;

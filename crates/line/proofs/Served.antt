@@ -9,20 +9,23 @@ use native.Mathlib.Omega.{arith}
 use lib.Dec.{T, eqb, ltb}
 use borrow.Author.Tests.{ltb-true, ltb-false, ne-eqb}
 use Rattle.names.specs.declared.Sizes.{Sizes}
-use Rattle.rules.specs.Tables.{Tables, Txn, txn, live, liveUpdate, anUpdate, noLock, lock, holds, exclusivesOf, fresh}
+use Rattle.rules.specs.Tables.{Tables, Txn, txn, live, liveUpdate, isReader, byStart, anUpdate, aRelaxed, noLock, lock, holds, exclusivesOf, fresh}
 use Rattle.rules.specs.Waits.{awaits, awaitsOn, rankFor, conflicts, ahead, noted}
 use Rattle.rules.specs.Good.{Good}
 use Rattle.rules.specs.Locks.{Asked, toRead, toWrite, wanted}
 use Rattle.rules.specs.Answers.{Call, Abort, Outcome, granted, code}
-use Rattle.rules.specs.Step.{act, step, judged, awaitsOther, writesFurther, withTxns}
+use Rattle.rules.specs.Step.{act, step, judged, awaitsOther, writesFurther, withTxns, joined, askingJoins}
 use Rattle.rules.specs.Conditions.{CallerIn, Names, Wants}
 use Rattle.rules.specs.Promises.{codeOf, after, asking, Passes, SameButRank}
-use Rattle.rules.proofs.Tests.{true-is, false-is, is-false, and-right, and-both, not-use, eq-make, ne-make}
+use Rattle.rules.proofs.Tests.{true-is, false-is, is-false, and-right, and-both, not-use, eq-make, ne-make, same?}
 use Rattle.rules.proofs.EqualRows.{holder, holder-live, update-live, update-holds, reader-live}
 use Rattle.rules.proofs.Callers.{is-writer, is-reader}
 use Rattle.rules.proofs.EqualRanks.{awaits→, awaitsOn→}
 use Rattle.rules.proofs.Walks.{ahead→, blocks→, conflicts→holds}
-use Rattle.rules.proofs.Noting.{rank-known, noted-known, noted-here}
+use Rattle.rules.proofs.RowKinds.{start-reads, live-relaxed}
+use Rattle.rules.proofs.Joined.{joined-beside}
+use Rattle.rules.proofs.Relaxed.{relaxed-never-waits}
+use Rattle.rules.proofs.Noting.{rank-known, noted-known, noted-here, noted-size}
 use Rattle.rules.proofs.Views.{awaiting}
 use Rattle.rules.proofs.Waited.{only-this}
 use Rattle.rules.proofs.Refused.{NotedDown, HeldSilently, wait-is}
@@ -34,9 +37,10 @@ use Rattle.rules.proofs.Keeps.{keeps}
 use Rattle.rules.proofs.Steps.{acts}
 use Rattle.rules.proofs.Waiting.{stays-waiting, one-caller, one-want}
 use Rattle.history.specs.Runs.{endOf}
+use Rattle.history.proofs.Seen.{reads-by-start}
 use Rattle.history.proofs.Happens.{good-run, run-good}
 use Rattle.line.specs.Served.{Waiting, Before, Gone, Exchange, EveryCall, Served, WaitsOn, WaitsFrom, ServedInRuns}
-use Rattle.line.proofs.Outsiders.{Outside, Inv, waits-here, same-wait}
+use Rattle.line.proofs.Outsiders.{Outside, Inv, wait-beside, waits-here, same-wait}
 use Rattle.line.proofs.Turns.{turn}
 use Rattle.line.proofs.Readers.{reader-served}
 
@@ -183,10 +187,14 @@ waits-from S G a n s x v g C p z = noted-down (wait-is S (asking a n x v) G z)
     noted-down : NotedDown S c G (step S c G) ⊎ HeldSilently S c G (step S c G) → Waiting S (after S c G) a n s x
     -- it is no reader
     noted-down (inr h) =
-        let q = reader-live (txn t (h .0 .0)) (h .0 .2) .1 in
+        let q = reader-live (txn t (h .0 .0)) (start-reads (txn t (h .0 .0)) (h .0 .2)) .1 in
         let e = one-caller S G g c (h .0 .0) s (h .0 .1) caller in
         absurd (q (ap (λ (r : ℕ). (txn t r) .kind) e ∙ update-live (txn t s) p .1))
-    noted-down (inl W) = subst (λ (H : Tables). Waiting S H a n s x) (sym is) (go (awaitsOn x (txn t s)) refl)
+    noted-down (inl W) =
+        subst (λ (H : Tables). Waiting S H a n s x) (sym is)
+        (wait-beside S (λ m. ⊥) a n s x (withTxns G (noted S t (G .locks) s (wanted a) x)) (joined (noted S t (G .locks) s (wanted a) x) s (askingJoins S t (wanted a) x))
+        (joined-beside (noted S t (G .locks) s (wanted a) x) s (askingJoins S t (wanted a) x) S (noted-size S t (G .locks) s (wanted a) x ∙ g .txnsExact) (C .inside))
+        (go (awaitsOn x (txn t s)) refl))
       where
         slot : W .0 ≡ s
         slot = one-caller S G g c (W .0) s (W .3) caller
@@ -199,10 +207,12 @@ waits-from S G a n s x v g C p z = noted-down (wait-is S (asking a n x v) G z)
             subst (λ (j : ℕ). awaitsOther t j (wanted a) x ≡ false) slot
             (subst (λ (j : ℕ). awaitsOther t (W .0) j x ≡ false) (want .0) (subst (λ (j : ℕ). awaitsOther t (W .0) (W .1) j ≡ false) (want .1) (W .5)))
 
-        is : after S c G ≡ withTxns G (noted S t (G .locks) s (wanted a) x)
+        J : ℕ → ℕ → ℕ → Tables
+        J j k y = withTxns G (joined (noted S t (G .locks) j k y) j (askingJoins S t k y))
+
+        is : after S c G ≡ withTxns G (joined (noted S t (G .locks) s (wanted a) x) s (askingJoins S t (wanted a) x))
         is =
-            W .6 ∙ ap (λ (j : ℕ). withTxns G (noted S t (G .locks) j (W .1) (W .2))) slot ∙ ap (λ (j : ℕ). withTxns G (noted S t (G .locks) s j (W .2))) (want .0)
-            ∙ ap (λ (j : ℕ). withTxns G (noted S t (G .locks) s (wanted a) j)) (want .1)
+            W .6 ∙ ap (λ (j : ℕ). J j (W .1) (W .2)) slot ∙ ap (λ (j : ℕ). J s j (W .2)) (want .0) ∙ ap (λ (j : ℕ). J s (wanted a) j) (want .1)
 
         go : (b : Bool) → awaitsOn x (txn t s) ≡ b → Waiting S (withTxns G (noted S t (G .locks) s (wanted a) x)) a n s x
         go true e =
@@ -249,4 +259,14 @@ module _ (S : Sizes) (enough : S .slots ≤ S .places) where
       go true e =
           served-in-line (after S (asking a n x u) H) cs a n s x v (keeps S enough (asking a n x u) H g)
           (waits-from S H a n s x u g C (is-writer (H .txns) s (C .alive) e) z) p
-      go false e = reader-served S enough H g n s x C (is-reader (H .txns) s (C .alive) e) a u v cs z p
+      -- a relaxed query never waits
+      go false e =
+          reader-served S enough H g n s x C
+          (starts (is-reader (H .txns) s (C .alive) e) (same? ((txn (H .txns) s) .kind) aRelaxed)) a u v cs z p
+        where
+          asker : CallerIn (asking a n x u) S H s
+          asker = record { inside = C .inside; alive = C .alive; named = subst (Names (asking a n x u)) (sym (C .name)) (asking-names a n x u) }
+
+          starts : T (isReader (txn (H .txns) s)) → ((txn (H .txns) s) .kind ≡ aRelaxed) ⊎ ((txn (H .txns) s) .kind ≢ aRelaxed) → T (byStart (txn (H .txns) s))
+          starts r (inl k) = absurd (relaxed-never-waits S (asking a n x u) H s asker (live-relaxed (txn (H .txns) s) (C .alive) k) .0 z)
+          starts r (inr k) = reads-by-start S H g s ((C .inside, C .alive), reader-live (txn (H .txns) s) r .1, k)

@@ -15,8 +15,8 @@ use Rattle.rules.specs.Tables.{clock, setTxn, newTxn, aSettled, noLock, sharedL
 use Rattle.rules.specs.Waits.{awaits, awaitsOn, rankFor, raised, noted, conflicts}
 use Rattle.rules.specs.Good.{Good}
 use Rattle.rules.specs.Locks.{Asked, toRead, toWrite, wanted}
-use Rattle.rules.specs.Answers.{Outcome, Call, BeginUpdate, BeginQuery, Read, Write, Commit, Abort, Settle, Deed, granted, code, Wait}
-use Rattle.rules.specs.Step.{step, done, cleared, locked, replaced, sharedToo, taken, queryRead, withTxns, counted, writesFurther, settled}
+use Rattle.rules.specs.Answers.{Outcome, Call, BeginUpdate, BeginQuery, Read, Write, Commit, Abort, Settle, BeginRelaxed, Deed, granted, code, Wait}
+use Rattle.rules.specs.Step.{step, done, cleared, locked, replaced, sharedToo, taken, versionRead, withTxns, counted, readNoted, joined, askingJoins, grantJoins, joining, lockedAnew, writesFurther, settled}
 use Rattle.rules.specs.Conditions.{Caller, Updater, Names, Wants}
 use Rattle.rules.specs.Changed.{lookedAt}
 use Rattle.rules.specs.Promises.{codeOf, after, Conflicting}
@@ -29,17 +29,24 @@ use Rattle.rules.proofs.Walks.{→ahead, →blocks}
 use Rattle.rules.proofs.Decisions.{conflicts-cases}
 use Rattle.rules.proofs.Grants.{conflicts-fewer, shared-others, replaced-others, taken-others}
 use Rattle.rules.proofs.Noting.{noted-known, noted-there, noted-here}
-use Rattle.rules.proofs.Waited.{only-this, cleared-here, cleared-there, cleared-idle}
+use Rattle.rules.proofs.Waited.{only-this}
 use Rattle.rules.proofs.Granted.{granted-exactly}
 use Rattle.rules.proofs.InOrder.{raised-before}
 use Rattle.rules.proofs.Settles.{unshared-fewer}
-use Rattle.rules.proofs.Counting.{counted-there, counted-same}
-use Rattle.rules.proofs.Ways.{Way, Waiter, refused, waited, beganUpdate, beganQuery, readOwn, readNewest, readShared, readSettled, readByStart}
+use Rattle.rules.proofs.Notes.{Beside, beside-on}
+use Rattle.rules.proofs.Joined.{joined-beside}
+use Rattle.rules.proofs.ReadNoted.{read-length, read-beside, holder-inside}
+use Rattle.rules.proofs.Counting.{counted-beside}
+use Rattle.rules.proofs.Taken.{anew-joined}
+use Rattle.rules.proofs.Noting.{noted-size}
+use Rattle.rules.proofs.Waited.{waited-good}
+use Rattle.rules.proofs.Ways.{Way, Waiter, refused, waited, beganUpdate, beganQuery, beganRelaxed, readOwn, readNewest, readShared, readSettled, readVersion}
 use Rattle.rules.proofs.Ways.{wroteOwn, wroteSettled, wroteTaken, committedUpdate, committedEmpty, committedSettled, committedQuery, abortedUpdate, abortedSettled, abortedQuery, settledUpdate, keptWaiting}
 use Rattle.line.specs.Served.{Exchange}
 use Rattle.line.proofs.Kept.{Kept, same-locks, set-other, rows-kept, left-kept, came-kept}
 use Rattle.line.proofs.Ends.{begins, commits, settled-commits, query-ends, aborts, settled-aborts}
-use Rattle.line.proofs.Outsiders.{Outside, Harmless, Inv, waits-here, asks-behind, carried}
+use Rattle.line.proofs.Outsiders.{Outside, Harmless, Inv, out-beside, inv-beside, waits-here, asks-behind, carried}
+use Rattle.line.proofs.Locking.{no-more, as-before, clears-only, same-item, locks, was-out, idle-now, lock-now}
 
 -- a call for an exclusive lock is a write
 writes : (c : Call) (m k y : ℕ) → Names c m → Wants c k y → k ≡ exclusiveLock → (v : ℕ) × (c ≡ Write m y v)
@@ -50,6 +57,7 @@ writes (Write i z v) m k y h w e = (v, ap (λ (j : ℕ). Write j z v) h ∙ ap (
 writes (Commit i) m k y h w e = absurd w
 writes (Abort i) m k y h w e = absurd w
 writes (Settle i) m k y h w e = absurd w
+writes BeginRelaxed m k y h w e = absurd w
 
 -- a request is to read or to write
 kinds : (a : Asked) → (wanted a ≡ sharedLock) ⊎ (wanted a ≡ exclusiveLock)
@@ -81,18 +89,6 @@ module _
         let W = I .waiting .caller in
         sym (caller-found S G g r m (C .inside) (C .alive) (C .name)) ∙ caller-found S G g s m (W .inside) (W .alive) (W .name ∙ sym e)
 
-    -- ---- what a slot r outside, that calls, holds and awaits afterwards
-    -- it awaits nothing, bears the same number and holds no more
-    no-more : (G′ : Tables) (r : ℕ) → (txn (G′ .txns) r) .number ≡ (txn t r) .number → (T (live (txn (G′ .txns) r)) → T (live (txn t r)))
-        → (T (awaits (txn (G′ .txns) r)) → ⊥) → NoMore r (lock l x) (lock (G′ .locks) x) → O G′ r → H G′ r
-    no-more G′ r e v idle m o =
-        record {
-          free = λ c.
-              I .harmless r (record { inside = o .inside; other = o .other; alive = v (o .alive); out = λ z. o .out (subst D (sym e) z) }) .free
-              (conflicts-fewer (wanted a) r (lock l x) (lock (G′ .locks) x) m c);
-          behind = λ u. absurd (idle (awaitsOn→ x (txn (G′ .txns) r) u .0));
-        }
-
     -- ---- what the call c of another is answered
     module _ (c : Call) (quiet : Names c n → codeOf S c G ≢ granted) (none : (m : ℕ) → Exchange S G x c m → (m ≡ n) ⊎ D m) where
       -- a granted call is another's
@@ -119,80 +115,6 @@ module _
             (⊎-elim (λ q. inl q) (λ q. inr (I .waiting .lockKind ∙ q)) w))),
       ),
     )
-
-    -- ---- a grant to slot r: its wait is cleared, and the lock of item y is h′
-    module _ (r : ℕ) (inside : r < S .slots) where
-      abbrev u : List ℕ
-      u = cleared S t r
-
-      row : txn (cleared S t r) r ≡ awaiting (txn t r) noLock 0 0
-      row = cleared-here S t (g .txnsExact) r inside
-
-      clears : (l′ : List ℕ) → ((b : ℕ) → b ≢ r → NoMore b (lock l x) (lock l′ x)) → Kept S G (tables (cleared S t r) l′ (G .versions)) x r
-      clears l′ m =
-          left-kept S G (tables u l′ (G .versions)) g x r inside (cleared-there S t (g .txnsExact) r inside) (cleared-idle S t (g .txnsExact) r inside) m
-
-      -- the caller is as it was outside, and holds no more
-      as-before : (l′ : List ℕ) → NoMore r (lock l x) (lock l′ x) → let G′ = tables (cleared S t r) l′ (G .versions) in O G′ r → H G′ r
-      as-before l′ m = no-more (tables u l′ (G .versions)) r (ap (λ (w : Txn). w .number) row) (λ h. unfold live in (subst (λ (w : Txn). T (live w)) row h)) (cleared-idle S t (g .txnsExact) r inside) m
-
-      -- no lock changes
-      clears-only : s ≢ r → Good S (withTxns G (cleared S t r)) → J (withTxns G (cleared S t r))
-      clears-only d g′ = carried S D a n s x G (withTxns G u) g′ I r d (clears l (λ b e. same-locks (lock l x) b)) (as-before l (same-locks (lock l x) r))
-
-      module _ (y : ℕ) (h′ : Lock) (there : y < S .items) (others : (b : ℕ) → b ≢ r → NoMore b (lock l y) h′) where
-        same-item : x ≡ y → lock (setLock l y h′) x ≡ h′
-        same-item e = ap (lock (setLock l y h′)) e ∙ lock-setLock l y h′ S (g .locksExact) there
-
-        fewer : (b : ℕ) → b ≢ r → NoMore b (lock l x) (lock (setLock l y h′) x)
-        fewer b d = go (same? x y)
-          where
-            go : (x ≡ y) ⊎ (x ≢ y) → NoMore b (lock l x) (lock (setLock l y h′) x)
-            go (inl e) = subst (NoMore b (lock l x)) (sym (same-item e)) (subst (λ (z : ℕ). NoMore b (lock l z) h′) (sym e) (others b d))
-            go (inr n) = set-other l x y h′ n b
-
-        -- the caller must be harmless where the lock is that of the item x
-        locks : s ≢ r → Good S (locked S r y h′ G) → (x ≡ y → O (locked S r y h′ G) r → H (locked S r y h′ G) r) → J (locked S r y h′ G)
-        unfolding locked
-        locks d g′ own = carried S D a n s x G (locked S r y h′ G) g′ I r d (clears (setLock l y h′) fewer) (λ o. go o (same? x y))
-          where
-            go : O (locked S r y h′ G) r → (x ≡ y) ⊎ (x ≢ y) → H (locked S r y h′ G) r
-            go o (inl e) = own e o
-            go o (inr n) = as-before (setLock l y h′) (set-other l x y h′ n r) o
-
-        -- a caller outside afterwards was outside before
-        was-out : O (locked S r y h′ G) r → O G r
-        unfolding locked live
-        was-out o =
-            record {
-              inside = inside;
-              other = o .other;
-              alive = subst (λ (w : Txn). T (live w)) row (o .alive);
-              out = λ z. o .out (subst D (sym (ap (λ (w : Txn). w .number) row)) z);
-            }
-
-        -- and awaits nothing now
-        idle-now : T (awaitsOn x (txn ((locked S r y h′ G) .txns) r)) → ⊥
-        unfolding locked
-        idle-now v = cleared-idle S t (g .txnsExact) r inside (awaitsOn→ x (txn u r) v .0)
-
-        lock-now : x ≡ y → lock ((locked S r y h′ G) .locks) x ≡ h′
-        unfolding locked
-        lock-now e = same-item e
-
-    -- ---- a read by a start is counted: the reader awaits nothing, and no lock changes
-    counts-only : (r k : ℕ) → r < S .slots → T (byStart (txn t r)) → s ≢ r → Good S (withTxns G (counted t r k)) → J (withTxns G (counted t r k))
-    counts-only r k i q d g′ =
-        carried S D a n s x G (withTxns G (counted t r k)) g′ I r d
-        (rows-kept S G (withTxns G (counted t r k)) g x r i (counted-there t r k) (λ b e. same-locks (lock l x) b))
-        (no-more (withTxns G (counted t r k)) r (same (λ (w : Txn). w .number) (λ w n s. refl)) (λ h. subst T lives h)
-        (λ v. awaits→ (txn (counted t r k) r) v (same (λ (w : Txn). w .awaitedLock) (λ w n s. refl) ∙ g .txnGood r i .readerIdle q)) (same-locks (lock l x) r))
-      where
-        same : {A : Type 0} (h : Txn → A) → ((w : Txn) (n s : ℕ) → h (reading w n s) ≡ h w) → h (txn (counted t r k) r) ≡ h (txn t r)
-        same h e = counted-same t r k S (g .txnsExact) i h e r
-
-        lives : live (txn (counted t r k) r) ≡ live (txn t r)
-        lives = unfold live in (same live (λ w n s. refl))
 
     -- ---- a wait
     module _
@@ -261,12 +183,13 @@ module _
 
     -- ---- a shared lock is taken
     shares : (m r y : ℕ) → Updater S G m r sharedLock y → (T (holds (lock l y) r) → ⊥) → (lock l y) .exclusive ≡ 0 → codeOf S (Read m y) G ≡ granted
-        → s ≢ r → Good S (locked S r y (sharedToo (lock l y) r) G) → J (locked S r y (sharedToo (lock l y) r) G)
+        → s ≢ r → Good S (lockedAnew S r sharedLock y (sharedToo (lock l y) r) G) → J (lockedAnew S r sharedLock y (sharedToo (lock l y) r) G)
+    unfolding lockedAnew
     shares m r y U h f z d g′ =
-        locks r i y h′ (U .known) others d g′
+        locks S D a n s x G₁ g₁ I₁ known r i y h′ (U .known) others d g′
         (λ e o. record {
-          free = λ c. own e o (kinds a) (subst (λ (w : Lock). T (conflicts w (wanted a) r)) (lock-now r i y h′ (U .known) others e) c);
-          behind = λ v. absurd (idle-now r i y h′ (U .known) others v);
+          free = λ c. own e o (kinds a) (subst (λ (w : Lock). T (conflicts w (wanted a) r)) (lock-now S D a n s x G₁ g₁ I₁ known r i y h′ (U .known) others e) c);
+          behind = λ v. absurd (idle-now S D a n s x G₁ g₁ I₁ known r i y h′ (U .known) others v);
         })
       where
         i : r < S .slots
@@ -275,6 +198,19 @@ module _
         h′ : Lock
         h′ = sharedToo (lock l y) r
 
+        -- the sets are joined first
+        G₁ : Tables
+        G₁ = joining r (grantJoins S G sharedLock y) G
+
+        beside : (b : ℕ) → Beside (txn t b) (txn (joined t r (grantJoins S G sharedLock y)) b)
+        beside = joined-beside t r (grantJoins S G sharedLock y) S (g .txnsExact) i
+
+        g₁ : Good S (joining r (grantJoins S G sharedLock y) G)
+        g₁ = anew-joined S G g r sharedLock y i (U .update) (U .known)
+
+        I₁ : J (joining r (grantJoins S G sharedLock y) G)
+        I₁ = inv-beside S D a n s x G (joined t r (grantJoins S G sharedLock y)) beside I
+
         others : (b : ℕ) → b ≢ r → NoMore b (lock l y) h′
         others = shared-others S t (lock l y) (g .lockGood y (U .known)) r i (U .update)
 
@@ -282,28 +218,42 @@ module _
         unheld : T (holdsExclusive h′ r) → ⊥
         unheld c = let e : (lock l y) .exclusive ≡ suc r = unfold holdsExclusive in (eqb→eq ((lock l y) .exclusive) (suc r) c) in omega arith
 
-        own : x ≡ y → O (locked S r y h′ G) r → (wanted a ≡ sharedLock) ⊎ (wanted a ≡ exclusiveLock) → T (conflicts h′ (wanted a) r) → ⊥
+        own : x ≡ y → O (locked S r y h′ G₁) r → (wanted a ≡ sharedLock) ⊎ (wanted a ≡ exclusiveLock) → T (conflicts h′ (wanted a) r) → ⊥
         own e o (inl q) c = ⊎-elim unheld (λ p. let j = p .0 in omega arith) (conflicts-cases h′ (wanted a) r c)
         own e o (inr q) c =
             granted-exactly S G toRead m r x 0 g
             (record { asks = subst (λ (j : ℕ). Updater S G m r sharedLock j) (sym e) U; room = λ p. absurd (let j : _≡_ {A = ℕ} 0 1 = cc in omega arith) })
             .0 (subst (λ (j : ℕ). codeOf S (Read m j) G ≡ granted) (sym e) z)
-            (stopped r (was-out r i y h′ (U .known) others o) toRead (subst (λ (j : ℕ). T (holds (lock l j) r) → ⊥) (sym e) h) (inr q))
+            (stopped r (out-beside S D a n s x G (G₁ .txns) beside r (was-out S D a n s x G₁ g₁ I₁ known r i y h′ (U .known) others o)) toRead (subst (λ (j : ℕ). T (holds (lock l j) r) → ⊥) (sym e) h) (inr q))
 
     -- ---- an exclusive lock is taken: if on this item, by none outside
     takes :
         (m r y v : ℕ) → Updater S G m r exclusiveLock y → T (holdsShared (lock l y) r) ⊎ (T (holds (lock l y) r) → ⊥)
         → ((b : ℕ) → b ≢ r → T (holds (lock l y) b) → ⊥) → exclusivesOf S l r ≢ S .quota → codeOf S (Write m y v) G ≡ granted
         → (Names (Write m y v) n → codeOf S (Write m y v) G ≢ granted) → ((i : ℕ) → Exchange S G x (Write m y v) i → (i ≡ n) ⊎ D i)
-        → s ≢ r → Good S (locked S r y (taken (lock l y) r v) G) → J (locked S r y (taken (lock l y) r v) G)
+        → s ≢ r → Good S (lockedAnew S r exclusiveLock y (taken (lock l y) r v) G) → J (lockedAnew S r exclusiveLock y (taken (lock l y) r v) G)
+    unfolding lockedAnew
     takes m r y v U h alone room z quiet none d g′ =
-        locks r i y h′ (U .known) others d g′ (λ e o. absurd (never e (was-out r i y h′ (U .known) others o) h))
+        locks S D a n s x G₁ g₁ I₁ known r i y h′ (U .known) others d g′
+        (λ e o. absurd (never e (out-beside S D a n s x G (G₁ .txns) beside r (was-out S D a n s x G₁ g₁ I₁ known r i y h′ (U .known) others o)) h))
       where
         i : r < S .slots
         i = U .caller .inside
 
         h′ : Lock
         h′ = taken (lock l y) r v
+
+        G₁ : Tables
+        G₁ = joining r (grantJoins S G exclusiveLock y) G
+
+        beside : (b : ℕ) → Beside (txn t b) (txn (joined t r (grantJoins S G exclusiveLock y)) b)
+        beside = joined-beside t r (grantJoins S G exclusiveLock y) S (g .txnsExact) i
+
+        g₁ : Good S (joining r (grantJoins S G exclusiveLock y) G)
+        g₁ = anew-joined S G g r exclusiveLock y i (U .update) (U .known)
+
+        I₁ : J (joining r (grantJoins S G exclusiveLock y) G)
+        I₁ = inv-beside S D a n s x G (joined t r (grantJoins S G exclusiveLock y)) beside I
 
         others : (b : ℕ) → b ≢ r → NoMore b (lock l y) h′
         others = taken-others S t (lock l y) (g .lockGood y (U .known)) r i (U .update) alone v
@@ -320,7 +270,8 @@ module _
 
     -- ---- a working value is replaced
     replaces : (r y v : ℕ) → r < S .slots → y < S .items → s ≢ r → Good S (locked S r y (replaced (lock l y) v) G) → J (locked S r y (replaced (lock l y) v) G)
-    replaces r y v i there d g′ = locks r i y h′ there (λ b e. no b) d g′ (λ e o. unfold locked in (as-before r i (setLock l y h′) (own e) o))
+    replaces r y v i there d g′ =
+        locks S D a n s x G g I known r i y h′ there (λ b e. no b) d g′ (λ e o. unfold locked in (as-before S D a n s x G g I known r i (setLock l y h′) (own e) o))
       where
         h′ : Lock
         h′ = replaced (lock l y) v
@@ -329,7 +280,7 @@ module _
         no b = replaced-others (lock l y) v b
 
         own : x ≡ y → NoMore r (lock l x) (lock (setLock l y h′) x)
-        own e = subst (NoMore r (lock l x)) (sym (same-item r i y h′ there (λ b d. no b) e)) (subst (λ (j : ℕ). NoMore r (lock l j) h′) (sym e) (no r))
+        own e = subst (NoMore r (lock l x)) (sym (same-item S D a n s x G g I known r i y h′ there (λ b d. no b) e)) (subst (λ (j : ℕ). NoMore r (lock l j) h′) (sym e) (no r))
 
     -- ---- one settles: it awaits nothing and holds no more
     settles : (r : ℕ) → r < S .slots → s ≢ r → Good S (settled S r G) → J (settled S r G)
@@ -337,7 +288,7 @@ module _
     settles r i d g′ =
         carried S D a n s x G (settled S r G) g′ I r d
         (rows-kept S G (settled S r G) g x r i (λ b e. txn-setTxn-other u′ r Q b e ∙ txn-top t clockAt (clock t + 1) b (omega arith)) (λ b e. fewer′ b))
-        (no-more (settled S r G) r (ap (λ (w : Txn). w .number) here′) (λ h. unfold live in (subst (λ (w : Txn). T (live w)) here′ h))
+        (no-more S D a n s x G g I known (settled S r G) r (ap (λ (w : Txn). w .number) here′) (λ h. unfold live in (subst (λ (w : Txn). T (live w)) here′ h))
         (λ v. awaits→ (txn (setTxn u′ r Q) r) v (ap (λ (w : Txn). w .awaitedLock) here′)) (fewer′ r))
       where
         u′ : List ℕ
@@ -356,23 +307,33 @@ module _
     pub turn :
         (c : Call) (d : Deed) → Way S G c d → step S c G ≡ done S d G → (Names c n → codeOf S c G ≢ granted)
         → ((m : ℕ) → Exchange S G x c m → (m ≡ n) ⊎ D m) → Good S ((done S d G) .after) → Inv S D a n s x ((done S d G) .after)
-    unfolding done queryRead
+    unfolding done versionRead
     turn c d (refused r m) e quiet none g′ = I
-    turn c d (waited r k y w) e quiet none g′ = waits c quiet none r k y w (ap (λ (o : Outcome). o .answer .code) e) g′
+    turn c d (waited r k y w) e quiet none g′ =
+        inv-beside S D a n s x (withTxns G (noted S t l r k y)) (joined (noted S t l r k y) r (askingJoins S t k y))
+        (joined-beside (noted S t l r k y) r (askingJoins S t k y) S (noted-size S t l r k y ∙ g .txnsExact) (w .caller .inside))
+        (waits c quiet none r k y w (ap (λ (o : Outcome). o .answer .code) e)
+        (waited-good S G g r (w .caller .inside) (w .update) k y (w .some) (w .may) (w .circle) (λ h. only-this t r k y (w .free) h .1)))
     turn c d (beganUpdate r F l) e quiet none g′ = begins S D a n s x G g I known r F _ _ g′
     turn c d (beganQuery r F l) e quiet none g′ = begins S D a n s x G g I known r F _ _ g′
+    turn c d (beganRelaxed r F l v) e quiet none g′ = begins S D a n s x G g I known r F _ _ g′
     turn c d (readOwn m r y U h) e quiet none g′ =
-        clears-only r (U .caller .inside) (apart c quiet none m r refl (U .caller) (ap (λ (o : Outcome). o .answer .code) e)) g′
+        clears-only S D a n s x G g I known r (U .caller .inside) (apart c quiet none m r refl (U .caller) (ap (λ (o : Outcome). o .answer .code) e)) g′
     turn c d (readNewest m r y U h) e quiet none g′ =
-        clears-only r (U .caller .inside) (apart c quiet none m r refl (U .caller) (ap (λ (o : Outcome). o .answer .code) e)) g′
+        clears-only S D a n s x G g I known r (U .caller .inside) (apart c quiet none m r refl (U .caller) (ap (λ (o : Outcome). o .answer .code) e)) g′
     turn c d (readShared m r y U h f) e quiet none g′ =
         let z = ap (λ (o : Outcome). o .answer .code) e in
         shares m r y U h f z (apart c quiet none m r refl (U .caller) z) g′
     turn c d (keptWaiting r C q) e quiet none g′ = I
     turn c d (readSettled m r y C p i h) e quiet none g′ =
-        clears-only r (C .inside) (apart c quiet none m r refl C (ap (λ (o : Outcome). o .answer .code) e)) g′
-    turn c d (readByStart m r y C q i h f) e quiet none g′ =
-        counts-only r (lookedAt S G r y) (C .inside) q (apart c quiet none m r refl C (ap (λ (o : Outcome). o .answer .code) e)) g′
+        clears-only S D a n s x G g I known r (C .inside) (apart c quiet none m r refl C (ap (λ (o : Outcome). o .answer .code) e)) g′
+    turn c d (readVersion m r y C q i h f) e quiet none g′ =
+        inv-beside S D a n s x G (counted (readNoted t l r y) r (lookedAt S G r y))
+        (λ b.
+        beside-on (txn t b) (txn (readNoted t l r y) b) (txn (counted (readNoted t l r y) r (lookedAt S G r y)) b)
+        (read-beside S t l r y (g .txnsExact) (C .inside) (holder-inside S G g r (C .inside) y i) b)
+        (counted-beside (readNoted t l r y) r (lookedAt S G r y) S (read-length S t l r y (g .txnsExact) (C .inside) (holder-inside S G g r (C .inside) y i) ∙ g .txnsExact) (C .inside) b))
+        I
     turn c d (wroteOwn m r y v U h) e quiet none g′ =
         replaces r y v (U .caller .inside) (U .known) (apart c quiet none m r refl (U .caller) (ap (λ (o : Outcome). o .answer .code) e)) g′
     turn c d (wroteSettled m r y v C p i h) e quiet none g′ =
@@ -392,7 +353,7 @@ module _
         aborts S D a n s x G g I known r (C .inside) (apart c quiet none m r refl C (ap (λ (o : Outcome). o .answer .code) e)) g′
     turn c d (abortedSettled m r C p) e quiet none g′ =
         settled-aborts S D a n s x G g I known r (C .inside) (apart c quiet none m r refl C (ap (λ (o : Outcome). o .answer .code) e)) g′
-    turn c d (settledUpdate m r C u i f) e quiet none g′ =
+    turn c d (settledUpdate m r C u i f v) e quiet none g′ =
         settles r (C .inside) (apart c quiet none m r refl C (ap (λ (o : Outcome). o .answer .code) e)) g′
     turn c d (abortedQuery m r C q) e quiet none g′ =
         query-ends S D a n s x G g I known r (C .inside) (apart c quiet none m r refl C (ap (λ (o : Outcome). o .answer .code) e)) g′

@@ -5,12 +5,12 @@ use mathlib.Core.Path.{_≡_, refl, ap, _∙_}
 use native.Mathlib.Omega.{arith}
 use Rattle.names.specs.Sizes.{base}
 use Rattle.names.specs.Words.{heldAtLast}
-use Rattle.rules.specs.Words.{implies, everyBelow, someBelow, countBelow, firstFrom, every, some, tabulateFrom, row, everyRow, mapRows, bit, withBit, withoutBit}
-use Rattle.rules.specs.Tables.{txn, setTxn, setAwaited, setReads, reranked, live, liveUpdate, liveQuery, liveSettled, mayHold, byStart, slotOf, freeSlot, startsFrom, starts, lock, setLock, holdsShared, holdsExclusive, holds, exclusivesOf, released, release, unshare, fresh}
-use Rattle.rules.specs.Versions.{pairs, versionsIn, versionsOf, pairWords, rowOf, stampAt, newest, place, choice, readBySome, keptFrom, kept, rewritten}
+use Rattle.rules.specs.Words.{implies, everyBelow, someBelow, countBelow, firstFrom, every, some, tabulateFrom, row, everyRow, mapRows, bit, withBit, withoutBit, contains, slotsThat}
+use Rattle.rules.specs.Tables.{txn, setTxn, setAwaited, setReads, setItemsRead, setLaterFor, reworded, live, liveUpdate, liveQuery, liveSettled, liveRelaxed, queryKind, anyQuery, mayHold, isReader, byStart, slotOf, freeSlot, someSettled, someRelaxed, relaxedIn, haveRead, readerIn, readersFrom, readers, lock, setLock, holdsShared, holdsExclusive, holds, exclusivesOf, released, release, unshare, fresh}
+use Rattle.rules.specs.Versions.{versionsFrom, versionsIn, versionsOf, pairWords, maskWords, rowOf, stampAt, hiddenAt, newest, hiddenNow, sees, place, choice, readBySome, keptFrom, kept, rewritten, revealed}
 use Rattle.rules.specs.Waits.{awaits, awaitsOn, waitersOn, exchangersOn, rankFor, raised, lowered, noted, closedUp, conflicts, ahead, blocks, blocked, waitsFor, marked, spread, rounds, reached, circleAt, noCircle}
 use Rattle.rules.specs.Locks.{heldBy, decide, anotherShares, anotherExcludes, anotherAhead, decision}
-use Rattle.rules.specs.Step.{beginBy, conflicted, cellDeed, access, awaitsOther, writesFurther, holdsBack, heldBack, startRead, writesPast, readBy, writeBy, commitUpdate, commitBy, abortBy, settleBy, judged, begun, cleared, locked, counted, queryRead, withNew, committedUnder, committed, settledCommitted, ended, aborted, settledAborted, settled, done, act}
+use Rattle.rules.specs.Step.{meetsSettled, beginBy, conflicted, cellDeed, access, awaitsOther, writesFurther, holdsBack, heldBack, startRead, writesPast, readBy, writeBy, commitUpdate, commitBy, abortBy, settleBy, judged, begun, cleared, joined, askingJoins, grantJoins, holderJoins, readNoted, forgotten, locked, lockedAnew, counted, versionRead, withNew, committedUnder, committed, settledCommitted, ended, aborted, settledAborted, settled, done, act}
 use Rattle.rules.specs.Answers.{Call}
 use Rattle.rules.proofs.Fresh.{fresh-good}
 use Rattle.history.specs.Runs.{endOf}
@@ -21,7 +21,7 @@ use Rattle.line_samples.specs.Samples.{queued, givenUp, exchange, exchan
 
 -- whoever unfolds this computes with all the rules
 unfoldable pub computed : List Call → List ℕ
-unfolding played playedEnd codesIn held settle queued exchange givenUp implies everyBelow someBelow countBelow firstFrom every some tabulateFrom row everyRow mapRows bit withBit withoutBit txn setTxn setAwaited setReads reranked live liveUpdate liveQuery liveSettled mayHold byStart slotOf freeSlot startsFrom starts lock setLock holdsShared holdsExclusive holds exclusivesOf released release unshare fresh pairs versionsIn versionsOf pairWords rowOf stampAt newest place choice readBySome keptFrom kept rewritten awaits awaitsOn waitersOn exchangersOn rankFor raised lowered noted closedUp conflicts ahead blocks blocked waitsFor marked spread rounds reached circleAt noCircle heldBy decide anotherShares anotherExcludes anotherAhead decision beginBy conflicted cellDeed access awaitsOther writesFurther holdsBack heldBack startRead writesPast readBy writeBy commitUpdate commitBy abortBy settleBy judged begun cleared locked heldAtLast counted queryRead withNew committedUnder committed settledCommitted ended aborted settledAborted settled done act
+unfolding played playedEnd codesIn held settle queued exchange givenUp implies everyBelow someBelow countBelow firstFrom every some tabulateFrom row everyRow mapRows bit withBit withoutBit contains slotsThat txn setTxn setAwaited setReads setItemsRead setLaterFor reworded live liveUpdate liveQuery liveSettled liveRelaxed queryKind anyQuery mayHold isReader byStart slotOf freeSlot someSettled someRelaxed relaxedIn haveRead readerIn readersFrom readers lock setLock holdsShared holdsExclusive holds exclusivesOf released release unshare fresh versionsFrom versionsIn versionsOf pairWords maskWords rowOf stampAt hiddenAt newest hiddenNow sees place choice readBySome keptFrom kept rewritten revealed awaits awaitsOn waitersOn exchangersOn rankFor raised lowered noted closedUp conflicts ahead blocks blocked waitsFor marked spread rounds reached circleAt noCircle heldBy decide anotherShares anotherExcludes anotherAhead decision meetsSettled beginBy conflicted cellDeed access awaitsOther writesFurther holdsBack heldBack startRead writesPast readBy writeBy commitUpdate commitBy abortBy settleBy judged begun cleared joined askingJoins grantJoins holderJoins readNoted forgotten locked lockedAnew heldAtLast counted versionRead withNew committedUnder committed settledCommitted ended aborted settledAborted settled done act
 computed cs = codesIn (played base cs (fresh base))
 
 -- these are the codes, and the tables at the end, of one run and of another after it

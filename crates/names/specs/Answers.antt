@@ -3,7 +3,7 @@ use Prim.Native.Nat.{ℕ}
 use Rattle.names.specs.declared.Answer.{Answer}
 use Rattle.names.specs.declared.deeds.Refusal.{Refusal}
 use Rattle.names.specs.declared.deeds.Refusal.the-variants.{Wait, Deadlock, UnknownTransaction, UnknownItem, QueryMayNotWrite, StillWaiting}
-use Rattle.names.specs.declared.deeds.Refusal.the-variants.{NoSlot, NumbersSpent, ClockSpent, BadTables, QuotaSpent, PastWriting}
+use Rattle.names.specs.declared.deeds.Refusal.the-variants.{NoSlot, NumbersSpent, ClockSpent, BadTables, QuotaSpent, PastWriting, KeptApart}
 
 -- ---- the column "code": 0 granted, and
 abbrev pub granted : ℕ
@@ -24,6 +24,8 @@ code BadTables = 10
 code QuotaSpent = 11
 -- request E6, "gets code 12"
 code PastWriting = 12
+-- request E11, "gets code 13": relaxed queries and those past their writing are kept apart
+code KeptApart = 13
 
 -- "An answer is four numbers: code, value, number, looked."
 abbrev pub answer : ℕ → ℕ → ℕ → ℕ → Answer

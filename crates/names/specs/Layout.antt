@@ -1,9 +1,10 @@
 -- Where each word stands: the head and the rows of the transactions, the rows of the locks and of the versions, and what the
 -- words of a kind and of an awaited lock mean. names/src/layout.rt has the same for the code.
-use Prim.Native.Nat.{ℕ}
+use Prim.Native.Nat.{ℕ, _+_, _*_}
 
--- ---- "Transactions ..: last number given; clock (stamp of the latest update commit); then 16 rows", of six words since request E4 and of
--- eight since request E8, and 32 rows since request E5. Since request E6 the clock is the stamp that was given last, at a commit or at a settle
+-- ---- "Transactions ..: last number given; clock (stamp of the latest update commit); then 16 rows", of six words since request E4, of
+-- eight since request E8 and of ten since request E11, and 32 rows since request E5. Since request E6 the clock is the stamp that was
+-- given last, at a commit or at a settle
 abbrev pub lastNumberAt : ℕ
 lastNumberAt = 0
 
@@ -41,8 +42,16 @@ txnCountAt = 6
 abbrev pub txnSumAt : ℕ
 txnSumAt = 7
 
+-- request E11, "what this needs is kept in the tables": which items a relaxed query has read, bit x for item x; and for which relaxed
+-- queries an update is a later one, bit q for slot q
+abbrev pub txnItemsReadAt : ℕ
+txnItemsReadAt = 8
+
+abbrev pub txnLaterForAt : ℕ
+txnLaterForAt = 9
+
 abbrev pub txnRow : ℕ
-txnRow = 8
+txnRow = 10
 
 -- the kinds
 abbrev pub anUpdate : ℕ
@@ -54,6 +63,10 @@ aQuery = 1
 -- request E6, "Its row then has kind 2": an update past its writing
 abbrev pub aSettled : ℕ
 aSettled = 2
+
+-- request E11, "in its row kind 3, start 0": a relaxed query
+abbrev pub aRelaxed : ℕ
+aRelaxed = 3
 
 -- the locks that are awaited
 abbrev pub noLock : ℕ
@@ -92,3 +105,8 @@ versionValueAt = 2
 
 abbrev pub versionPair : ℕ
 versionPair = 2
+
+-- request E11: behind all pairs a word for each, from whom that version is hidden, bit q for the relaxed query in slot q; n is how many
+-- pairs a row has room for
+abbrev pub versionHiddenAt : ℕ → ℕ
+versionHiddenAt n = versionStampAt + versionPair * n

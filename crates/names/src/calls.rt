@@ -7,4 +7,5 @@ pub enum Call {
     Commit { number: u64 },
     Abort { number: u64 },
     Settle { number: u64 },
+    BeginRelaxed,
 }

@@ -20,6 +20,7 @@ pub enum Refusal {
     BadTables,
     QuotaSpent,
     PastWriting,
+    KeptApart,
 }
 
 impl Refusal {
@@ -39,6 +40,7 @@ impl Refusal {
             Refusal::BadTables => 10,
             Refusal::QuotaSpent => 11,
             Refusal::PastWriting => 12,
+            Refusal::KeptApart => 13,
         }
     }
 }
@@ -61,9 +63,9 @@ pub enum Deed {
     Waits(Slot, u64, Item),
     // A transaction of this kind begins, with this start.
     Begins(Slot, u64, Stamp),
-    // A query, or one past its writing, reads the newest version up to its start. A query's read is
-    // counted.
-    ReadsByStart(Slot, Item),
+    // A query, or one past its writing, reads the newest version up to its start; a relaxed query the
+    // newest that is not hidden from it. A query's read is counted, and a relaxed query's is noted.
+    ReadsVersion(Slot, Item),
     // An update reads: its own working value, the newest value, or that under a new shared lock. Its own
     // working value is read past its writing too.
     ReadsOwn(Slot, Item),
@@ -76,7 +78,7 @@ pub enum Deed {
     // exclusively.
     Commits(Slot),
     CommitsEmpty(Slot),
-    // A query ends.
+    // A query ends, relaxed or not.
     Ends(Slot),
     // An update is aborted.
     Aborts(Slot),

@@ -27,7 +27,11 @@ pub const TXN_COUNT_AT: usize = 6;
 
 pub const TXN_SUM_AT: usize = 7;
 
-pub const TXN_ROW: usize = 8;
+pub const TXN_ITEMS_READ_AT: usize = 8;
+
+pub const TXN_LATER_FOR_AT: usize = 9;
+
+pub const TXN_ROW: usize = 10;
 
 pub const TXN_WORDS: usize = TXN_HEAD + TXN_ROW * (SLOTS as usize);
 
@@ -37,6 +41,8 @@ pub const UPDATE_KIND: u64 = 0;
 pub const QUERY_KIND: u64 = 1;
 
 pub const SETTLED_KIND: u64 = 2;
+
+pub const RELAXED_KIND: u64 = 3;
 
 // The locks that are awaited.
 pub const NO_LOCK: u64 = 0;
@@ -54,8 +60,9 @@ pub const LOCK_ROW: usize = 3;
 
 pub const LOCK_WORDS: usize = LOCK_ROW * (ITEMS as usize);
 
-// Versions: a row for each item, of a count and pairs of stamp and value. The places are those of the
-// first pair; the next pair stands a pair's words further.
+// Versions: a row for each item, of a count, pairs of stamp and value, and then a word for each pair
+// that says from whom it is hidden. The places are those of the first pair and of the first such
+// word; the next pair stands a pair's words further.
 pub const VERSION_COUNT_AT: usize = 0;
 
 pub const VERSION_STAMP_AT: usize = 1;
@@ -64,6 +71,8 @@ pub const VERSION_VALUE_AT: usize = 2;
 
 pub const VERSION_PAIR: usize = 2;
 
-pub const VERSION_ROW: usize = VERSION_STAMP_AT + VERSION_PAIR * (PLACES as usize);
+pub const VERSION_HIDDEN_AT: usize = VERSION_STAMP_AT + VERSION_PAIR * (PLACES as usize);
+
+pub const VERSION_ROW: usize = VERSION_HIDDEN_AT + (PLACES as usize);
 
 pub const VERSION_WORDS: usize = VERSION_ROW * (ITEMS as usize);

@@ -2,3 +2,4 @@
 pub mod Shifts
 pub mod Words
 pub mod Test
+pub mod Reveals

@@ -9,12 +9,12 @@ use native.Mathlib.Omega.{arith}
 use Rattle.names.specs.declared.Sizes.{Sizes}
 use Rattle.names.specs.Sizes.{base, sixteen, Both}
 use Rattle.names.specs.Words.{heldAtLast}
-use Rattle.rules.specs.Words.{implies, everyBelow, someBelow, countBelow, firstFrom, every, some, tabulateFrom, row, everyRow, mapRows, bit, withBit, withoutBit}
-use Rattle.rules.specs.Tables.{txn, setTxn, setAwaited, setReads, reranked, live, liveUpdate, liveQuery, liveSettled, mayHold, byStart, slotOf, freeSlot, startsFrom, starts, lock, setLock, holdsShared, holdsExclusive, holds, exclusivesOf, released, release, unshare, fresh}
-use Rattle.rules.specs.Versions.{pairs, versionsIn, versionsOf, pairWords, rowOf, stampAt, newest, place, choice, readBySome, keptFrom, kept, rewritten}
+use Rattle.rules.specs.Words.{implies, everyBelow, someBelow, countBelow, firstFrom, every, some, tabulateFrom, row, everyRow, mapRows, bit, withBit, withoutBit, contains, slotsThat}
+use Rattle.rules.specs.Tables.{txn, setTxn, setAwaited, setReads, setItemsRead, setLaterFor, reworded, live, liveUpdate, liveQuery, liveSettled, liveRelaxed, queryKind, anyQuery, mayHold, isReader, byStart, slotOf, freeSlot, someSettled, someRelaxed, relaxedIn, haveRead, readerIn, readersFrom, readers, lock, setLock, holdsShared, holdsExclusive, holds, exclusivesOf, released, release, unshare, fresh}
+use Rattle.rules.specs.Versions.{versionsFrom, versionsIn, versionsOf, pairWords, maskWords, rowOf, stampAt, hiddenAt, newest, hiddenNow, sees, place, choice, readBySome, keptFrom, kept, rewritten, revealed}
 use Rattle.rules.specs.Waits.{awaits, awaitsOn, waitersOn, exchangersOn, rankFor, raised, lowered, noted, closedUp, conflicts, ahead, blocks, blocked, waitsFor, marked, spread, rounds, reached, circleAt, noCircle}
 use Rattle.rules.specs.Locks.{heldBy, decide, anotherShares, anotherExcludes, anotherAhead, decision}
-use Rattle.rules.specs.Step.{begun, beginBy, conflicted, cleared, locked, cellDeed, access, awaitsOther, writesFurther, holdsBack, heldBack, startRead, writesPast, counted, queryRead, readBy, writeBy, withNew, committedUnder, committed, settledCommitted, ended, commitUpdate, commitBy, aborted, settledAborted, settled, abortBy, settleBy, judged, done, act, step}
+use Rattle.rules.specs.Step.{begun, meetsSettled, beginBy, conflicted, cleared, joined, askingJoins, grantJoins, holderJoins, readNoted, forgotten, locked, lockedAnew, cellDeed, access, awaitsOther, writesFurther, holdsBack, heldBack, startRead, writesPast, counted, versionRead, readBy, writeBy, withNew, committedUnder, committed, settledCommitted, ended, commitUpdate, commitBy, aborted, settledAborted, settled, abortBy, settleBy, judged, done, act, step}
 use Rattle.rules.specs.Answers.{Outcome}
 use Rattle.rules.specs.Good.{Good}
 use Rattle.rules.proofs.Tests.{and-left, and-right, and-both}
@@ -64,5 +64,5 @@ fresh-passes ls end h S (inr e) =
 
 -- a script, as it is computed: whoever unfolds this computes with all the rules
 unfoldable pub computed : Sizes → List Line → (Tables → Bool) → Tables → Bool
-unfolding played answers implies everyBelow someBelow countBelow firstFrom every some tabulateFrom row everyRow mapRows bit withBit withoutBit txn setTxn setAwaited setReads reranked live liveUpdate liveQuery liveSettled mayHold byStart slotOf freeSlot startsFrom starts lock setLock holdsShared holdsExclusive holds exclusivesOf released release unshare fresh pairs versionsIn versionsOf pairWords rowOf stampAt newest place choice readBySome keptFrom kept rewritten awaits awaitsOn waitersOn exchangersOn rankFor raised lowered noted closedUp conflicts ahead blocks blocked waitsFor marked spread rounds reached circleAt noCircle heldBy decide anotherShares anotherExcludes anotherAhead decision begun beginBy conflicted cleared locked cellDeed access awaitsOther writesFurther holdsBack heldBack startRead writesPast heldAtLast counted queryRead readBy writeBy withNew committedUnder committed settledCommitted ended commitUpdate commitBy aborted settledAborted settled abortBy settleBy judged done act
+unfolding played answers implies everyBelow someBelow countBelow firstFrom every some tabulateFrom row everyRow mapRows bit withBit withoutBit contains slotsThat txn setTxn setAwaited setReads setItemsRead setLaterFor reworded live liveUpdate liveQuery liveSettled liveRelaxed queryKind anyQuery mayHold isReader byStart slotOf freeSlot someSettled someRelaxed relaxedIn haveRead readerIn readersFrom readers lock setLock holdsShared holdsExclusive holds exclusivesOf released release unshare fresh versionsFrom versionsIn versionsOf pairWords maskWords rowOf stampAt hiddenAt newest hiddenNow sees place choice readBySome keptFrom kept rewritten revealed awaits awaitsOn waitersOn exchangersOn rankFor raised lowered noted closedUp conflicts ahead blocks blocked waitsFor marked spread rounds reached circleAt noCircle heldBy decide anotherShares anotherExcludes anotherAhead decision begun meetsSettled beginBy conflicted cleared joined askingJoins grantJoins holderJoins readNoted forgotten locked lockedAnew cellDeed access awaitsOther writesFurther holdsBack heldBack startRead writesPast heldAtLast counted versionRead readBy writeBy withNew committedUnder committed settledCommitted ended commitUpdate commitBy aborted settledAborted settled abortBy settleBy judged done act
 computed S ls end G = played S ls end G

@@ -1,4 +1,4 @@
--- Ranks rewritten row by row, and the rank of a request.
+-- The rank of a request, and how great ranks are.
 use Prim.Native.Nat.{ℕ, _+_, _≤_, _<_}
 use mathlib.Core.Path.{_≡_, sym, ap, _∙_}
 use mathlib.Core.Logic.{_≢_, _⊎_, inl, inr}
@@ -10,23 +10,13 @@ use native.Mathlib.Nat.{le-refl}
 use lib.ListN.{set}
 use Rattle.names.specs.Sizes.{base}
 use Rattle.names.specs.Layout.{txnRankAt}
-use Rattle.rules.specs.Tables.{Tables, Txn, txnAt, txn, reranked, noLock, lock, holdsShared}
+use Rattle.rules.specs.Tables.{Tables, Txn, txnAt, txn, reworded, reranked, noLock, lock, holdsShared}
 use Rattle.rules.specs.Good.{Good}
 use Rattle.rules.specs.Waits.{awaitsOn, waitersOn, exchangersOn, rankFor}
 use Rattle.rules.proofs.Tests.{same?}
 use Rattle.rules.proofs.Counts.{count-le}
 use Rattle.rules.proofs.EqualRanks.{→awaits}
 use Rattle.ranks.specs.Lines.{RanksSmall}
-use Rattle.rules.proofs.Views.{txn-reranked-out}
-
--- one row more
-pub reranked-more :
-    (n : ℕ) (f : Txn → ℕ) (t : List ℕ)
-    → set (reranked n f t) (txnAt n + txnRankAt) (f (txn (reranked n f t) n)) ≡ reranked (n + 1) f t
-unfolding reranked
-reranked-more n f t =
-    ap (λ (r : Txn). set (reranked n f t) (txnAt n + txnRankAt) (f r)) (txn-reranked-out n f t n (le-refl n))
-    ∙ ap (λ (m : ℕ). reranked m f t) (sym (add-one n))
 
 -- ---- the rank of a request, by what is known of the slot
 module _ (t l : List ℕ) (s x : ℕ) where

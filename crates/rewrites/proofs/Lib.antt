@@ -3,4 +3,5 @@ pub mod Table
 pub mod Kept
 pub mod Forgotten
 pub mod Committed
+pub mod Shown
 pub mod Handed

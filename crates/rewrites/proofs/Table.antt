@@ -9,7 +9,7 @@ use lib.ListN.{length, take, drop, length-drop, take-append-drop}
 use lib.Seq.{take-append-add, drop-append-add, drop-drop, length-take-le}
 use Rattle.names.specs.Sizes.{base}
 use Rattle.rules.specs.Words.{row, mapRows}
-use Rattle.rules.specs.Tables.{versionRow, versionWords}
+use Rattle.rules.specs.Tables.{versionRow, versionWords, Reader}
 use Rattle.rules.specs.Versions.{Version, versionsIn, rowOf, kept, rewritten}
 use Rattle.rules.proofs.Rows.{row-next, row-first, length-mapRows}
 use Rattle.rules.proofs.Choice.{length-rowOf}
@@ -62,14 +62,14 @@ row-back x v = ap (λ (l : List ℕ). take (versionRow base * x) v ++ l) (take-a
 
 -- ---- the rows of the version table
 -- the words of row x as f makes them
-abbrev pub newRow : List ℕ → (ℕ → List Version → List Version) → ℕ → List ℕ → List ℕ
-newRow qs f x r = rowOf base (kept qs (f x (versionsIn r)))
+abbrev pub newRow : List Reader → (ℕ → List Version → List Version) → ℕ → List ℕ → List ℕ
+newRow qs f x r = rowOf base (kept qs (f x (versionsIn base r)))
 
 -- the first n rows are rewritten
-unfoldable pub soFar : List ℕ → (ℕ → List Version → List Version) → List ℕ → ℕ → List ℕ
+unfoldable pub soFar : List Reader → (ℕ → List Version → List Version) → List ℕ → ℕ → List ℕ
 soFar qs f v n = mapRows n (versionRow base) (newRow qs f) 0 v
 
-module _ (qs : List ℕ) (f : ℕ → List Version → List Version) (v : List ℕ) where
+module _ (qs : List Reader) (f : ℕ → List Version → List Version) (v : List ℕ) where
   pub none-yet : soFar qs f v 0 ≡ v
   unfolding soFar mapRows
   none-yet = refl
@@ -80,7 +80,7 @@ module _ (qs : List ℕ) (f : ℕ → List Version → List Version) (v : List �
 
   module _ (room : length qs < base .places) (exact : length v ≡ versionWords base) where
     keeps : (x : ℕ) (r : List ℕ) → length r ≡ versionRow base → length (newRow qs f x r) ≡ versionRow base
-    keeps x r e = length-rowOf base (kept qs (f x (versionsIn r))) (let a = length-kept qs (f x (versionsIn r)) in omega arith)
+    keeps x r e = length-rowOf base (kept qs (f x (versionsIn base r))) (let a = length-kept qs (f x (versionsIn base r)) in omega arith)
 
     pub length-soFar : (n : ℕ) → n ≤ base .items → length (soFar qs f v n) ≡ versionWords base
     unfolding soFar

@@ -1,4 +1,4 @@
-// All rows rewritten, at a commit and where one leaves who reads by a start: each item's row is
+// All rows rewritten, at a commit and where a reader leaves, by a start or relaxed: each item's row is
 // lent, as the middle part of the table, to the row writer.
 //
 // Proved against `rewritten` of the rules. Good tables meet each `requires`, as proofs/Handed says.
@@ -9,11 +9,12 @@ ghost use Prim.Native.Nat.{ℕ, _<_};
 ghost use lib.ListN.{length};
 ghost use Rattle.names.specs.Sizes.{base};
 ghost use Rattle.rules.specs.Words.{row};
-ghost use Rattle.rules.specs.Tables.{versionRow, versionWords};
-ghost use Rattle.rules.specs.Versions.{versionsIn, rowOf, place, rewritten};
+ghost use Rattle.rules.specs.Tables.{versionRow, versionWords, Reader, upTo, outside};
+ghost use Rattle.rules.specs.Versions.{versionsIn, rowOf, place, rewritten, revealed};
 ghost use Rattle.rules.specs.Step.{withNew};
-ghost use Rattle.packing.specs.Changed.{TidyRow, Frontable, fronted, leftBy};
-ghost use Rattle.rewrites.specs.Written.{withRow, Staying, Leavable, Reading, Committable};
+ghost use Rattle.starts.specs.Ordered.{lanes};
+ghost use Rattle.packing.specs.Changed.{TidyRow, Frontable, fronted, leftBy, shownTo};
+ghost use Rattle.rewrites.specs.Written.{withRow, Staying, Leavable, Showing, Revealable, Reading, Committable};
 use names::LOCK_EXCLUSIVE_AT;
 use names::LOCK_ROW;
 use names::LOCK_WORKING_AT;
@@ -22,14 +23,15 @@ use names::Stamp;
 use names::VERSION_ROW;
 use packing::forget;
 use packing::put_front;
+use packing::reveal;
 use starts::Neighbours;
 
 const ROWS: usize = names::ITEMS as usize;
 
 // Lends the row of item x to forget.
 fn forget_item(versions: &mut [u64], x: usize, start: u64, below: u64, next: u64)
-    requires { ⌜ (length (now versions) ≡ versionWords base) × (x < base .items) × TidyRow (row (versionRow base) x (now versions)) × (place start (versionsIn (row (versionRow base) x (now versions))) < length (versionsIn (row (versionRow base) x (now versions)))) ⌝ }
-    ensures { λ _. ⌜ now (versions .exit) ≡ withRow x (rowOf base (leftBy start below next (versionsIn (row (versionRow base) x (now (versions .entry)))))) (now (versions .entry)) ⌝ }
+    requires { ⌜ (length (now versions) ≡ versionWords base) × (x < base .items) × TidyRow (row (versionRow base) x (now versions)) × (place (upTo start) (versionsIn base (row (versionRow base) x (now versions))) < length (versionsIn base (row (versionRow base) x (now versions)))) ⌝ }
+    ensures { λ _. ⌜ now (versions .exit) ≡ withRow x (rowOf base (leftBy start below next (versionsIn base (row (versionRow base) x (now (versions .entry)))))) (now (versions .entry)) ⌝ }
 {
     let a = VERSION_ROW * x;
     let e = a + VERSION_ROW;
@@ -40,7 +42,7 @@ fn forget_item(versions: &mut [u64], x: usize, start: u64, below: u64, next: u64
 // alone read goes from every row.
 pub fn forget_all(versions: &mut [u64], start: Stamp, beside: Neighbours)
     requires { ⌜ Leavable (now versions) (start .0) (beside .below) (beside .next) ⌝ }
-    ensures { λ _. ⌜ ((qs : List ℕ) → Staying (now (versions .entry)) qs (start .0) (beside .below) (beside .next) → now (versions .exit) ≡ rewritten base qs (λ x vs. vs) (now (versions .entry))) ⌝ }
+    ensures { λ _. ⌜ ((qs : List Reader) → Staying (now (versions .entry)) qs (start .0) (beside .below) (beside .next) → now (versions .exit) ≡ rewritten base qs (λ x vs. vs) (now (versions .entry))) ⌝ }
 {
     let start = start.0;
     let below = beside.below;
@@ -56,25 +58,64 @@ pub fn forget_all(versions: &mut [u64], start: Stamp, beside: Neighbours)
     }
 }
 
+// Lends the row of item x to reveal.
+fn reveal_item(versions: &mut [u64], x: usize, slot: u64, starts: &[u64])
+    requires { ⌜ (length (now versions) ≡ versionWords base) × (x < base .items) × TidyRow (row (versionRow base) x (now versions)) × (slot < base .slots) × (place (outside slot) (versionsIn base (row (versionRow base) x (now versions))) < length (versionsIn base (row (versionRow base) x (now versions)))) × (length (now starts) ≡ lanes) ⌝ }
+    ensures { λ _. ⌜ now (versions .exit) ≡ withRow x (rowOf base (shownTo slot (now (starts .entry)) (versionsIn base (row (versionRow base) x (now (versions .entry)))))) (now (versions .entry)) ⌝ }
+{
+    let a = VERSION_ROW * x;
+    let e = a + VERSION_ROW;
+    reveal(&mut versions[a..e], slot, starts);
+}
+
+// The relaxed query in this slot has left, and these are the starts of those who stay, in order:
+// nothing is hidden from it any more, and what it alone read goes from every row.
+pub fn reveal_all(versions: &mut [u64], slot: Slot, starts: &[u64])
+    requires { ⌜ Revealable (now versions) (slot .0) (now starts) ⌝ }
+    ensures { λ _. ⌜ ((qs : List Reader) → Showing (now (versions .entry)) qs (slot .0) (now (starts .entry)) → now (versions .exit) ≡ rewritten base qs (λ x vs. revealed (slot .0) vs) (now (versions .entry))) ⌝ }
+{
+    let slot = slot.0;
+    let mut i: usize = 0;
+    while i < ROWS {
+        reveal_item(versions, i, slot, starts);
+        i += 1;
+    }
+}
+
 // The row of item x at a commit: lent to put_front if it gets a new version. One that gets none is
 // trimmed already, so it stays.
-fn commit_item(versions: &mut [u64], x: usize, new: bool, below: u64, stamp: u64, value: u64)
-    requires { ⌜ (length (now versions) ≡ versionWords base) × (x < base .items) × (new ≡ true → Frontable (row (versionRow base) x (now versions)) below) ⌝ }
-    ensures { λ _. ⌜ now (versions .exit) ≡ cond new (withRow x (rowOf base (fronted below (record { stamp = stamp; value = value }) (versionsIn (row (versionRow base) x (now (versions .entry)))))) (now (versions .entry))) (now (versions .entry)) ⌝ }
+fn commit_item(
+    versions: &mut [u64],
+    x: usize,
+    new: bool,
+    below: u64,
+    stamp: u64,
+    value: u64,
+    hidden: u64,
+)
+    requires { ⌜ (length (now versions) ≡ versionWords base) × (x < base .items) × (new ≡ true → Frontable (row (versionRow base) x (now versions)) below stamp value hidden) ⌝ }
+    ensures { λ _. ⌜ now (versions .exit) ≡ cond new (withRow x (rowOf base (fronted below (record { stamp = stamp; value = value; hidden = hidden }) (versionsIn base (row (versionRow base) x (now (versions .entry)))))) (now (versions .entry))) (now (versions .entry)) ⌝ }
 {
     if new {
         let a = VERSION_ROW * x;
         let e = a + VERSION_ROW;
-        put_front(&mut versions[a..e], below, stamp, value);
+        put_front(&mut versions[a..e], below, stamp, value, hidden);
     }
 }
 
 // Rewrites the rows at a commit of the update in a slot: the working values of the items that it
-// holds exclusively go in front, under the new stamp. below is one more than the greatest start
-// below that stamp.
-pub fn commit_all(versions: &mut [u64], locks: &[u64], slot: Slot, stamp: Stamp, below: u64)
-    requires { ⌜ Committable (now versions) (now locks) (slot .0) (stamp .0) below ⌝ }
-    ensures { λ _. ⌜ ((qs : List ℕ) → Reading (now (versions .entry)) qs (stamp .0) below → now (versions .exit) ≡ rewritten base qs (withNew (now (locks .entry)) (slot .0) (stamp .0)) (now (versions .entry))) ⌝ }
+// holds exclusively go in front, under the new stamp, hidden from the relaxed queries in whose sets it
+// is. below is one more than the greatest start below that stamp.
+pub fn commit_all(
+    versions: &mut [u64],
+    locks: &[u64],
+    slot: Slot,
+    stamp: Stamp,
+    hidden: u64,
+    below: u64,
+)
+    requires { ⌜ Committable (now versions) (now locks) (slot .0) (stamp .0) hidden below ⌝ }
+    ensures { λ _. ⌜ ((qs : List Reader) → Reading (now (versions .entry)) qs (stamp .0) hidden below → now (versions .exit) ≡ rewritten base qs (withNew (now (locks .entry)) (slot .0) (stamp .0) hidden) (now (versions .entry))) ⌝ }
 {
     let owner = slot.0 + 1;
     let stamp = stamp.0;
@@ -88,6 +129,7 @@ pub fn commit_all(versions: &mut [u64], locks: &[u64], slot: Slot, stamp: Stamp,
             below,
             stamp,
             locks[LOCK_ROW * i + LOCK_WORKING_AT],
+            hidden,
         );
         i += 1;
     }

@@ -1,4 +1,4 @@
 -- Laws for the loops over rows.
 pub mod Search
 pub mod Bits
-pub mod Releases
+pub mod Rewords

@@ -10,7 +10,9 @@ use names::Stamp;
 use names::TXN_COUNT_AT;
 use names::TXN_HEAD;
 use names::TXN_ITEM_AT;
+use names::TXN_ITEMS_READ_AT;
 use names::TXN_KIND_AT;
+use names::TXN_LATER_FOR_AT;
 use names::TXN_LOCK_AT;
 use names::TXN_RANK_AT;
 use names::TXN_ROW;
@@ -19,9 +21,11 @@ use names::TXN_SUM_AT;
 ghost use mathlib.Core.Path.{_≡_};
 ghost use Prim.Native.Nat.{_+_, _<_};
 ghost use lib.ListN.{length, getD, set};
+ghost use lib.Dec.{eqb};
+ghost use mathlib.Core.Bool.{_&&_};
 ghost use Rattle.names.specs.Sizes.{base};
 ghost use Rattle.names.specs.Layout.{txnRow, txnRankAt};
-ghost use Rattle.rules.specs.Tables.{txnWords, lastNumber, clock, txnAt, txn, setTxn, setAwaited, setReads, noTxn, slotOf, freeSlot, newTxn, aSettled};
+ghost use Rattle.rules.specs.Tables.{txnWords, lastNumber, clock, txnAt, txn, setTxn, setAwaited, setReads, setItemsRead, setLaterFor, noTxn, live, slotOf, freeSlot, newTxn, aSettled};
 ghost use Rattle.rows.specs.Founds.{foundAt};
 
 // Where a search ended.
@@ -38,7 +42,7 @@ pub fn last_number(txns: &[u64]) -> u64
     txns[LAST_NUMBER_AT]
 }
 
-// The stamp of the latest update commit.
+// The stamp that was given last.
 pub fn clock(txns: &[u64]) -> Stamp
     requires { ⌜ length (now txns) ≡ txnWords base ⌝ }
     ensures { λ r. ⌜ r .0 ≡ clock (now (txns .entry)) ⌝ }
@@ -90,7 +94,7 @@ fn row_word(txns: &[u64], slot: Slot, k: usize) -> u64
     txns[at + k]
 }
 
-// Update, query, or update past its writing.
+// Update, query, update past its writing, or relaxed query.
 pub fn kind(txns: &[u64], slot: Slot) -> u64
     requires { ⌜ (length (now txns) ≡ txnWords base) × (slot .0 < base .slots) ⌝ }
     ensures { λ r. ⌜ r ≡ (txn (now (txns .entry)) (slot .0)) .kind ⌝ }
@@ -175,6 +179,49 @@ pub fn set_reads(txns: &mut [u64], slot: Slot, count: u64, sum: u64)
     let at = TXN_HEAD + TXN_ROW * (slot.0 as usize);
     txns[at + TXN_COUNT_AT] = count;
     txns[at + TXN_SUM_AT] = sum;
+}
+
+// The items that a relaxed query has read.
+pub fn items_read(txns: &[u64], slot: Slot) -> u64
+    requires { ⌜ (length (now txns) ≡ txnWords base) × (slot .0 < base .slots) ⌝ }
+    ensures { λ r. ⌜ r ≡ (txn (now (txns .entry)) (slot .0)) .itemsRead ⌝ }
+{
+    row_word(txns, slot, TXN_ITEMS_READ_AT)
+}
+
+// The items read, written.
+pub fn set_items_read(txns: &mut [u64], slot: Slot, word: u64)
+    requires { ⌜ (length (now txns) ≡ txnWords base) × (slot .0 < base .slots) ⌝ }
+    ensures { λ _. ⌜ now (txns .exit) ≡ setItemsRead (now (txns .entry)) (slot .0) word ⌝ }
+{
+    let at = TXN_HEAD + TXN_ROW * (slot.0 as usize);
+    txns[at + TXN_ITEMS_READ_AT] = word;
+}
+
+// The relaxed queries for which an update is a later one.
+pub fn later_for(txns: &[u64], slot: Slot) -> u64
+    requires { ⌜ (length (now txns) ≡ txnWords base) × (slot .0 < base .slots) ⌝ }
+    ensures { λ r. ⌜ r ≡ (txn (now (txns .entry)) (slot .0)) .laterFor ⌝ }
+{
+    row_word(txns, slot, TXN_LATER_FOR_AT)
+}
+
+// These, written.
+pub fn set_later_for(txns: &mut [u64], slot: Slot, word: u64)
+    requires { ⌜ (length (now txns) ≡ txnWords base) × (slot .0 < base .slots) ⌝ }
+    ensures { λ _. ⌜ now (txns .exit) ≡ setLaterFor (now (txns .entry)) (slot .0) word ⌝ }
+{
+    let at = TXN_HEAD + TXN_ROW * (slot.0 as usize);
+    txns[at + TXN_LATER_FOR_AT] = word;
+}
+
+// Whether a slot has a live transaction of this kind.
+pub fn lives_as(txns: &[u64], slot: Slot, kind: u64) -> bool
+    requires { ⌜ (length (now txns) ≡ txnWords base) × (slot .0 < base .slots) ⌝ }
+    ensures { λ r. ⌜ r ≡ (live (txn (now (txns .entry)) (slot .0)) && eqb ((txn (now (txns .entry)) (slot .0)) .kind) kind) ⌝ }
+{
+    let at = TXN_HEAD + TXN_ROW * (slot.0 as usize);
+    !(txns[at] == 0) & (txns[at + TXN_KIND_AT] == kind)
 }
 
 // The row of a slot goes: each of its words becomes 0.

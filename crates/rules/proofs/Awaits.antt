@@ -1,34 +1,23 @@
 -- The awaited fields of a live update written, as a wait and a grant do, leave good tables.
-use Prim.Native.Nat.{ℕ, suc, _≤_, _<_}
+use Prim.Native.Nat.{ℕ, _≤_, _<_}
 use mathlib.Core.Path.{_≡_, refl, sym, ap, _∙_, subst}
 use mathlib.Core.Logic.{_≢_, _⊎_, inl, inr}
-use mathlib.Core.Bool.{Bool, true, false, _&&_}
 use mathlib.Core.List.{List}
 use native.Mathlib.Omega.{arith}
 use lib.ListN.{length}
-use lib.Dec.{T, eqb}
-use borrow.Author.Tests.{eq-eqb}
+use lib.Dec.{T}
 use Rattle.names.specs.declared.Sizes.{Sizes}
-use Rattle.rules.specs.Tables.{Tables, txnWords, lastNumber, clock, Txn, txn, setTxn, withRank, live, liveUpdate, liveSettled, mayHold, byStart}
-use Rattle.rules.specs.Tables.{noLock, sharedLock, exclusiveLock, lock, holds, holdsShared, holdsExclusive, exclusivesOf}
-use Rattle.rules.specs.Waits.{awaits, awaitsOn, waitersOn, exchangersOn, rankFor, raised, noted, closedUp, conflicts, waitsFor, Walk, one, more}
+use Rattle.rules.specs.Words.{bit}
+use Rattle.rules.specs.Tables.{Tables, txnWords, lastNumber, clock, Txn, txn, withRank, live, liveUpdate, liveSettled, liveRelaxed, mayHold, isReader, readerIn}
+use Rattle.rules.specs.Tables.{noLock, sharedLock, exclusiveLock, lock, holds, holdsExclusive, exclusivesOf}
+use Rattle.rules.specs.Waits.{waitsFor, Walk}
 use Rattle.rules.specs.Good.{Good, GoodTxn, GoodQuota, GoodRanks}
-use Rattle.rules.specs.Conditions.{Circle}
-use Rattle.rules.specs.Changed.{leaving}
-use Rattle.rules.specs.Step.{withTxns, cleared}
-use Rattle.rules.proofs.Tests.{same?, true-is, false-is, eq-make, and-left, and-right, and-both, or-left, or-right}
-use Rattle.rules.proofs.Counts.{count-none}
-use Rattle.rules.proofs.Views.{awaiting, setAwaited-row, length-setTxn, lastNumber-setTxn, clock-setTxn, txn-setTxn, txn-setTxn-other}
-use Rattle.rules.proofs.EqualRows.{live-number, update-live, settled-live, reader-live, update-holds}
-use Rattle.rules.proofs.EqualRanks.{awaits→, →awaits, awaitsOn→, →awaitsOn}
-use Rattle.rules.proofs.Carried.{same-reads, no-more-same, txn-carried, row-reranked, lock-carried, versions-carried, settled-carried}
+use Rattle.rules.specs.Step.{withTxns}
+use Rattle.rules.proofs.Tests.{same?}
+use Rattle.rules.proofs.Views.{awaiting}
+use Rattle.rules.proofs.RowKinds.{live-number, update-live, settled-live, relaxed-live, reader-live, start-reads, update-holds}
+use Rattle.rules.proofs.Carried.{same-reads, same-notes, no-more-same, reads-by, txn-carried, row-reranked, lock-carried, versions-same, settled-carried, sets-carried}
 use Rattle.rules.proofs.Quotas.{quotas-but-rank}
-use Rattle.rules.proofs.Walks.{→waits-for}
-use Rattle.rules.proofs.Lines.{leaving-idle, left-ranks, left-links}
-use Rattle.rules.proofs.Joins.{come-ranks}
-use Rattle.rules.proofs.Noting.{rank-shared, rank-last, rank-least, rank-most, noted-known, noted-length, noted-last, noted-clock, noted-there, noted-here}
-use Rattle.rules.proofs.Noting.{closed-length, closed-last, closed-clock, closed-row}
-use Rattle.rules.proofs.Deadlock.{fewer-no-circle, new-no-circle}
 
 -- what may be written: nothing awaited, or a lock on a known item that the slot does not hold, an exclusive one if it has room for it
 pub record MayAwait (S : Sizes) (G : Tables) (s k x : ℕ) : Type 0 where
@@ -77,9 +66,13 @@ module _
     unfolding mayHold liveUpdate liveSettled live
     holder′ = same mayHold (λ w k x p. refl) (λ w p. refl)
 
-    reader′ : (r : ℕ) → r < S .slots → byStart (txn t′ r) ≡ byStart (txn t r)
-    unfolding byStart live
-    reader′ = same byStart (λ w k x p. refl) (λ w p. refl)
+    reader′ : (r : ℕ) → r < S .slots → isReader (txn t′ r) ≡ isReader (txn t r)
+    unfolding isReader live
+    reader′ = same isReader (λ w k x p. refl) (λ w p. refl)
+
+    relaxed′ : (r : ℕ) → r < S .slots → liveRelaxed (txn t′ r) ≡ liveRelaxed (txn t r)
+    unfolding liveRelaxed live
+    relaxed′ = same liveRelaxed (λ w k x p. refl) (λ w p. refl)
 
     settled′ : (r : ℕ) → r < S .slots → liveSettled (txn t′ r) ≡ liveSettled (txn t r)
     unfolding liveSettled live
@@ -88,8 +81,17 @@ module _
     start′ : (r : ℕ) → r < S .slots → (txn t′ r) .start ≡ (txn t r) .start
     start′ = same (λ (w : Txn). w .start) (λ w k x p. refl) (λ w p. refl)
 
+    how′ : (r : ℕ) → r < S .slots → readerIn t′ r ≡ readerIn t r
+    how′ r i = reads-by t t′ r (same (λ (w : Txn). w .kind) (λ w k x p. refl) (λ w p. refl) r i) (start′ r i)
+
+    sets′ : (r : ℕ) → r < S .slots → (txn t′ r) .laterFor ≡ (txn t r) .laterFor
+    sets′ = same (λ (w : Txn). w .laterFor) (λ w k x p. refl) (λ w p. refl)
+
+    items′ : (r : ℕ) → r < S .slots → (txn t′ r) .itemsRead ≡ (txn t r) .itemsRead
+    items′ = same (λ (w : Txn). w .itemsRead) (λ w k x p. refl) (λ w p. refl)
+
     new-row : GoodTxn S t′ (G .locks) s R
-    unfolding liveUpdate byStart mayHold liveSettled live
+    unfolding liveUpdate mayHold liveSettled liveRelaxed live
     new-row =
         let o = g .txnGood s inside in
         let a = update-live (txn t s) update in
@@ -99,13 +101,15 @@ module _
           kindListed = inl (a .1);
           lockListed = may .listed;
           updateStart = λ h. o .updateStart update;
-          readerStart = λ h. absurd (reader-live R h .1 (a .1));
+          relaxedStart = λ h. absurd (let b = relaxed-live R h .1 in let c = a .1 in omega arith);
+          readerStart = λ h. absurd (reader-live R (start-reads R h) .1 (a .1));
           readerIdle = λ h. absurd (reader-live R h .1 (a .1));
           settledStart = λ h. absurd (let b = settled-live R h .1 in let c = a .1 in omega arith);
           itemKnown = may .known;
           itemUnused = may .none;
           rankUnused = unused;
           readsGood = same-reads (txn t s) R refl refl refl (o .readsGood);
+          notesGood = same-notes S (txn t s) R refl refl refl refl (o .notesGood);
           awaitsShared = may .shared;
           awaitsExclusive = may .exclusive;
         }
@@ -126,12 +130,6 @@ module _
     quotas : (r : ℕ) → r < S .slots → GoodQuota S (G .locks) r (txn t′ r)
     quotas = quotas-but-rank S (G .locks) t t′ s f there (subst (λ (w : Txn). GoodQuota S (G .locks) s w) (sym here) new-quota) (g .quotaGood)
 
-    -- a reader's row is not that of the update in slot s, and its rank is 0
-    reader-there : (r : ℕ) → r < S .slots → T (byStart (txn t r)) → txn t′ r ≡ txn t r
-    reader-there r i h =
-        there r i (λ e. reader-live (txn t r) h .1 (ap (λ (m : ℕ). (txn t m) .kind) e ∙ update-live (txn t s) update .1))
-        ∙ ap (withRank (txn t r)) (kept (txn t r) (g .txnGood r i .readerIdle h))
-
     pub awaiting-good : GoodRanks S t′ (G .locks) → ((a : ℕ) → Walk (waitsFor t′ (G .locks)) a a → ⊥) → Good S (withTxns G t′)
     awaiting-good ranked uncircled =
         record {
@@ -145,9 +143,10 @@ module _
           lockGood = λ y i. lock-carried S t t′ (lock (G .locks) y) (λ r h u. subst T (sym (update′ r (g .lockGood y i .sharers r h .0))) u)
               (λ r h u. subst T (sym (holder′ r (g .lockGood y i .excluders r h .0))) u) (g .lockGood y i);
           quotaGood = quotas;
-          versionsGood = λ x i. versions-carried S t t′ _ (let a = clock′ in omega arith) (λ r j h. reader-there r j h)
-              (λ r j h. inl (reader-there r j (subst T (reader′ r j) h))) (g .versionsGood x i);
+          versionsGood = λ x i. versions-same S t t′ _ clock′ reader′ how′ relaxed′ (g .versionsGood x i);
           ranksGood = ranked;
           settledGood = settled-carried S G (withTxns G t′) (λ r i h. (subst T (settled′ r i) h, start′ r i)) (λ r x i j a h. (h, refl)) (g .settledGood);
+          setsGood = sets-carried S G (withTxns G t′) g (λ a b i j h m. g .setsGood .apart a b i j (subst T (settled′ a i) h) (subst T (relaxed′ b j) m))
+              (λ q i h. subst T (sym (relaxed′ q i)) h) sets′ (λ q x i b. subst (λ (w : ℕ). T (bit w x)) (items′ q i) b) (λ r x i. no-more-same r refl) (λ x q i b. b);
           noCircle = uncircled;
         }

@@ -8,13 +8,15 @@ use native.Mathlib.Omega.{arith}
 use lib.Dec.{T, eqb, eqb→eq}
 use borrow.Author.Tests.{ne-eqb, eqb-true, eqb-false}
 use Rattle.names.specs.declared.Sizes.{Sizes}
-use Rattle.rules.specs.Tables.{Tables, Txn, txn, live, liveUpdate, liveQuery, liveSettled, byStart, slotOf, freeSlot, anUpdate, aQuery, aSettled, lock, holdsExclusive}
+use Rattle.rules.specs.Tables.{Tables, Txn, txn, live, liveUpdate, liveQuery, liveSettled, liveRelaxed, queryKind, anyQuery, isReader, byStart, slotOf, freeSlot}
+use Rattle.rules.specs.Tables.{anUpdate, aQuery, aSettled, aRelaxed, lock, holdsExclusive}
 use Rattle.rules.specs.Good.{Good}
 use Rattle.rules.specs.Answers.{Call}
+use Rattle.rules.specs.Step.{holdsBack}
 pub use Rattle.rules.specs.Conditions.{Caller, Free}
 use Rattle.rules.specs.Conditions.{Names, CallerIn}
-use Rattle.rules.proofs.EqualRows.{holder-live, reader-live, live-query, live-settled}
-use Rattle.rules.proofs.Tests.{and-left, and-right, and-both, true-is, not-make, not-use, eq-make, same?, false-is}
+use Rattle.rules.proofs.RowKinds.{update-live, query-live, settled-live, reader-live, live-query, live-settled, live-relaxed, holder-cases, update-no-reader, query-starts, settled-starts}
+use Rattle.rules.proofs.Tests.{and-left, and-right, and-both, or-left, or-right, is-true, true-is, not-make, not-use, eq-make, same?, false-is}
 use Rattle.rules.proofs.Counts.{first-le, first-passes, first-least}
 
 -- ---- the slot that is found under a number
@@ -116,32 +118,39 @@ free-none S t e s i =
     free-before S t s i (omega arith)
 
 -- ---- the kind of a live transaction
+-- a query, relaxed or not
 pub is-query :
-    (t : List ℕ) (s : ℕ) → T (live (txn t s)) → eqb ((txn t s) .kind) aQuery ≡ true → T (liveQuery (txn t s))
-unfolding liveQuery
+    (t : List ℕ) (s : ℕ) → T (live (txn t s)) → queryKind ((txn t s) .kind) ≡ true → T (anyQuery (txn t s))
+unfolding anyQuery
 is-query t s a e = and-both (live (txn t s)) _ a (true-is e)
+
+pub any-query-kind : (t : List ℕ) (s : ℕ) → T (anyQuery (txn t s)) → queryKind ((txn t s) .kind) ≡ true
+unfolding anyQuery
+any-query-kind t s h = is-true (queryKind ((txn t s) .kind)) (and-right (live (txn t s)) _ h)
 
 pub is-update :
     (S : Sizes) (G : Tables) → Good S G
-    → (s : ℕ) → s < S .slots → T (live (txn (G .txns) s)) → eqb ((txn (G .txns) s) .kind) aQuery ≡ false
+    → (s : ℕ) → s < S .slots → T (live (txn (G .txns) s)) → queryKind ((txn (G .txns) s) .kind) ≡ false
     → eqb ((txn (G .txns) s) .kind) aSettled ≡ false → T (liveUpdate (txn (G .txns) s))
-unfolding liveUpdate
+unfolding liveUpdate queryKind
 is-update S G g s i a e f = and-both (live (txn (G .txns) s)) _ a (go (g .txnGood s i .kindListed))
   where
-    go :
-        ((txn (G .txns) s) .kind ≡ anUpdate) ⊎ (((txn (G .txns) s) .kind ≡ aQuery) ⊎ ((txn (G .txns) s) .kind ≡ aSettled))
-        → T (eqb ((txn (G .txns) s) .kind) anUpdate)
-    go (inl q) = eq-make ((txn (G .txns) s) .kind) anUpdate q
-    go (inr (inl q)) = absurd (eqb-false ((txn (G .txns) s) .kind) aQuery e q)
-    go (inr (inr q)) = absurd (eqb-false ((txn (G .txns) s) .kind) aSettled f q)
+    k : ℕ
+    k = (txn (G .txns) s) .kind
 
--- whoever has the kind of an update writes; whoever has not reads by a start
+    go : (k ≡ anUpdate) ⊎ ((k ≡ aQuery) ⊎ ((k ≡ aSettled) ⊎ (k ≡ aRelaxed))) → T (eqb k anUpdate)
+    go (inl q) = eq-make k anUpdate q
+    go (inr (inl q)) = absurd (false-is e (or-left (eqb k aQuery) _ (eq-make k aQuery q)))
+    go (inr (inr (inl q))) = absurd (eqb-false k aSettled f q)
+    go (inr (inr (inr q))) = absurd (false-is e (or-right (eqb k aQuery) _ (eq-make k aRelaxed q)))
+
+-- whoever has the kind of an update writes; whoever has not reads versions
 pub is-writer : (t : List ℕ) (s : ℕ) → T (live (txn t s)) → eqb ((txn t s) .kind) anUpdate ≡ true → T (liveUpdate (txn t s))
 unfolding liveUpdate
 is-writer t s a e = and-both (live (txn t s)) _ a (true-is e)
 
-pub is-reader : (t : List ℕ) (s : ℕ) → T (live (txn t s)) → eqb ((txn t s) .kind) anUpdate ≡ false → T (byStart (txn t s))
-unfolding byStart
+pub is-reader : (t : List ℕ) (s : ℕ) → T (live (txn t s)) → eqb ((txn t s) .kind) anUpdate ≡ false → T (isReader (txn t s))
+unfolding isReader
 is-reader t s a e = and-both (live (txn t s)) _ a (not-make (eqb ((txn t s) .kind) anUpdate) (λ h. false-is e h))
 
 -- request E6
@@ -151,49 +160,62 @@ unfolding liveSettled
 is-settled t s a e = and-both (live (txn t s)) _ a (true-is e)
 
 pub settled-kind : (t : List ℕ) (s : ℕ) → T (liveSettled (txn t s)) → (txn t s) .kind ≡ aSettled
-unfolding liveSettled
-settled-kind t s h = eqb→eq ((txn t s) .kind) aSettled (and-right (live (txn t s)) _ h)
+settled-kind t s h = settled-live (txn t s) h .1
 
 -- a query is no update, and the test of the kind tells them apart
 pub query-kind : (t : List ℕ) (s : ℕ) → T (liveQuery (txn t s)) → (txn t s) .kind ≡ aQuery
-unfolding liveQuery
-query-kind t s h = eqb→eq ((txn t s) .kind) aQuery (and-right (live (txn t s)) _ h)
+query-kind t s h = query-live (txn t s) h .1
 
 pub update-kind : (t : List ℕ) (s : ℕ) → T (liveUpdate (txn t s)) → (txn t s) .kind ≡ anUpdate
-unfolding liveUpdate
-update-kind t s h = eqb→eq ((txn t s) .kind) anUpdate (and-right (live (txn t s)) _ h)
+update-kind t s h = update-live (txn t s) h .1
 
 pub query-not-update : (t : List ℕ) (s : ℕ) → T (liveQuery (txn t s)) → T (liveUpdate (txn t s)) → ⊥
 query-not-update t s q u = let k = query-kind t s q in let m = update-kind t s u in omega arith
 
 pub update-alive : (t : List ℕ) (s : ℕ) → T (liveUpdate (txn t s)) → T (live (txn t s))
-unfolding liveUpdate
-update-alive t s h = and-left (live (txn t s)) _ h
+update-alive t s h = update-live (txn t s) h .0
 
--- who reads by a start is a query or past its writing
+-- who reads is a query, past its writing, or a relaxed query
 pub reader-cases :
-    (S : Sizes) (G : Tables) → Good S G → (s : ℕ) → s < S .slots → T (byStart (txn (G .txns) s))
-    → T (liveQuery (txn (G .txns) s)) ⊎ T (liveSettled (txn (G .txns) s))
+    (S : Sizes) (G : Tables) → Good S G → (s : ℕ) → s < S .slots → T (isReader (txn (G .txns) s))
+    → T (liveQuery (txn (G .txns) s)) ⊎ (T (liveSettled (txn (G .txns) s)) ⊎ T (liveRelaxed (txn (G .txns) s)))
 reader-cases S G g s i q = go (g .txnGood s i .kindListed)
   where
     r : Txn
     r = txn (G .txns) s
 
-    go : (r .kind ≡ anUpdate) ⊎ ((r .kind ≡ aQuery) ⊎ (r .kind ≡ aSettled)) → T (liveQuery r) ⊎ T (liveSettled r)
+    go :
+        (r .kind ≡ anUpdate) ⊎ ((r .kind ≡ aQuery) ⊎ ((r .kind ≡ aSettled) ⊎ (r .kind ≡ aRelaxed)))
+        → T (liveQuery r) ⊎ (T (liveSettled r) ⊎ T (liveRelaxed r))
     go (inl e) = absurd (reader-live r q .1 e)
     go (inr (inl e)) = inl (live-query r (reader-live r q .0) e)
-    go (inr (inr e)) = inr (live-settled r (reader-live r q .0) e)
+    go (inr (inr (inl e))) = inr (inl (live-settled r (reader-live r q .0) e))
+    go (inr (inr (inr e))) = inr (inr (live-relaxed r (reader-live r q .0) e))
 
--- who reads by a start and holds an item exclusively is past its writing
+-- who reads and holds an item exclusively is past its writing
 pub reader-holds :
-    (S : Sizes) (G : Tables) → Good S G → (s : ℕ) → s < S .slots → T (byStart (txn (G .txns) s)) → (x : ℕ) → x < S .items
+    (S : Sizes) (G : Tables) → Good S G → (s : ℕ) → s < S .slots → T (isReader (txn (G .txns) s)) → (x : ℕ) → x < S .items
     → T (holdsExclusive (lock (G .locks) x) s) → T (liveSettled (txn (G .txns) s))
-reader-holds S G g s i q x j h = go (g .txnGood s i .kindListed)
+reader-holds S G g s i q x j h = go (holder-cases (txn (G .txns) s) (g .lockGood x j .excluders s h .1))
   where
-    r : Txn
-    r = txn (G .txns) s
+    go : T (liveUpdate (txn (G .txns) s)) ⊎ T (liveSettled (txn (G .txns) s)) → T (liveSettled (txn (G .txns) s))
+    go (inl u) = absurd (update-no-reader (txn (G .txns) s) u q)
+    go (inr p) = p
 
-    go : (r .kind ≡ anUpdate) ⊎ ((r .kind ≡ aQuery) ⊎ (r .kind ≡ aSettled)) → T (liveSettled r)
-    go (inl e) = absurd (reader-live r q .1 e)
-    go (inr (inl e)) = absurd (holder-live r (g .lockGood x j .excluders s h .1) .1 e)
-    go (inr (inr e)) = live-settled r (reader-live r q .0) e
+-- ---- who is held back by another past its writing reads by a start: no relaxed query lives beside that one
+pub back-settled : (t l : List ℕ) (x s b : ℕ) → T (holdsBack t l x s b) → T (liveSettled (txn t b))
+unfolding holdsBack
+back-settled t l x s b h =
+    and-left (liveSettled (txn t b)) _ (and-right (holdsExclusive (lock l x) b) _ (and-right (not (eqb s b)) _ h))
+
+pub held-by-start :
+    (S : Sizes) (G : Tables) → Good S G → (s : ℕ) → s < S .slots → T (isReader (txn (G .txns) s)) → (x b : ℕ) → b < S .slots
+    → T (holdsBack (G .txns) (G .locks) x s b) → T (byStart (txn (G .txns) s))
+held-by-start S G g s i q x b j h = go (reader-cases S G g s i q)
+  where
+    go :
+        T (liveQuery (txn (G .txns) s)) ⊎ (T (liveSettled (txn (G .txns) s)) ⊎ T (liveRelaxed (txn (G .txns) s)))
+        → T (byStart (txn (G .txns) s))
+    go (inl a) = query-starts (txn (G .txns) s) a
+    go (inr (inl a)) = settled-starts (txn (G .txns) s) a
+    go (inr (inr a)) = absurd (g .setsGood .apart b s j i (back-settled (G .txns) (G .locks) x s b h) a)

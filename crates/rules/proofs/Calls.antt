@@ -8,19 +8,18 @@ use lib.Dec.{T, eqb}
 use borrow.Author.Tests.{ne-eqb, eq-eqb, lt-leb}
 use Rattle.names.specs.declared.Sizes.{Sizes}
 use Rattle.names.specs.Sizes.{lastWord}
-use Rattle.rules.specs.Tables.{Tables, lastNumber, clock, txn, liveUpdate, liveQuery, byStart, anUpdate, aQuery, aSettled, noLock, sharedLock, exclusiveLock}
+use Rattle.rules.specs.Tables.{Tables, lastNumber, clock, txn, liveUpdate, anyQuery, isReader, queryKind, anUpdate, aQuery, aSettled, aRelaxed, noLock, sharedLock, exclusiveLock, someSettled}
 use Rattle.rules.specs.Tables.{slotOf, freeSlot, lock, holdsExclusive, exclusivesOf}
-use Rattle.rules.specs.Versions.{versionsOf, choice}
 use Rattle.rules.specs.Good.{Good}
 use Rattle.rules.specs.Locks.{toRead, toWrite}
-use Rattle.rules.specs.Answers.{Call, BeginUpdate, BeginQuery, Read, Write, Commit, Abort, says, granted, refuses, QuotaSpent}
-use Rattle.rules.specs.Step.{step, act, judged, done, beginBy, begun, readBy, writeBy, commitUpdate, commitBy, abortBy, queryRead, access, awaitsOther, heldBack, startRead, writesPast, writesFurther}
-use Rattle.rules.specs.Step.{withTxns, counted, committed, ended, aborted}
-use Rattle.rules.specs.Changed.{lookedAt}
+use Rattle.rules.specs.Answers.{Call, BeginUpdate, BeginQuery, Read, Write, Commit, Abort, BeginRelaxed, says, granted, refuses, QuotaSpent}
+use Rattle.rules.specs.Step.{step, act, judged, done, meetsSettled, beginBy, begun, readBy, writeBy, commitUpdate, commitBy, abortBy, versionRead, access, awaitsOther, heldBack, startRead, writesPast, writesFurther}
+use Rattle.rules.specs.Step.{withTxns, readNoted, counted, committed, ended, aborted}
+use Rattle.rules.specs.Changed.{lookedAt, chosen}
 use Rattle.rules.proofs.Steps.{acts}
-use Rattle.rules.proofs.Callers.{Caller, caller-found, query-kind, update-kind}
-use Rattle.rules.proofs.EqualRows.{reader-live, query-reads}
-use Rattle.rules.proofs.Tests.{is-false}
+use Rattle.rules.proofs.Callers.{Caller, caller-found, is-query, any-query-kind, update-kind}
+use Rattle.rules.proofs.RowKinds.{reader-live, any-query-reads, holder-no-query, update-holds}
+use Rattle.rules.proofs.Tests.{is-true, is-false}
 
 module _ (S : Sizes) (G : Tables) (g : Good S G) where
   on-good : (c : Call) → step S c G ≡ act S c G
@@ -30,7 +29,7 @@ module _ (S : Sizes) (G : Tables) (g : Good S G) where
   module _ (room : freeSlot S (G .txns) < S .slots) (left : lastNumber (G .txns) ≢ lastWord) where
     pub update-begins :
         step S BeginUpdate G ≡ says granted 0 (lastNumber (G .txns) + 1) 0 (begun anUpdate 0 (freeSlot S (G .txns)) G)
-    unfolding act judged done beginBy
+    unfolding act judged done beginBy meetsSettled
     update-begins =
         on-good BeginUpdate
         ∙ rw (ne-eqb (freeSlot S (G .txns)) (S .slots) (omega arith), ne-eqb (lastNumber (G .txns)) lastWord left)
@@ -38,10 +37,19 @@ module _ (S : Sizes) (G : Tables) (g : Good S G) where
     pub query-begins :
         step S BeginQuery G
         ≡ says granted 0 (lastNumber (G .txns) + 1) 0 (begun aQuery (clock (G .txns)) (freeSlot S (G .txns)) G)
-    unfolding act judged done beginBy
+    unfolding act judged done beginBy meetsSettled
     query-begins =
         on-good BeginQuery
         ∙ rw (ne-eqb (freeSlot S (G .txns)) (S .slots) (omega arith), ne-eqb (lastNumber (G .txns)) lastWord left)
+
+    -- request E11: while nobody is past its writing
+    pub relaxed-begins :
+        someSettled S (G .txns) ≡ false
+        → step S BeginRelaxed G ≡ says granted 0 (lastNumber (G .txns) + 1) 0 (begun aRelaxed 0 (freeSlot S (G .txns)) G)
+    unfolding act judged done beginBy meetsSettled
+    relaxed-begins none =
+        on-good BeginRelaxed
+        ∙ rw (ne-eqb (freeSlot S (G .txns)) (S .slots) (omega arith), ne-eqb (lastNumber (G .txns)) lastWord left, none)
 
   -- ---- the transaction with the number n, in slot s
   module _ (n s : ℕ) (C : Caller S G n s) where
@@ -52,16 +60,13 @@ module _ (S : Sizes) (G : Tables) (g : Good S G) where
     within = ne-eqb s (S .slots) (let i = C .inside in omega arith)
 
     -- ---- a query, or one past its writing, which reads what it does not hold and nobody holds back
-    pub start-reads :
-        T (byStart (txn (G .txns) s)) → (x : ℕ) → x < S .items → (T (holdsExclusive (lock (G .locks) x) s) → ⊥) → heldBack S (G .txns) (G .locks) x s ≡ false
+    pub version-reads :
+        T (isReader (txn (G .txns) s)) → (x : ℕ) → x < S .items → (T (holdsExclusive (lock (G .locks) x) s) → ⊥) → heldBack S (G .txns) (G .locks) x s ≡ false
         → step S (Read n x) G
-        ≡ says granted
-        ((choice ((txn (G .txns) s) .start) (versionsOf S (G .versions) x)) .value)
-        0
-        (lookedAt S G s x)
-        (withTxns G (counted (G .txns) s (lookedAt S G s x)))
-    unfolding act judged done readBy startRead queryRead awaitsOther
-    start-reads reader x known other free =
+        ≡ says granted ((chosen S G s x) .value) 0 (lookedAt S G s x)
+        (withTxns G (counted (readNoted (G .txns) (G .locks) s x) s (lookedAt S G s x)))
+    unfolding act judged done readBy startRead versionRead awaitsOther
+    version-reads reader x known other free =
         on-good (Read n x)
         ∙ rw (
           found,
@@ -73,13 +78,13 @@ module _ (S : Sizes) (G : Tables) (g : Good S G) where
           free,
         )
 
-    -- ---- a query
-    module _ (query : T (liveQuery (txn (G .txns) s))) where
-      a-query : eqb ((txn (G .txns) s) .kind) aQuery ≡ true
-      a-query = eq-eqb ((txn (G .txns) s) .kind) aQuery (query-kind (G .txns) s query)
+    -- ---- a query, relaxed or not
+    module _ (query : T (anyQuery (txn (G .txns) s))) where
+      a-query : queryKind ((txn (G .txns) s) .kind) ≡ true
+      a-query = any-query-kind (G .txns) s query
 
       none : eqb ((txn (G .txns) s) .awaitedLock) noLock ≡ true
-      none = eq-eqb ((txn (G .txns) s) .awaitedLock) noLock (g .txnGood s (C .inside) .readerIdle (query-reads (txn (G .txns) s) query))
+      none = eq-eqb ((txn (G .txns) s) .awaitedLock) noLock (g .txnGood s (C .inside) .readerIdle (any-query-reads (txn (G .txns) s) query))
 
       pub query-commits : step S (Commit n) G ≡ says granted ((txn (G .txns) s) .weightSum) 0 ((txn (G .txns) s) .readCount) (ended S s G)
       unfolding act judged done commitBy
@@ -91,8 +96,10 @@ module _ (S : Sizes) (G : Tables) (g : Good S G) where
 
     -- ---- an update
     module _ (update : T (liveUpdate (txn (G .txns) s))) where
-      no-query : eqb ((txn (G .txns) s) .kind) aQuery ≡ false
-      no-query = ne-eqb ((txn (G .txns) s) .kind) aQuery (λ e. let u = update-kind (G .txns) s update in omega arith)
+      no-query : queryKind ((txn (G .txns) s) .kind) ≡ false
+      no-query =
+          is-false (queryKind ((txn (G .txns) s) .kind))
+          (λ k. holder-no-query (txn (G .txns) s) (update-holds (txn (G .txns) s) update) (is-query (G .txns) s (C .alive) (is-true _ k)))
 
       not-past : eqb ((txn (G .txns) s) .kind) aSettled ≡ false
       not-past = ne-eqb ((txn (G .txns) s) .kind) aSettled (λ e. let u = update-kind (G .txns) s update in omega arith)

@@ -2,25 +2,27 @@
 use Prim.Native.Nat.{ℕ, zero, suc, _+_, _*_, _≤_, _<_}
 use mathlib.Core.Path.{_≡_, refl, sym, ap, _∙_, subst}
 use mathlib.Core.Logic.{_≢_, _⊎_, inl, inr}
-use mathlib.Core.Bool.{Bool, true, false, _&&_, not}
+use mathlib.Core.Bool.{Bool, true, false, _&&_, not, cond}
 use mathlib.Core.List.{List}
 use native.Mathlib.Omega.{arith}
 use native.Mathlib.Nat.{add-zero}
 use lib.ListN.{length, getD, set, length-set}
 use lib.Seq.{getD-set-same, getD-set-other}
+use lib.Bits.{bitOr}
 use lib.Dec.{T, eqb, ltb, eqb→eq}
 use borrow.Author.Tests.{ltb-true, ltb-false}
 use Rattle.names.specs.declared.Sizes.{Sizes}
-use Rattle.names.specs.Layout.{lastNumberAt, clockAt, txnHead, txnLockAt, txnItemAt, txnRankAt, txnRow}
+use Rattle.names.specs.Layout.{lastNumberAt, clockAt, txnHead, txnLockAt, txnItemAt, txnRankAt, txnLaterForAt, txnRow}
 use Rattle.rules.specs.Words.{bit, withoutBit}
-use Rattle.rules.specs.Tables.{Tables, txnAt, txnWords, lockRow, lockWords, lastNumber, clock, Txn, txn, setTxn, setAwaited, noTxn, newTxn, liveSettled, aSettled}
+use Rattle.rules.specs.Tables.{Tables, txnAt, txnWords, lockRow, lockWords, lastNumber, clock, Txn, txn, setTxn, setAwaited, setLaterFor, withLaterFor, noTxn, newTxn, liveSettled, aSettled}
 use Rattle.rules.specs.Tables.{noLock, sharedLock, exclusiveLock, Lock, lock, setLock, holds, holdsShared, holdsExclusive, released, release, unshared, unshare}
-use Rattle.rules.specs.Waits.{closedUp}
+use Rattle.rules.specs.Waits.{awaits, awaitsOn, lowered, closedUp}
 use Rattle.rules.specs.Good.{Good}
-use Rattle.rules.specs.Changed.{Elsewhere, RowChanged, WordAndRowChanged, AwaitedChanged, RowAndRanksChanged, NoRank, leaving, LockChanged, LocksReleased, newcomer, Begun, Locked, Aborted, SharesGone, Settled}
-use Rattle.rules.specs.Step.{begun, cleared, locked, aborted, settled, awaitsOther, replaced, withTxns, withLocks}
+use Rattle.rules.specs.Changed.{Elsewhere, RowChanged, WordAndRowChanged, AwaitedChanged, RowAndRanksChanged, NoRank, leaving, LockChanged, LocksReleased, newcomer, Begun, setsAfter, Locked, Aborted, SharesGone, Settled}
+use Rattle.rules.specs.Step.{begun, joined, grantJoins, cleared, locked, lockedAnew, aborted, settled, awaitsOther, replaced, withTxns, withLocks}
 use Rattle.rules.proofs.Tests.{and-left, and-right, and-both, or-left, or-right, is-false, false-is, not-make, ne-make, same?}
-use Rattle.rules.proofs.EqualRows.{settled-reads}
+use Rattle.rules.proofs.RowKinds.{settled-reads}
+use Rattle.rules.proofs.Joined.{joined-length, joined-here, joined-same}
 use Rattle.rules.proofs.EqualRanks.{awaits→}
 use Rattle.rules.proofs.Noting.{closed-length, closed-row, closed-word, closed-none}
 use Rattle.rules.proofs.Views.{length-setTxn, outside-setTxn, txn-setTxn, setAwaited-same, lock-setLock, length-setLock, lock-release, length-release, lock-unshare, length-unshare}
@@ -47,7 +49,7 @@ module _ (S : Sizes) (t : List ℕ) (exact : length t ≡ txnWords S) (s : ℕ) 
   module _ (u : List ℕ) (f : Txn → ℕ) (size : length u ≡ length t)
       (ranks : (r : ℕ) → r < S .slots → (txn u r) .rank ≡ f (txn t r)) (others : (j : ℕ) → NoRank (S .slots) j → getD u j 0 ≡ getD t j 0)
     where
-      pub awaited-changes : (k x p : ℕ) → AwaitedChanged S s k x p f t (setAwaited u s k x p)
+      pub awaited-changes : (k x p : ℕ) → AwaitedChanged S s k x p ((txn t s) .laterFor) f t (setAwaited u s k x p)
       unfolding setAwaited txn
       awaited-changes k x p =
           record {
@@ -59,6 +61,13 @@ module _ (S : Sizes) (t : List ℕ) (exact : length t ≡ txnWords S) (s : ℕ) 
                 rw (getD-set-other _ (txnAt s + txnRankAt) (txnAt s + txnItemAt) p 0 (omega arith))
                 (getD-set-same (set u (txnAt s + txnLockAt) k) (txnAt s + txnItemAt) x 0 (simp length-set (omega arith)));
             rank = getD-set-same (set (set u (txnAt s + txnLockAt) k) (txnAt s + txnItemAt) x) (txnAt s + txnRankAt) p 0 (simp length-set (omega arith));
+            laterFor =
+                rw (
+                  getD-set-other _ (txnAt s + txnRankAt) (txnAt s + txnLaterForAt) p 0 (omega arith),
+                  getD-set-other _ (txnAt s + txnItemAt) (txnAt s + txnLaterForAt) x 0 (omega arith),
+                  getD-set-other _ (txnAt s + txnLockAt) (txnAt s + txnLaterForAt) k 0 (omega arith),
+                )
+                (others (txnAt s + txnLaterForAt) (λ r i e. omega arith));
             ranks = λ r i d.
                 rw (
                   getD-set-other _ (txnAt s + txnRankAt) (txnAt r + txnRankAt) p 0 (omega arith),
@@ -66,7 +75,7 @@ module _ (S : Sizes) (t : List ℕ) (exact : length t ≡ txnWords S) (s : ℕ) 
                   getD-set-other _ (txnAt s + txnLockAt) (txnAt r + txnRankAt) k 0 (omega arith),
                 )
                 (ranks r i);
-            others = λ j m n o.
+            others = λ j m n l o.
                 getD-set-other (set (set u (txnAt s + txnLockAt) k) (txnAt s + txnItemAt) x) (txnAt s + txnRankAt) j p 0 (o s inside)
                 ∙ getD-set-other (set u (txnAt s + txnLockAt) k) (txnAt s + txnItemAt) j x 0 n
                 ∙ getD-set-other u (txnAt s + txnLockAt) j k 0 m
@@ -80,7 +89,7 @@ module _ (S : Sizes) (t : List ℕ) (exact : length t ≡ txnWords S) (s : ℕ) 
           record {
             size = length-setTxn u s r ∙ size;
             here = unfold txn in (txn-setTxn u s r S (size ∙ exact) inside);
-            ranks = λ q i d. outside-setTxn u s r (txnAt q + txnRankAt) (beside q d) ∙ ranks q i;
+            words = λ q i d. outside-setTxn u s r (txnAt q + txnRankAt) (beside q d) ∙ ranks q i;
             others = λ j e o. outside-setTxn u s r j e ∙ others j o;
           }
         where
@@ -91,7 +100,7 @@ module _ (S : Sizes) (t : List ℕ) (exact : length t ≡ txnWords S) (s : ℕ) 
               go true e = let l = ltb-true q s e in inl (omega arith)
               go false e = let l = ltb-false q s e in inr (omega arith)
 
-  pub cleared-changes : AwaitedChanged S s noLock 0 0 (leaving t s) t (cleared S t s)
+  pub cleared-changes : AwaitedChanged S s noLock 0 0 ((txn t s) .laterFor) (leaving t s) t (cleared S t s)
   unfolding cleared
   cleared-changes =
       awaited-changes (closedUp S t s) (leaving t s) (closed-length S t s) (λ r i. ap (λ (w : Txn). w .rank) (closed-row S t s exact r i)) (closed-word S t s) noLock 0 0
@@ -99,6 +108,52 @@ module _ (S : Sizes) (t : List ℕ) (exact : length t ≡ txnWords S) (s : ℕ) 
   pub closed-changes : (r : Txn) → RowAndRanksChanged S s r (leaving t s) t (setTxn (closedUp S t s) s r)
   closed-changes r =
       row-changes (closedUp S t s) (leaving t s) (closed-length S t s) (λ r i. ap (λ (w : Txn). w .rank) (closed-row S t s exact r i)) (closed-word S t s) r
+
+-- ---- request E11: sets are joined besides
+-- afterwards
+pub joined-after :
+    (S : Sizes) (s k x p m w : ℕ) (f : Txn → ℕ) (t u : List ℕ) → length t ≡ txnWords S → s < S .slots
+    → AwaitedChanged S s k x p m f t u → AwaitedChanged S s k x p (bitOr m w) f t (joined u s w)
+unfolding joined setLaterFor txn
+joined-after S s k x p m w f t u exact inside a =
+    record {
+      size = length-set u (txnAt s + txnLaterForAt) _ ∙ a .size;
+      awaitedLock = getD-set-other u (txnAt s + txnLaterForAt) (txnAt s + txnLockAt) _ 0 (omega arith) ∙ a .awaitedLock;
+      awaitedItem = getD-set-other u (txnAt s + txnLaterForAt) (txnAt s + txnItemAt) _ 0 (omega arith) ∙ a .awaitedItem;
+      rank = getD-set-other u (txnAt s + txnLaterForAt) (txnAt s + txnRankAt) _ 0 (omega arith) ∙ a .rank;
+      laterFor =
+          getD-set-same u (txnAt s + txnLaterForAt) (bitOr (getD u (txnAt s + txnLaterForAt) 0) w) 0 (let e = a .size in omega arith)
+          ∙ ap (λ (j : ℕ). bitOr j w) (a .laterFor);
+      ranks = λ r i d. getD-set-other u (txnAt s + txnLaterForAt) (txnAt r + txnRankAt) _ 0 (omega arith) ∙ a .ranks r i d;
+      others = λ j c d l n. getD-set-other u (txnAt s + txnLaterForAt) j _ 0 l ∙ a .others j c d l n;
+    }
+
+-- before, in what leaves a line
+joined-before :
+    (S : Sizes) (s k x p m w : ℕ) (t u : List ℕ) → length t ≡ txnWords S → s < S .slots
+    → AwaitedChanged S s k x p m (leaving (joined t s w) s) (joined t s w) u → AwaitedChanged S s k x p m (leaving t s) t u
+joined-before S s k x p m w t u exact inside a =
+    record {
+      size = a .size ∙ joined-length t s w;
+      awaitedLock = a .awaitedLock;
+      awaitedItem = a .awaitedItem;
+      rank = a .rank;
+      laterFor = a .laterFor;
+      ranks = λ r i d. a .ranks r i d ∙ lines r;
+      others = λ j c d l n. a .others j c d l n ∙ (unfold joined setLaterFor in (getD-set-other t (txnAt s + txnLaterForAt) j _ 0 l));
+    }
+  where
+    same : {A : Type 0} (h : Txn → A) → ((r : Txn) (v : ℕ) → h (withLaterFor r v) ≡ h r) → (r : ℕ) → h (txn (joined t s w) r) ≡ h (txn t r)
+    same = joined-same t s w S exact inside
+
+    -- the line that s leaves is the same
+    place : Txn → Txn → ℕ
+    place q r = cond (awaits q) (lowered (q .awaitedItem) (q .rank) r) (r .rank)
+
+    lines : (r : ℕ) → leaving (joined t s w) s (txn (joined t s w) r) ≡ leaving t s (txn t r)
+    lines r =
+        unfold awaits lowered awaitsOn in
+        (same (λ (q : Txn). place q (txn (joined t s w) r)) (λ q v. refl) s ∙ same (λ (q : Txn). place (txn t s) q) (λ q v. refl) r)
 
 -- where nothing is awaited there is nothing to clear
 pub cleared-same : (S : Sizes) (t : List ℕ) (s : ℕ) → (txn t s) .awaitedLock ≡ noLock → (txn t s) .awaitedItem ≡ 0 → (txn t s) .rank ≡ 0 → cleared S t s ≡ t
@@ -172,11 +227,17 @@ module _ (S : Sizes) (G : Tables) (g : Good S G) (s : ℕ) (inside : s < S .slot
         versions = refl;
       }
 
-  pub locked-changes : (x : ℕ) → x < S .items → (h : Lock) → Locked S s x h G (locked S s x h G)
-  unfolding locked
-  locked-changes x known h =
+  pub anew-changes : (k x : ℕ) → x < S .items → (h : Lock) → Locked S s x (setsAfter S G s k x) h G (lockedAnew S s k x h G)
+  unfolding lockedAnew locked
+  anew-changes k x known h =
+      let w = grantJoins S G k x in
+      let u = joined (G .txns) s w in
       record {
-        txns = cleared-changes S (G .txns) (g .txnsExact) s inside;
+        txns =
+            joined-before S s noLock 0 0 _ w (G .txns) (cleared S u s) (g .txnsExact) inside
+            (subst (λ (m : ℕ). AwaitedChanged S s noLock 0 0 m (leaving u s) u (cleared S u s))
+            (ap (λ (r : Txn). r .laterFor) (joined-here (G .txns) s w S (g .txnsExact) inside))
+            (cleared-changes S u (joined-length (G .txns) s w ∙ g .txnsExact) s inside));
         locks = setLock-changes S (G .locks) (g .locksExact) x known h;
         versions = refl;
       }

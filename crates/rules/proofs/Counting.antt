@@ -1,33 +1,29 @@
--- Request E8: what a read by a start leaves of the transactions. A query's is counted in two words of its row, another's in none; the
--- tables stay good.
-use Prim.Native.Nat.{ℕ, suc, _+_, _≤_, _<_}
+-- Request E8: what a read of a version leaves counted. A query's is counted in two words of its row, another's in none; the tables stay
+-- good.
+use Prim.Native.Nat.{ℕ, _+_, _≤_, _<_}
 use mathlib.Core.Path.{_≡_, refl, sym, ap, _∙_, subst}
 use mathlib.Core.Logic.{_≢_, _⊎_, inl, inr}
 use mathlib.Core.Bool.{Bool, true, false, cond}
 use mathlib.Core.List.{List}
 use native.Mathlib.Omega.{arith}
-use lib.ListN.{length, getD, set, length-set}
+use lib.ListN.{length, set, length-set}
 use lib.Seq.{getD-set-same, getD-set-other}
-use lib.Dec.{T, eqb, ltb}
-use borrow.Author.Tests.{eq-eqb, ne-eqb, eqb-true, le-ltb, ltb-true, ltb-false}
+use lib.Dec.{T, ltb}
+use borrow.Author.Tests.{le-ltb, ltb-true, ltb-false}
 use Rattle.names.specs.declared.Sizes.{Sizes}
 use Rattle.names.specs.Sizes.{lastWord}
 use Rattle.names.specs.Words.{heldAtLast}
 use Rattle.names.specs.Layout.{txnCountAt, txnSumAt}
-use Rattle.rules.specs.Tables.{Tables, txnAt, txnWords, lastNumber, clock, Txn, txn, setTxn, setReads, withRank, aQuery, live, liveUpdate, liveQuery, liveSettled, mayHold, byStart, lock}
-use Rattle.rules.specs.Versions.{versionsIn, place}
-use Rattle.rules.specs.Waits.{awaits, waitsFor}
-use Rattle.rules.specs.Good.{Good, GoodReads, GoodTxn, GoodQuota, GoodVersions}
+use Rattle.rules.specs.Words.{bit}
+use Rattle.rules.specs.Tables.{Tables, txnAt, txnWords, lastNumber, clock, Txn, txn, setTxn, setReads, queryKind, live, liveUpdate, liveQuery, liveSettled, liveRelaxed, anyQuery, mayHold}
+use Rattle.rules.specs.Good.{Good, GoodReads, GoodNotes}
 use Rattle.rules.specs.Step.{counted, withTxns}
-use Rattle.rules.specs.Changed.{leaving, ReadsChanged, Counted}
-use Rattle.rules.proofs.Tests.{same?}
+use Rattle.rules.specs.Changed.{ReadsChanged, Counted}
+use Rattle.rules.proofs.Tests.{same?, true-is, and-both}
 use Rattle.rules.proofs.Views.{reading, setTxn-same, setReads-row, length-setTxn, lastNumber-setTxn, clock-setTxn, txn-setTxn, txn-setTxn-other}
-use Rattle.rules.proofs.EqualRows.{live-number, query-live, settled-live, holder-live, reader-live}
-use Rattle.rules.proofs.EqualRanks.{awaits→}
-use Rattle.rules.proofs.Carried.{no-more-same, txn-carried, lock-carried, settled-carried}
-use Rattle.rules.proofs.Quotas.{quotas-but}
-use Rattle.rules.proofs.Lines.{same-leaving, left-ranks, left-links}
-use Rattle.rules.proofs.Deadlock.{fewer-no-circle}
+use Rattle.rules.proofs.RowKinds.{live-number, query-live, settled-live, relaxed-live, holder-live, holder-no-query}
+use Rattle.rules.proofs.Carried.{no-more-same, same-notes, sets-carried}
+use Rattle.rules.proofs.Notes.{Beside, written-beside, relaxed-beside, apart-beside, beside-good}
 
 -- ---- a number held at the last word
 pub held-most : (n : ℕ) → heldAtLast n ≤ lastWord
@@ -62,22 +58,27 @@ held-on n k = go (ltb n lastWord) refl
 -- ---- the row r with a read counted that looked at k versions, if it is a query's
 abbrev pub tallied : Txn → ℕ → Txn
 tallied r k =
-    reading r (cond (eqb (r .kind) aQuery) (heldAtLast (r .readCount + 1)) (r .readCount))
-    (cond (eqb (r .kind) aQuery) (heldAtLast (r .weightSum + k)) (r .weightSum))
+    reading r (cond (queryKind (r .kind)) (heldAtLast (r .readCount + 1)) (r .readCount))
+    (cond (queryKind (r .kind)) (heldAtLast (r .weightSum + k)) (r .weightSum))
+
+-- whoever may hold is no query
+holder-kind : (r : Txn) → T (mayHold r) → queryKind (r .kind) ≡ true → ⊥
+holder-kind r h e =
+    holder-no-query r h (unfold anyQuery in (and-both (live r) _ (holder-live r h .0) (true-is e)))
 
 tallied-reads : (r : Txn) (k : ℕ) → GoodReads r → GoodReads (tallied r k)
 unfolding mayHold liveUpdate liveSettled live
-tallied-reads r k g = go (eqb (r .kind) aQuery) refl
+tallied-reads r k g = go (queryKind (r .kind)) refl
   where
     go :
-        (b : Bool) → eqb (r .kind) aQuery ≡ b
+        (b : Bool) → queryKind (r .kind) ≡ b
         → GoodReads (reading r (cond b (heldAtLast (r .readCount + 1)) (r .readCount)) (cond b (heldAtLast (r .weightSum + k)) (r .weightSum)))
     go true e =
         record {
           countMost = held-most (r .readCount + 1);
           sumMost = held-most (r .weightSum + k);
-          updateCount = λ h. absurd (holder-live r h .1 (eqb-true (r .kind) aQuery e));
-          updateSum = λ h. absurd (holder-live r h .1 (eqb-true (r .kind) aQuery e));
+          updateCount = λ h. absurd (holder-kind r h e);
+          updateSum = λ h. absurd (holder-kind r h e);
         }
     go false e = record { countMost = g .countMost; sumMost = g .sumMost; updateCount = g .updateCount; updateSum = g .updateSum }
 
@@ -85,7 +86,7 @@ tallied-reads r k g = go (eqb (r .kind) aQuery) refl
 module _ (t : List ℕ) (s k : ℕ) where
   pub counted-row : counted t s k ≡ setTxn t s (tallied (txn t s) k)
   unfolding counted
-  counted-row = go (eqb ((txn t s) .kind) aQuery)
+  counted-row = go (queryKind ((txn t s) .kind))
     where
       go :
           (b : Bool)
@@ -107,31 +108,33 @@ module _ (t : List ℕ) (s k : ℕ) where
   counted-there r d = ap (λ (u : List ℕ). txn u r) counted-row ∙ txn-setTxn-other t s (tallied (txn t s) k) r d
 
   -- one past its writing, and whoever else is no query, is not counted
-  pub counted-none : (txn t s) .kind ≢ aQuery → counted t s k ≡ t
+  pub counted-none : queryKind ((txn t s) .kind) ≡ false → counted t s k ≡ t
   unfolding counted
-  counted-none d = rw (ne-eqb ((txn t s) .kind) aQuery d)
+  counted-none d = rw d
 
-  pub counted-query : (txn t s) .kind ≡ aQuery → counted t s k ≡ setReads t s (heldAtLast ((txn t s) .readCount + 1)) (heldAtLast ((txn t s) .weightSum + k))
+  pub counted-query : queryKind ((txn t s) .kind) ≡ true → counted t s k ≡ setReads t s (heldAtLast ((txn t s) .readCount + 1)) (heldAtLast ((txn t s) .weightSum + k))
   unfolding counted
-  counted-query e = rw (eq-eqb ((txn t s) .kind) aQuery e)
+  counted-query e = rw e
 
   module _ (S : Sizes) (exact : length t ≡ txnWords S) (inside : s < S .slots) where
     pub counted-here : txn (counted t s k) s ≡ tallied (txn t s) k
     counted-here = ap (λ (u : List ℕ). txn u s) counted-row ∙ txn-setTxn t s (tallied (txn t s) k) S exact inside
 
     -- of every row all but the two words is as it was
+    pub counted-beside : (r : ℕ) → Beside (txn t r) (txn (counted t s k) r)
+    counted-beside r =
+        subst (λ (u : List ℕ). Beside (txn t r) (txn u r)) (sym counted-row) (written-beside S t s (tallied (txn t s) k) exact inside refl r)
+
     pub counted-same : {A : Type 0} (h : Txn → A) → ((r : Txn) (n w : ℕ) → h (reading r n w) ≡ h r) → (r : ℕ) → h (txn (counted t s k) r) ≡ h (txn t r)
     counted-same h e r = go (same? r s)
       where
         go : (r ≡ s) ⊎ (r ≢ s) → h (txn (counted t s k) r) ≡ h (txn t r)
         go (inl q) =
-            ap (λ (m : ℕ). h (txn (counted t s k) m)) q ∙ ap h counted-here
-            ∙ e (txn t s) (cond (eqb ((txn t s) .kind) aQuery) (heldAtLast ((txn t s) .readCount + 1)) ((txn t s) .readCount)) (cond (eqb ((txn t s) .kind) aQuery) (heldAtLast ((txn t s) .weightSum + k)) ((txn t s) .weightSum))
-            ∙ ap (λ (m : ℕ). h (txn t m)) (sym q)
+            ap (λ (m : ℕ). h (txn (counted t s k) m)) q ∙ ap h counted-here ∙ e (txn t s) _ _ ∙ ap (λ (m : ℕ). h (txn t m)) (sym q)
         go (inr d) = ap h (counted-there r d)
 
     -- "a read count and a weight sum": these two words of a query's row, and no other
-    pub reads-change : (txn t s) .kind ≡ aQuery → ReadsChanged s (heldAtLast ((txn t s) .readCount + 1)) (heldAtLast ((txn t s) .weightSum + k)) t (counted t s k)
+    pub reads-change : queryKind ((txn t s) .kind) ≡ true → ReadsChanged s (heldAtLast ((txn t s) .readCount + 1)) (heldAtLast ((txn t s) .weightSum + k)) t (counted t s k)
     reads-change q = subst (ReadsChanged s n w t) (sym (counted-query q)) written
       where
         n : ℕ
@@ -154,135 +157,64 @@ module _ (t : List ℕ) (s k : ℕ) where
                   ∙ getD-set-other t (txnAt s + txnCountAt) j n 0 c;
             })
 
--- ---- a row of versions, where those who read by a start are the same with the same starts
-versions-same :
-    (S : Sizes) (t t′ r : List ℕ) → clock t′ ≡ clock t → ((s : ℕ) → byStart (txn t′ s) ≡ byStart (txn t s)) → ((s : ℕ) → (txn t′ s) .start ≡ (txn t s) .start)
-    → GoodVersions S t r → GoodVersions S t′ r
-versions-same S t t′ r now who at g =
-    record {
-      countLeast = g .countLeast;
-      countMost = g .countMost;
-      unused = g .unused;
-      fall = g .fall;
-      first = let c = g .first in omega arith;
-      last = λ s i q. let c = g .last s i (subst T (who s) q) in let e = at s in omega arith;
-      reads = λ k pos. (
-        λ there. let w = g .reads k pos .0 there in (w .0, w .1, subst T (sym (who (w .0))) (w .2), ap (λ (q : ℕ). place q (versionsIn r)) (at (w .0)) ∙ w .3),
-        λ w. g .reads k pos .1 (w .0, w .1, subst T (who (w .0)) (w .2), ap (λ (q : ℕ). place q (versionsIn r)) (sym (at (w .0))) ∙ w .3),
-      );
-    }
+-- the kinds of the two, and of a strict query
+pub strict-counted : (r : Txn) → T (liveQuery r) → queryKind (r .kind) ≡ true
+unfolding queryKind
+strict-counted r h = rw (query-live r h .1) refl
+
+pub relaxed-counted : (r : Txn) → T (liveRelaxed r) → queryKind (r .kind) ≡ true
+unfolding queryKind
+relaxed-counted r h = rw (relaxed-live r h .1) refl
+
+pub settled-not-counted : (r : Txn) → T (liveSettled r) → queryKind (r .kind) ≡ false
+unfolding queryKind
+settled-not-counted r h = rw (settled-live r h .1) refl
 
 -- ---- on good tables
-module _ (S : Sizes) (G : Tables) (g : Good S G) (s : ℕ) (inside : s < S .slots) (reader : T (byStart (txn (G .txns) s))) (k : ℕ) where
+module _ (S : Sizes) (G : Tables) (g : Good S G) (s : ℕ) (inside : s < S .slots) (alive : T (live (txn (G .txns) s))) (k : ℕ) where
   abbrev t : List ℕ
   t = G .txns
 
   abbrev t′ : List ℕ
   t′ = counted t s k
 
+  beside : (r : ℕ) → Beside (txn t r) (txn t′ r)
+  beside = counted-beside t s k S (g .txnsExact) inside
+
   same : {A : Type 0} (h : Txn → A) → ((r : Txn) (n w : ℕ) → h (reading r n w) ≡ h r) → (r : ℕ) → h (txn t′ r) ≡ h (txn t r)
   same = counted-same t s k S (g .txnsExact) inside
 
-  number′ : (r : ℕ) → (txn t′ r) .number ≡ (txn t r) .number
-  number′ = same (λ (r : Txn). r .number) (λ r n w. refl)
-
-  start′ : (r : ℕ) → (txn t′ r) .start ≡ (txn t r) .start
-  start′ = same (λ (r : Txn). r .start) (λ r n w. refl)
-
-  live′ : (r : ℕ) → live (txn t′ r) ≡ live (txn t r)
-  unfolding live
-  live′ = same live (λ r n w. refl)
-
-  update′ : (r : ℕ) → liveUpdate (txn t′ r) ≡ liveUpdate (txn t r)
-  unfolding liveUpdate live
-  update′ = same liveUpdate (λ r n w. refl)
-
-  holder′ : (r : ℕ) → mayHold (txn t′ r) ≡ mayHold (txn t r)
-  unfolding mayHold liveUpdate liveSettled live
-  holder′ = same mayHold (λ r n w. refl)
-
-  settled′ : (r : ℕ) → liveSettled (txn t′ r) ≡ liveSettled (txn t r)
-  unfolding liveSettled live
-  settled′ = same liveSettled (λ r n w. refl)
-
-  reader′ : (r : ℕ) → byStart (txn t′ r) ≡ byStart (txn t r)
-  unfolding byStart live
-  reader′ = same byStart (λ r n w. refl)
-
-  here : txn t′ s ≡ tallied (txn t s) k
-  here = counted-here t s k S (g .txnsExact) inside
-
-  new-row : GoodTxn S t (G .locks) s (tallied (txn t s) k)
-  unfolding liveUpdate byStart liveSettled live
-  new-row =
-      let o = g .txnGood s inside in
-      record {
-        free = λ e. absurd (live-number (txn t s) (reader-live (txn t s) reader .0) e);
-        given = o .given;
-        kindListed = o .kindListed;
-        lockListed = o .lockListed;
-        updateStart = o .updateStart;
-        readerStart = o .readerStart;
-        readerIdle = o .readerIdle;
-        settledStart = o .settledStart;
-        itemKnown = o .itemKnown;
-        itemUnused = o .itemUnused;
-        rankUnused = o .rankUnused;
-        readsGood = tallied-reads (txn t s) k (o .readsGood);
-        awaitsShared = o .awaitsShared;
-        awaitsExclusive = o .awaitsExclusive;
-      }
-
-  rows : (r : ℕ) → r < S .slots → GoodTxn S t′ (G .locks) r (txn t′ r)
-  rows r i = go (same? r s)
+  reads : (r : ℕ) → r < S .slots → GoodReads (txn t′ r)
+  reads r i = go (same? r s)
     where
-      carried : (r : ℕ) (w : Txn) → GoodTxn S t (G .locks) r w → GoodTxn S t′ (G .locks) r w
-      carried r w h =
-          txn-carried S t t′ (G .locks) (G .locks) r w (let a = counted-last t s k in omega arith) (let a = counted-clock t s k in omega arith)
-          (λ d. no-more-same r refl) h
+      go : (r ≡ s) ⊎ (r ≢ s) → GoodReads (txn t′ r)
+      go (inl e) =
+          subst (λ (m : ℕ). GoodReads (txn t′ m)) (sym e)
+          (subst GoodReads (sym (counted-here t s k S (g .txnsExact) inside)) (tallied-reads (txn t s) k (g .txnGood s inside .readsGood)))
+      go (inr d) = subst GoodReads (sym (counted-there t s k r d)) (g .txnGood r i .readsGood)
 
-      go : (r ≡ s) ⊎ (r ≢ s) → GoodTxn S t′ (G .locks) r (txn t′ r)
-      go (inl e) = subst (λ (m : ℕ). GoodTxn S t′ (G .locks) m (txn t′ m)) (sym e) (subst (λ (w : Txn). GoodTxn S t′ (G .locks) s w) (sym here) (carried s _ new-row))
-      go (inr d) = subst (λ (w : Txn). GoodTxn S t′ (G .locks) r w) (sym (counted-there t s k r d)) (carried r _ (g .txnGood r i))
+  notes : (r : ℕ) → r < S .slots → GoodNotes S (txn t′ r)
+  unfolding liveRelaxed liveUpdate live
+  notes r i =
+      same-notes S (txn t r) (txn t′ r) (same (λ (r : Txn). r .itemsRead) (λ r n w. refl) r) (same (λ (r : Txn). r .laterFor) (λ r n w. refl) r)
+      (same liveRelaxed (λ r n w. refl) r) (same liveUpdate (λ r n w. refl) r) (g .txnGood r i .notesGood)
 
-  new-quota : GoodQuota S (G .locks) s (tallied (txn t s) k)
-  unfolding mayHold liveUpdate liveSettled live
-  new-quota = let o = g .quotaGood s inside in record { most = o .most; fullIdle = o .fullIdle }
-
-  -- who reads by a start awaits nothing
-  no-wait : T (awaits (txn t s)) → ⊥
-  no-wait h = awaits→ (txn t s) h (g .txnGood s inside .readerIdle reader)
-
-  idle : T (awaits (txn t′ s)) → ⊥
-  idle h = awaits→ (txn t′ s) h (same (λ (r : Txn). r .awaitedLock) (λ r n w. refl) s ∙ g .txnGood s inside .readerIdle reader)
-
-  others : (r : ℕ) → r < S .slots → r ≢ s → txn t′ r ≡ withRank (txn t r) (leaving t s (txn t r))
-  others r i d = same-leaving t t′ s r no-wait (counted-there t s k r d)
-
-  links : (a b : ℕ) → T (waitsFor t′ (G .locks) a b) → T (waitsFor t (G .locks) a b)
-  links a b h = left-links S t t′ (G .locks) s inside others idle (g .ranksGood) (G .locks) (counted-length t s k ∙ g .txnsExact) a b (λ w k c. c) h
+  free : (r : ℕ) → (txn t r) .number ≡ 0 → txn t′ r ≡ txn t r
+  free r e = counted-there t s k r (λ z. live-number (txn t s) alive (ap (λ (m : ℕ). (txn t m) .number) (sym z) ∙ e))
 
   pub counted-good : Good S (withTxns G (counted (G .txns) s k))
   counted-good =
-      record {
-        txnsExact = counted-length t s k ∙ g .txnsExact;
-        locksExact = g .locksExact;
-        versionsExact = g .versionsExact;
-        lastMost = let a = counted-last t s k in let b = g .lastMost in omega arith;
-        clockMost = let a = counted-clock t s k in let b = g .clockMost in omega arith;
-        txnGood = rows;
-        distinct = λ a b i j d h e. g .distinct a b i j d (subst T (live′ b) h) (sym (number′ a) ∙ e ∙ number′ b);
-        lockGood = λ x i. lock-carried S t t′ (lock (G .locks) x) (λ r h u. subst T (sym (update′ r)) u) (λ r h u. subst T (sym (holder′ r)) u) (g .lockGood x i);
-        quotaGood = quotas-but S (G .locks) t t′ s (counted-there t s k) (subst (λ (w : Txn). GoodQuota S (G .locks) s w) (sym here) new-quota) (g .quotaGood);
-        versionsGood = λ x i. versions-same S t t′ _ (counted-clock t s k) reader′ start′ (g .versionsGood x i);
-        ranksGood = left-ranks S t t′ (G .locks) s inside others idle (g .ranksGood) (G .locks) (λ x r d. refl);
-        settledGood = settled-carried S G (withTxns G t′) (λ r i h. (subst T (settled′ r) h, start′ r)) (λ r x i j a h. (h, refl)) (g .settledGood);
-        noCircle = fewer-no-circle S G g t′ (G .locks) links;
-      }
+      beside-good S G g t′ (counted-length t s k ∙ g .txnsExact) (counted-last t s k) (counted-clock t s k) beside free reads notes
+      (sets-carried S G (withTxns G t′) g
+      (apart-beside S G g t′ (counted-length t s k ∙ g .txnsExact) (counted-last t s k) (counted-clock t s k) beside)
+      (λ q i h. subst T (sym (relaxed-beside S G g t′ (counted-length t s k ∙ g .txnsExact) (counted-last t s k) (counted-clock t s k) beside q)) h)
+      (λ r i. same (λ (r : Txn). r .laterFor) (λ r n w. refl) r)
+      (λ q x i b. subst (λ (w : ℕ). T (bit w x)) (same (λ (r : Txn). r .itemsRead) (λ r n w. refl) q) b)
+      (λ r x i. no-more-same r refl) (λ x q i b. b))
 
-  -- a query's read, told as the words that it changes; and another's, which changes none
+  -- a query's read, told as the words that it changes; and that of one past its writing, which changes none
   pub query-counted : T (liveQuery (txn (G .txns) s)) → Counted s k G (withTxns G (counted (G .txns) s k))
-  query-counted q = record { txns = reads-change t s k S (g .txnsExact) inside (query-live (txn t s) q .1); locks = refl; versions = refl }
+  query-counted q = record { txns = reads-change t s k S (g .txnsExact) inside (strict-counted (txn t s) q); locks = refl; versions = refl }
 
   pub settled-uncounted : T (liveSettled (txn (G .txns) s)) → withTxns G (counted (G .txns) s k) ≡ G
-  settled-uncounted p = ap (withTxns G) (counted-none t s k (λ e. let a = settled-live (txn t s) p .1 in omega arith))
+  settled-uncounted p = ap (withTxns G) (counted-none t s k (settled-not-counted (txn t s) p))

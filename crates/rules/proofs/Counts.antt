@@ -186,22 +186,22 @@ unfolding some
 some-mem p (List·Memᴰ·head {x = x} {xs = xs} e) t = or-left (p x) (some p xs) (subst (λ y. T (p y)) e t)
 some-mem p (List·Memᴰ·tail {x = x} {xs = xs} m) t = or-right (p x) (some p xs) (some-mem p m t)
 
-pub mem-some : (p : ℕ → Bool) (l : List ℕ) → T (some p l) → (a : ℕ) × List·Memᴰ a l × T (p a)
+pub mem-some : {A : Type 0} (p : A → Bool) (l : List A) → T (some p l) → (a : A) × List·Memᴰ a l × T (p a)
 unfolding some
 mem-some p [] h = absurd h
-mem-some p (x ∷ xs) h = go (mem-some p xs) (or-cases (p x) (some p xs) h)
+mem-some {A} p (x ∷ xs) h = go (mem-some p xs) (or-cases (p x) (some p xs) h)
   where
-    go : (T (some p xs) → (a : ℕ) × List·Memᴰ a xs × T (p a)) → T (p x) ⊎ T (some p xs) → (a : ℕ) × List·Memᴰ a (x ∷ xs) × T (p a)
+    go : (T (some p xs) → (a : A) × List·Memᴰ a xs × T (p a)) → T (p x) ⊎ T (some p xs) → (a : A) × List·Memᴰ a (x ∷ xs) × T (p a)
     go f (inl t) = (x, List·Memᴰ·head refl, t)
     go f (inr t) = let r = f t in (r .0, List·Memᴰ·tail (r .1), r .2)
 
-pub every-mem : (p : ℕ → Bool) {a : ℕ} {l : List ℕ} → T (every p l) → List·Memᴰ a l → T (p a)
+pub every-mem : {A : Type 0} (p : A → Bool) {a : A} {l : List A} → T (every p l) → List·Memᴰ a l → T (p a)
 unfolding every
 every-mem p h (List·Memᴰ·head {x = x} {xs = xs} e) =
-    subst (λ (y : ℕ). T (p y)) (sym e) (and-left (p x) (every p xs) h)
+    subst (λ y. T (p y)) (sym e) (and-left (p x) (every p xs) h)
 every-mem p h (List·Memᴰ·tail {x = x} {xs = xs} m) = every-mem p (and-right (p x) (every p xs) h) m
 
-pub mem-every : (p : ℕ → Bool) (l : List ℕ) → ((a : ℕ) → List·Memᴰ a l → T (p a)) → T (every p l)
+pub mem-every : {A : Type 0} (p : A → Bool) (l : List A) → ((a : A) → List·Memᴰ a l → T (p a)) → T (every p l)
 unfolding every
 mem-every p [] f = tt
 mem-every p (x ∷ xs) f =

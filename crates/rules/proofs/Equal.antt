@@ -1,26 +1,29 @@
 -- The test of all tables says what Good says.
 use Prim.Native.Nat.{ℕ, _<_}
-use mathlib.Core.Path.{_≡_, refl, sym}
+use mathlib.Core.Path.{_≡_, refl, sym, subst}
 use mathlib.Core.Logic.{_≢_, _⊎_, inl, inr, _↔_}
-use mathlib.Core.Bool.{Bool, true, false, not}
+use mathlib.Core.Bool.{Bool, true, false, _&&_, not}
 use mathlib.Core.List.{List}
 use native.Mathlib.Omega.{arith}
+use native.Mathlib.Nat.{zero-add}
 use lib.ListN.{length}
 use lib.Dec.{T, eqb, leb, ltb, eqb→eq, leb→le, le→leb}
 use borrow.Author.Tests.{ltb-true, ltb-false}
 use Rattle.names.specs.declared.Sizes.{Sizes}
 use Rattle.names.specs.Sizes.{lastWord}
 use Rattle.rules.specs.Words.{implies, everyBelow, everyRow, row}
-use Rattle.rules.specs.Tables.{Tables, txnWords, lockWords, versionWords, versionRow, lastNumber, clock, txn, live, starts, lock}
+use Rattle.rules.specs.Tables.{Tables, txnWords, lockWords, versionWords, versionRow, lastNumber, clock, txn, live, readers, relaxedIn, lock}
+use Rattle.rules.specs.Versions.{versionsIn, hiddenAt}
 use Rattle.rules.specs.Waits.{noCircle}
 use Rattle.rules.specs.Good.{Good, GoodTxn, GoodLock}
-use Rattle.rules.specs.Tested.{sizesExact, topsMost, txnGood, distinct, lockGood, quotaGood, versionsGood, ranksGood, settledGood, good}
+use Rattle.rules.specs.Tested.{sizesExact, topsMost, txnGood, distinct, lockGood, quotaGood, versionsGood, holdersJoined, ranksGood, settledGood, setsGood, good}
 use Rattle.rules.proofs.Tests.{and-left, and-right, and-both, implies-use, implies-make, ne-make, ne-use, eq-make}
 use Rattle.rules.proofs.Counts.{everyBelow→, →everyBelow}
 use Rattle.rules.proofs.Rows.{everyRow→, →everyRow}
 use Rattle.rules.proofs.EqualRows.{txn→Good, Good→txn, lock→Good, Good→lock, holder, live-number, number-live}
 use Rattle.rules.proofs.EqualRanks.{ranks→Good, Good→ranks}
 use Rattle.rules.proofs.EqualSettled.{settled→Good, Good→settled}
+use Rattle.rules.proofs.EqualSets.{sets→Good, Good→sets, Good→joined}
 use Rattle.rules.proofs.Quotas.{quota→Good, Good→quota}
 use Rattle.rules.proofs.EqualVersions.{versions→Good, Good→versions}
 use Rattle.rules.proofs.Walks.{no-circle→, →no-circle}
@@ -42,8 +45,15 @@ module _ (S : Sizes) (G : Tables) where
   abbrev quotasTest : Bool
   quotasTest = everyBelow (S .slots) (λ s. quotaGood S l s (txn t s))
 
+  -- of the row r of item x
+  abbrev versionTest : List ℕ → Bool
+  versionTest r = versionsGood S (clock t) (readers S t) (relaxedIn S t) r
+
+  abbrev itemTest : ℕ → List ℕ → Bool
+  itemTest x r = versionTest r && holdersJoined S t x (lock l x) (hiddenAt (versionsIn S r) 0)
+
   abbrev versionsTest : Bool
-  versionsTest = everyRow (S .items) (versionRow S) (λ x r. versionsGood S (clock t) (starts S t) r) 0 (G .versions)
+  versionsTest = everyRow (S .items) (versionRow S) itemTest 0 (G .versions)
 
   -- two slots: which of them is the higher
   order : (r s : ℕ) → r ≢ s → (r < s) ⊎ (s < r)
@@ -74,6 +84,7 @@ module _ (S : Sizes) (G : Tables) where
       let h₇ = and-right versionsTest _ h₆ in
       let h₈ = and-right (ranksGood S t l) _ h₇ in
       let h₉ = and-right (settledGood S G) _ h₈ in
+      let h₁₀ = and-right (setsGood S t) _ h₉ in
       let a = and-left (sizesExact S G) _ h in
       let b = and-right (eqb (length t) (txnWords S)) _ a in
       let c = and-left (topsMost t) _ h₁ in
@@ -92,13 +103,16 @@ module _ (S : Sizes) (G : Tables) where
         distinct = λ r s j i d a. pick (and-left (distinct S t) _ h₃) r s j i a (order r s d);
         lockGood = locks;
         quotaGood = λ s i. quota→Good S l s (txn t s) (everyBelow→ (S .slots) (λ s. quotaGood S l s (txn t s)) (and-left quotasTest _ h₅) s i);
-        versionsGood = λ x i. versions→Good S t (row (versionRow S) x (G .versions))
-            (everyRow→ (S .items) (versionRow S) (λ x r. versionsGood S (clock t) (starts S t) r) 0 (G .versions) (and-left versionsTest _ h₆) x i);
+        versionsGood = λ x i. versions→Good S t (row (versionRow S) x (G .versions)) (and-left (versionTest (row (versionRow S) x (G .versions))) _ (items (and-left versionsTest _ h₆) x i));
         ranksGood = ranks→Good S t l (and-left (ranksGood S t l) _ h₇);
         settledGood = settled→Good S G (and-left (settledGood S G) _ h₈);
-        noCircle = no-circle→ S t l size (λ s i. rows s i .itemKnown) (λ x i b h. holder S t (lock l x) (locks x i) b h .0) h₉;
+        setsGood = sets→Good S G locks (and-left (setsGood S t) _ h₉) (λ x i. and-right (versionTest (row (versionRow S) x (G .versions))) _ (items (and-left versionsTest _ h₆) x i));
+        noCircle = no-circle→ S t l size (λ s i. rows s i .itemKnown) (λ x i b h. holder S t (lock l x) (locks x i) b h .0) h₁₀;
       }
     where
+      items : T versionsTest → (x : ℕ) → x < S .items → T (itemTest x (row (versionRow S) x (G .versions)))
+      items k x i = subst (λ (y : ℕ). T (itemTest y (row (versionRow S) x (G .versions)))) (zero-add x) (everyRow→ (S .items) (versionRow S) itemTest 0 (G .versions) k x i)
+
       pick : T (distinct S t) → (r s : ℕ) → r < S .slots → s < S .slots → T (live (txn t s)) → (r < s) ⊎ (s < r) → (txn t r) .number ≢ (txn t s) .number
       pick h r s j i a (inl k) = apart h r s k i a
       pick h r s j i a (inr k) =
@@ -119,10 +133,14 @@ module _ (S : Sizes) (G : Tables) where
       (and-both locksTest _ (→everyBelow (S .items) (λ x. lockGood S t (lock l x)) (λ x i. Good→lock S t (lock l x) (g .lockGood x i)))
       (and-both quotasTest _ (→everyBelow (S .slots) (λ s. quotaGood S l s (txn t s)) (λ s i. Good→quota S l s (txn t s) (g .quotaGood s i)))
       (and-both versionsTest _
-      (→everyRow (S .items) (versionRow S) (λ x r. versionsGood S (clock t) (starts S t) r) 0 (G .versions) (λ x i. Good→versions S t (row (versionRow S) x (G .versions)) (g .versionsGood x i)))
+      (→everyRow (S .items) (versionRow S) itemTest 0 (G .versions)
+      (λ x i.
+      subst (λ (y : ℕ). T (itemTest y (row (versionRow S) x (G .versions)))) (sym (zero-add x))
+      (and-both (versionTest (row (versionRow S) x (G .versions))) _ (Good→versions S t (row (versionRow S) x (G .versions)) (g .versionsGood x i)) (Good→joined S G (g .setsGood) x i))))
       (and-both (ranksGood S t l) _ (Good→ranks S t l (g .ranksGood))
       (and-both (settledGood S G) _ (Good→settled S G (g .settledGood))
-      (→no-circle S t l (g .txnsExact) (λ s i. g .txnGood s i .itemKnown) (λ x i b h. holder S t (lock l x) (g .lockGood x i) b h .0) (g .noCircle))))))))))
+      (and-both (setsGood S t) _ (Good→sets S G (g .setsGood))
+      (→no-circle S t l (g .txnsExact) (λ s i. g .txnGood s i .itemKnown) (λ x i b h. holder S t (lock l x) (g .lockGood x i) b h .0) (g .noCircle)))))))))))
 
 -- the computed test and the document's sentences
 pub good↔Good : (S : Sizes) (G : Tables) → T (good S G) ↔ Good S G

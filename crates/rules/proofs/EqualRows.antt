@@ -1,7 +1,7 @@
 -- The tests of one transaction row and of one lock say what GoodTxn and GoodLock say.
 use Prim.Native.Nat.{ℕ, suc, _^_, _≤_, _<_}
 use mathlib.Core.Path.{_≡_, refl, sym, subst}
-use mathlib.Core.Logic.{_≢_, _⊎_, inl, inr}
+use mathlib.Core.Logic.{_≢_, _⊎_, inl, inr, ⊎-elim}
 use mathlib.Core.Bool.{Bool, _&&_, _||_, not, cond}
 use mathlib.Core.List.{List}
 use native.Mathlib.Omega.{arith}
@@ -9,95 +9,17 @@ use lib.Dec.{T, eqb, leb, ltb, eqb→eq, leb→le, le→leb, ltb→lt, lt→ltb}
 use borrow.Author.Tests.{eq-eqb, ne-eqb}
 use Rattle.names.specs.declared.Sizes.{Sizes}
 use Rattle.names.specs.Sizes.{lastWord}
-use Rattle.rules.specs.Words.{implies, bit}
-use Rattle.rules.specs.Tables.{lastNumber, clock, Txn, txn, noTxn, live, liveUpdate, liveQuery, liveSettled, mayHold, byStart}
-use Rattle.rules.specs.Tables.{anUpdate, aQuery, aSettled, noLock, sharedLock, exclusiveLock, Lock, lock, holdsShared, holdsExclusive, holds}
-use Rattle.rules.specs.Good.{GoodReads, GoodTxn, GoodLock}
-use Rattle.rules.specs.Tested.{allZero, freeZero, listed, startGood, awaitedGood, readsGood, awaiterGood, txnGood, holdersLive, lockGood}
+use Rattle.rules.specs.Words.{implies}
+use Rattle.rules.specs.Tables.{lastNumber, clock, Txn, txn, noTxn, live, liveUpdate, liveSettled, liveRelaxed, mayHold, byStart, isReader}
+use Rattle.rules.specs.Tables.{anUpdate, aQuery, aSettled, aRelaxed, noLock, sharedLock, exclusiveLock, Lock, lock, holdsShared, holdsExclusive, holds}
+use Rattle.rules.specs.Good.{GoodReads, GoodNotes, GoodTxn, GoodLock}
+use Rattle.rules.specs.Tested.{allZero, freeZero, listed, startGood, awaitedGood, readsGood, notesGood, awaiterGood, txnGood, holdersLive, lockGood}
 use Rattle.rules.proofs.Tests.{and-left, and-right, and-both, or-cases, or-left, or-right, implies-use, implies-make}
 use Rattle.rules.proofs.Tests.{not-make, not-use, eq-make, ne-make, ne-use, same?}
 use Rattle.rules.proofs.Counts.{everyBelow→, →everyBelow}
+pub use Rattle.rules.proofs.RowKinds.{free-or-live, live-number, free-number, number-live, update-live, live-update, query-live, live-query}
+pub use Rattle.rules.proofs.RowKinds.{settled-live, live-settled, holder-live, update-holds, settled-holds, reader-live, live-reader, query-reads, settled-reads}
 use Rattle.rules.proofs.Bits.{bit-below, below-bits}
-
--- ---- small things of a row
--- a row is free or live
-pub free-or-live : (r : Txn) → (r .number ≡ 0) ⊎ T (live r)
-unfolding live
-free-or-live r = go (same? (r .number) 0)
-  where
-    go : (r .number ≡ 0) ⊎ (r .number ≢ 0) → (r .number ≡ 0) ⊎ T (not (eqb (r .number) 0))
-    go (inl e) = inl e
-    go (inr d) = inr (ne-make (r .number) 0 d)
-
-pub live-number : (r : Txn) → T (live r) → r .number ≢ 0
-unfolding live
-live-number r h = ne-use (r .number) 0 h
-
-pub free-number : (r : Txn) → (T (live r) → ⊥) → r .number ≡ 0
-free-number r n = go (same? (r .number) 0)
-  where
-    go : (r .number ≡ 0) ⊎ (r .number ≢ 0) → r .number ≡ 0
-    go (inl e) = e
-    go (inr d) = absurd (n (unfold live in (ne-make (r .number) 0 d)))
-
-pub number-live : (r : Txn) → r .number ≢ 0 → T (live r)
-unfolding live
-number-live r d = ne-make (r .number) 0 d
-
-pub update-live : (r : Txn) → T (liveUpdate r) → T (live r) × (r .kind ≡ anUpdate)
-unfolding liveUpdate
-update-live r h = (and-left (live r) _ h, eqb→eq (r .kind) anUpdate (and-right (live r) _ h))
-
-pub live-update : (r : Txn) → T (live r) → r .kind ≡ anUpdate → T (liveUpdate r)
-unfolding liveUpdate
-live-update r h e = and-both (live r) _ h (eq-make (r .kind) anUpdate e)
-
-pub query-live : (r : Txn) → T (liveQuery r) → T (live r) × (r .kind ≡ aQuery)
-unfolding liveQuery
-query-live r h = (and-left (live r) _ h, eqb→eq (r .kind) aQuery (and-right (live r) _ h))
-
-pub live-query : (r : Txn) → T (live r) → r .kind ≡ aQuery → T (liveQuery r)
-unfolding liveQuery
-live-query r h e = and-both (live r) _ h (eq-make (r .kind) aQuery e)
-
-pub settled-live : (r : Txn) → T (liveSettled r) → T (live r) × (r .kind ≡ aSettled)
-unfolding liveSettled
-settled-live r h = (and-left (live r) _ h, eqb→eq (r .kind) aSettled (and-right (live r) _ h))
-
-pub live-settled : (r : Txn) → T (live r) → r .kind ≡ aSettled → T (liveSettled r)
-unfolding liveSettled
-live-settled r h e = and-both (live r) _ h (eq-make (r .kind) aSettled e)
-
--- who may hold is no query, who reads by a start no update that writes
-pub holder-live : (r : Txn) → T (mayHold r) → T (live r) × (r .kind ≢ aQuery)
-unfolding mayHold
-holder-live r h = go (or-cases (liveUpdate r) _ h)
-  where
-    go : T (liveUpdate r) ⊎ T (liveSettled r) → T (live r) × (r .kind ≢ aQuery)
-    go (inl u) = let k = update-live r u in (k .0, λ e. (let z = k .1 in omega arith))
-    go (inr u) = let k = settled-live r u in (k .0, λ e. (let z = k .1 in omega arith))
-
-pub reader-live : (r : Txn) → T (byStart r) → T (live r) × (r .kind ≢ anUpdate)
-unfolding byStart
-reader-live r h = (and-left (live r) _ h, ne-use (r .kind) anUpdate (and-right (live r) _ h))
-
-pub live-reader : (r : Txn) → T (live r) → r .kind ≢ anUpdate → T (byStart r)
-unfolding byStart
-live-reader r h d = and-both (live r) _ h (ne-make (r .kind) anUpdate d)
-
-pub update-holds : (r : Txn) → T (liveUpdate r) → T (mayHold r)
-unfolding mayHold
-update-holds r u = or-left (liveUpdate r) _ u
-
-pub settled-holds : (r : Txn) → T (liveSettled r) → T (mayHold r)
-unfolding mayHold
-settled-holds r u = or-right (liveUpdate r) _ u
-
-pub query-reads : (r : Txn) → T (liveQuery r) → T (byStart r)
-query-reads r u = let k = query-live r u in live-reader r (k .0) (λ e. let z = k .1 in omega arith)
-
-pub settled-reads : (r : Txn) → T (liveSettled r) → T (byStart r)
-settled-reads r u = let k = settled-live r u in live-reader r (k .0) (λ e. let z = k .1 in omega arith)
 
 -- ---- request E8: the read count and the weight sum of a row
 module _ (r : Txn) where
@@ -120,6 +42,27 @@ module _ (r : Txn) where
       (and-both (leb (r .weightSum) lastWord) _ (le→leb (r .weightSum) lastWord (g .sumMost))
       (implies-make (mayHold r) _ (λ h. and-both (eqb (r .readCount) 0) _ (eq-make (r .readCount) 0 (g .updateCount h)) (eq-make (r .weightSum) 0 (g .updateSum h)))))
 
+-- ---- request E11: the items read and the sets joined of a row
+module _ (S : Sizes) (r : Txn) where
+  notes→Good : T (notesGood S r) → GoodNotes S r
+  unfolding notesGood
+  notes→Good a =
+      let a₁ = and-right (ltb (r .itemsRead) (2 ^ S .items)) _ a in
+      let one = implies (not (liveRelaxed r)) (eqb (r .itemsRead) 0) in
+      record {
+        itemsMost = ltb→lt (r .itemsRead) (2 ^ S .items) (and-left (ltb (r .itemsRead) (2 ^ S .items)) _ a);
+        onlyRelaxed = λ n. eqb→eq (r .itemsRead) 0 (implies-use (not (liveRelaxed r)) _ (and-left one _ a₁) (not-make (liveRelaxed r) n));
+        onlyUpdates = λ n. eqb→eq (r .laterFor) 0 (implies-use (not (liveUpdate r)) _ (and-right one _ a₁) (not-make (liveUpdate r) n));
+      }
+
+  Good→notes : GoodNotes S r → T (notesGood S r)
+  unfolding notesGood
+  Good→notes g =
+      and-both (ltb (r .itemsRead) (2 ^ S .items)) _ (lt→ltb (r .itemsRead) (2 ^ S .items) (g .itemsMost))
+      (and-both (implies (not (liveRelaxed r)) (eqb (r .itemsRead) 0)) _
+      (implies-make (not (liveRelaxed r)) _ (λ n. eq-make (r .itemsRead) 0 (g .onlyRelaxed (not-use (liveRelaxed r) n))))
+      (implies-make (not (liveUpdate r)) _ (λ n. eq-make (r .laterFor) 0 (g .onlyUpdates (not-use (liveUpdate r) n)))))
+
 -- ---- a transaction row
 module _ (S : Sizes) (t l : List ℕ) (s : ℕ) (r : Txn) where
   abbrev h : Lock
@@ -136,34 +79,43 @@ module _ (S : Sizes) (t l : List ℕ) (s : ℕ) (r : Txn) where
       let b₂ = and-left (startGood (clock t) r) _ a₃ in
       let b₃ = and-left (awaitedGood S r) _ a₄ in
       let a₅ = and-right (awaitedGood S r) _ a₄ in
-      let b₄ = and-right (readsGood r) _ a₅ in
-      let started = and-right (implies (liveUpdate r) (eqb (r .start) 0)) _ b₂ in
-      let reads = and-left (implies (byStart r) (leb (r .start) (clock t) && eqb (r .awaitedLock) noLock)) _ started in
+      let a₆ = and-right (readsGood r) _ a₅ in
+      let b₄ = and-right (notesGood S r) _ a₆ in
+      let none = implies (liveUpdate r || liveRelaxed r) (eqb (r .start) 0) in
+      let started = and-right none _ b₂ in
+      let most = implies (byStart r) (leb (r .start) (clock t)) in
+      let idle = and-right most _ started in
+      let rests = implies (isReader r) (eqb (r .awaitedLock) noLock) in
       let u = implies (eqb (r .awaitedLock) sharedLock) (not (holds h s)) in
       record {
         free = λ e. zeros e (implies-use (not (live r)) _ (and-left (freeZero r) _ a) (not-make (live r) (λ z. ne-use (r .number) 0 z e)));
         given = leb→le (r .number) (lastNumber t) (and-left (leb (r .number) (lastNumber t)) _ a₁);
-        kindListed = three (r .kind) (leb→le (r .kind) aSettled (and-left (leb (r .kind) aSettled) _ b₁));
-        lockListed = leb→le (r .awaitedLock) exclusiveLock (and-right (leb (r .kind) aSettled) _ b₁);
-        updateStart = λ z. eqb→eq (r .start) 0 (implies-use (liveUpdate r) _ (and-left (implies (liveUpdate r) (eqb (r .start) 0)) _ b₂) z);
-        readerStart = λ z. leb→le (r .start) (clock t) (and-left (leb (r .start) (clock t)) _ (implies-use (byStart r) _ reads z));
-        readerIdle = λ z. eqb→eq (r .awaitedLock) noLock (and-right (leb (r .start) (clock t)) _ (implies-use (byStart r) _ reads z));
-        settledStart = λ z. leb→le 1 (r .start) (implies-use (liveSettled r) _ (and-right (implies (byStart r) (leb (r .start) (clock t) && eqb (r .awaitedLock) noLock)) _ started) z);
+        kindListed = four (r .kind) (leb→le (r .kind) aRelaxed (and-left (leb (r .kind) aRelaxed) _ b₁));
+        lockListed = leb→le (r .awaitedLock) exclusiveLock (and-right (leb (r .kind) aRelaxed) _ b₁);
+        updateStart = λ z. eqb→eq (r .start) 0 (implies-use (liveUpdate r || liveRelaxed r) _ (and-left none _ b₂) (or-left (liveUpdate r) _ z));
+        relaxedStart = λ z. eqb→eq (r .start) 0 (implies-use (liveUpdate r || liveRelaxed r) _ (and-left none _ b₂) (or-right (liveUpdate r) _ z));
+        readerStart = λ z. leb→le (r .start) (clock t) (implies-use (byStart r) _ (and-left most _ started) z);
+        readerIdle = λ z. eqb→eq (r .awaitedLock) noLock (implies-use (isReader r) _ (and-left rests _ idle) z);
+        settledStart = λ z. leb→le 1 (r .start) (implies-use (liveSettled r) _ (and-right rests _ idle) z);
         itemKnown = λ d. ltb→lt (r .awaitedItem) (S .items) (rw (ne-eqb (r .awaitedLock) noLock d) at b₃);
         itemUnused = λ e. eqb→eq (r .awaitedItem) 0 (and-left (eqb (r .awaitedItem) 0) _ (rw (eq-eqb (r .awaitedLock) noLock e) at b₃));
         rankUnused = λ e. eqb→eq (r .rank) 0 (and-right (eqb (r .awaitedItem) 0) _ (rw (eq-eqb (r .awaitedLock) noLock e) at b₃));
         readsGood = reads→Good r (and-left (readsGood r) _ a₅);
+        notesGood = notes→Good S r (and-left (notesGood S r) _ a₆);
         awaitsShared = λ e. not-use (holds h s) (implies-use (eqb (r .awaitedLock) sharedLock) _ (and-left u _ b₄) (eq-make (r .awaitedLock) sharedLock e));
         awaitsExclusive = λ e. not-use (holdsExclusive h s) (implies-use (eqb (r .awaitedLock) exclusiveLock) _ (and-right u _ b₄) (eq-make (r .awaitedLock) exclusiveLock e));
       }
     where
-      three : (k : ℕ) → k ≤ aSettled → (k ≡ anUpdate) ⊎ ((k ≡ aQuery) ⊎ (k ≡ aSettled))
-      three k b = go (same? k anUpdate) (same? k aQuery)
+      four : (k : ℕ) → k ≤ aRelaxed → (k ≡ anUpdate) ⊎ ((k ≡ aQuery) ⊎ ((k ≡ aSettled) ⊎ (k ≡ aRelaxed)))
+      four k b = go (same? k anUpdate) (same? k aQuery) (same? k aSettled)
         where
-          go : (k ≡ anUpdate) ⊎ (k ≢ anUpdate) → (k ≡ aQuery) ⊎ (k ≢ aQuery) → (k ≡ anUpdate) ⊎ ((k ≡ aQuery) ⊎ (k ≡ aSettled))
-          go (inl e) z = inl e
-          go (inr d) (inl e) = inr (inl e)
-          go (inr d) (inr f) = inr (inr (omega arith))
+          go :
+              (k ≡ anUpdate) ⊎ (k ≢ anUpdate) → (k ≡ aQuery) ⊎ (k ≢ aQuery) → (k ≡ aSettled) ⊎ (k ≢ aSettled)
+              → (k ≡ anUpdate) ⊎ ((k ≡ aQuery) ⊎ ((k ≡ aSettled) ⊎ (k ≡ aRelaxed)))
+          go (inl e) z y = inl e
+          go (inr d) (inl e) y = inr (inl e)
+          go (inr d) (inr f) (inl e) = inr (inr (inl e))
+          go (inr d) (inr f) (inr e) = inr (inr (inr (omega arith)))
 
       zeros : r .number ≡ 0 → T (allZero r) → r ≡ noTxn
       zeros e z =
@@ -178,8 +130,12 @@ module _ (S : Sizes) (t l : List ℕ) (s : ℕ) (r : Txn) where
           let p = eqb→eq (r .rank) 0 (and-left (eqb (r .rank) 0) _ z₄) in
           let z₅ = and-right (eqb (r .rank) 0) _ z₄ in
           let n = eqb→eq (r .readCount) 0 (and-left (eqb (r .readCount) 0) _ z₅) in
-          let w = eqb→eq (r .weightSum) 0 (and-right (eqb (r .readCount) 0) _ z₅) in
-          λ i. record { number = e i; kind = k i; start = q i; awaitedLock = a i; awaitedItem = x i; rank = p i; readCount = n i; weightSum = w i }
+          let z₆ = and-right (eqb (r .readCount) 0) _ z₅ in
+          let w = eqb→eq (r .weightSum) 0 (and-left (eqb (r .weightSum) 0) _ z₆) in
+          let z₇ = and-right (eqb (r .weightSum) 0) _ z₆ in
+          let y = eqb→eq (r .itemsRead) 0 (and-left (eqb (r .itemsRead) 0) _ z₇) in
+          let m = eqb→eq (r .laterFor) 0 (and-right (eqb (r .itemsRead) 0) _ z₇) in
+          λ i. record { number = e i; kind = k i; start = q i; awaitedLock = a i; awaitedItem = x i; rank = p i; readCount = n i; weightSum = w i; itemsRead = y i; laterFor = m i }
 
   pub Good→txn : GoodTxn S t l s r → T (txnGood S t l s r)
   unfolding txnGood freeZero allZero listed startGood awaitedGood awaiterGood live
@@ -187,23 +143,27 @@ module _ (S : Sizes) (t l : List ℕ) (s : ℕ) (r : Txn) where
       and-both (freeZero r) _ free
       (and-both (leb (r .number) (lastNumber t)) _ (le→leb (r .number) (lastNumber t) (g .given))
       (and-both (listed r) _
-      (and-both (leb (r .kind) aSettled) _ (le→leb (r .kind) aSettled (kinds (g .kindListed))) (le→leb (r .awaitedLock) exclusiveLock (g .lockListed)))
+      (and-both (leb (r .kind) aRelaxed) _ (le→leb (r .kind) aRelaxed (kinds (g .kindListed))) (le→leb (r .awaitedLock) exclusiveLock (g .lockListed)))
       (and-both (startGood (clock t) r) _
-      (and-both (implies (liveUpdate r) (eqb (r .start) 0)) _
-      (implies-make (liveUpdate r) _ (λ z. eq-make (r .start) 0 (g .updateStart z)))
-      (and-both (implies (byStart r) (leb (r .start) (clock t) && eqb (r .awaitedLock) noLock)) _
-      (implies-make (byStart r) _ (λ z. and-both (leb (r .start) (clock t)) _ (le→leb (r .start) (clock t) (g .readerStart z)) (eq-make (r .awaitedLock) noLock (g .readerIdle z))))
-      (implies-make (liveSettled r) _ (λ z. le→leb 1 (r .start) (g .settledStart z)))))
+      (and-both (implies (liveUpdate r || liveRelaxed r) (eqb (r .start) 0)) _
+      (implies-make (liveUpdate r || liveRelaxed r) _ (λ z. eq-make (r .start) 0 (⊎-elim (g .updateStart) (g .relaxedStart) (or-cases (liveUpdate r) _ z))))
+      (and-both (implies (byStart r) (leb (r .start) (clock t))) _
+      (implies-make (byStart r) _ (λ z. le→leb (r .start) (clock t) (g .readerStart z)))
+      (and-both (implies (isReader r) (eqb (r .awaitedLock) noLock)) _
+      (implies-make (isReader r) _ (λ z. eq-make (r .awaitedLock) noLock (g .readerIdle z)))
+      (implies-make (liveSettled r) _ (λ z. le→leb 1 (r .start) (g .settledStart z))))))
       (and-both (awaitedGood S r) _ (awaited (same? (r .awaitedLock) noLock))
       (and-both (readsGood r) _ (Good→reads r (g .readsGood))
+      (and-both (notesGood S r) _ (Good→notes S r (g .notesGood))
       (and-both (implies (eqb (r .awaitedLock) sharedLock) (not (holds h s))) _
       (implies-make (eqb (r .awaitedLock) sharedLock) _ (λ z. not-make (holds h s) (g .awaitsShared (eqb→eq (r .awaitedLock) sharedLock z))))
-      (implies-make (eqb (r .awaitedLock) exclusiveLock) _ (λ z. not-make (holdsExclusive h s) (g .awaitsExclusive (eqb→eq (r .awaitedLock) exclusiveLock z))))))))))
+      (implies-make (eqb (r .awaitedLock) exclusiveLock) _ (λ z. not-make (holdsExclusive h s) (g .awaitsExclusive (eqb→eq (r .awaitedLock) exclusiveLock z)))))))))))
     where
-      kinds : (r .kind ≡ anUpdate) ⊎ ((r .kind ≡ aQuery) ⊎ (r .kind ≡ aSettled)) → r .kind ≤ aSettled
+      kinds : (r .kind ≡ anUpdate) ⊎ ((r .kind ≡ aQuery) ⊎ ((r .kind ≡ aSettled) ⊎ (r .kind ≡ aRelaxed))) → r .kind ≤ aRelaxed
       kinds (inl e) = omega arith
       kinds (inr (inl e)) = omega arith
-      kinds (inr (inr e)) = omega arith
+      kinds (inr (inr (inl e))) = omega arith
+      kinds (inr (inr (inr e))) = omega arith
 
       free : T (implies (not (not (eqb (r .number) 0))) (allZero r))
       free = implies-make (not (not (eqb (r .number) 0))) _ (λ z. go (same? (r .number) 0) z)

@@ -1,26 +1,26 @@
 -- Fresh tables are good.
 use Prim.Native.Nat.{ℕ, zero, suc, _+_, _*_, _≤_, _<_}
 use mathlib.Core.Path.{_≡_, refl, sym, ap, _∙_, subst}
-use mathlib.Core.Logic.{_⊎_, inl, inr}
+use mathlib.Core.Logic.{inl, ⊎-elim}
 use mathlib.Core.Bool.{Bool, true, false}
 use mathlib.Core.List.{List, _∷_}
 use native.Mathlib.Omega.{arith}
 use native.Mathlib.Nat.{not-suc-le-zero}
 use lib.ListN.{length, getD, take, drop, replicate, length-replicate, length-drop, length-take, List·getD-eq-default}
 use lib.Seq.{getD-drop, getD-take}
-use lib.Dec.{T, eqb, ltb, eqb·zero-suc}
+use lib.Dec.{T, ltb, eqb·zero-suc}
 use borrow.Author.Tests.{ltb-true, ltb-false}
 use Rattle.names.specs.declared.Sizes.{Sizes}
 use Rattle.rules.specs.Words.{row, bit}
-use Rattle.rules.specs.Tables.{withCounts, txnAt, txnWords, lockWords, lockRow, versionWords, versionRow, Txn, txn, noTxn, live, liveSettled, byStart}
+use Rattle.rules.specs.Tables.{withCounts, txnAt, txnWords, lockWords, lockRow, versionWords, versionRow, masksAt, Txn, txn, noTxn, live, liveSettled, isReader}
 use Rattle.rules.specs.Tables.{Lock, lock, holds, holdsShared, holdsExclusive, fresh}
-use Rattle.rules.specs.Versions.{versionsIn, pairs, stampAt}
+use Rattle.rules.specs.Versions.{versionsIn, versionsFrom, stampAt, hiddenAt}
 use Rattle.rules.specs.Waits.{awaits, waitsFor, Walk, one, more}
 use Rattle.rules.specs.Good.{Good, GoodTxn, GoodLock, GoodQuota, GoodVersions}
 use Rattle.rules.proofs.Tests.{or-cases, false-is}
 use Rattle.rules.proofs.Bits.{bit-none}
 use Rattle.rules.proofs.Rows.{length-mapRows, row-mapRows}
-use Rattle.rules.proofs.EqualRows.{live-number, settled-live, reader-live}
+use Rattle.rules.proofs.RowKinds.{live-number, settled-live, reader-live}
 use Rattle.rules.proofs.Quotas.{free-quota}
 use Rattle.rules.proofs.Carried.{free-row}
 use Rattle.rules.proofs.EqualRanks.{awaits→, awaitsOn→}
@@ -84,12 +84,14 @@ module _ (S : Sizes) (room : 1 ≤ S .places) where
         rank = zeros n (txnAt s + 5) i;
         readCount = zeros n (txnAt s + 6) i;
         weightSum = zeros n (txnAt s + 7) i;
+        itemsRead = zeros n (txnAt s + 8) i;
+        laterFor = zeros n (txnAt s + 9) i;
       }
 
   not-live : (s : ℕ) → T (live (txn ((fresh S) .txns) s)) → ⊥
   not-live s h = live-number (txn ((fresh S) .txns) s) h (ap (λ (r : Txn). r .number) (txn-free s))
 
-  not-reader : (s : ℕ) → T (byStart (txn ((fresh S) .txns) s)) → ⊥
+  not-reader : (s : ℕ) → T (isReader (txn ((fresh S) .txns) s)) → ⊥
   not-reader s h = not-live s (reader-live (txn ((fresh S) .txns) s) h .0)
 
   not-settled : (s : ℕ) → T (liveSettled (txn ((fresh S) .txns) s)) → ⊥
@@ -111,23 +113,39 @@ module _ (S : Sizes) (room : 1 ≤ S .places) where
         noWorking = λ e. refl;
       }
 
+  no-holder : (x s : ℕ) → T (holds (lock ((fresh S) .locks) x) s) → ⊥
+  unfolding holds holdsShared holdsExclusive
+  no-holder x s h =
+      ⊎-elim (λ k. false-is (bit-none s) k) (λ k. false-is (eqb·zero-suc s) k)
+      (or-cases (bit 0 s) _ (subst (λ (o : Lock). T (holds o s)) (lock-free x) h))
+
   -- a row of words that are zero behind its count of 1
-  first-row : (ws : List ℕ) → ((j : ℕ) → getD ws j 0 ≡ 0) → GoodVersions S ((fresh S) .txns) (1 ∷ ws)
-  unfolding versionsIn pairs stampAt
-  first-row ws z =
-      record {
-        countLeast = omega arith;
-        countMost = room;
-        unused = behind;
-        fall = λ i j l h. absurd (omega arith);
-        first = let a = z 0 in omega arith;
-        last = λ s i q. absurd (not-reader s q);
-        reads = λ k p. (λ h. absurd (omega arith), λ m. absurd (not-reader (m .0) (m .2)));
-      }
-    where
-      behind : (k : ℕ) → 2 * 1 < k → getD (1 ∷ ws) k 0 ≡ 0
-      behind zero l = absurd (not-suc-le-zero l)
-      behind (suc k) l = z k
+  module _ (ws : List ℕ) (z : (j : ℕ) → getD ws j 0 ≡ 0) where
+    behind : (k : ℕ) → 0 < k → getD (1 ∷ ws) k 0 ≡ 0
+    behind zero l = absurd (not-suc-le-zero l)
+    behind (suc k) l = z k
+
+    -- its one version is hidden from nobody
+    shown : (k : ℕ) → hiddenAt (versionsIn S (1 ∷ ws)) k ≡ 0
+    unfolding versionsIn versionsFrom hiddenAt
+    shown zero = getD-drop (masksAt S) (1 ∷ ws) 0 0 ∙ behind (masksAt S + 0) (omega arith)
+    shown (suc k) = refl
+
+    first-row : GoodVersions S ((fresh S) .txns) (1 ∷ ws)
+    unfolding versionsIn versionsFrom stampAt
+    first-row =
+        record {
+          countLeast = omega arith;
+          countMost = room;
+          unused = λ k l m. behind k (omega arith);
+          unhidden = λ k l. behind (masksAt S + k) (omega arith);
+          fall = λ i j l h. absurd (omega arith);
+          nest = λ i j l h. absurd (omega arith);
+          fromRelaxed = λ k q b. absurd (false-is (bit-none q) (subst (λ (m : ℕ). T (bit m q)) (shown k) b));
+          first = let a = z 0 in omega arith;
+          last = λ s i q. absurd (not-reader s q);
+          reads = λ k p. (λ h. absurd (omega arith), λ m. absurd (not-reader (m .0) (m .2)));
+        }
 
   -- nobody waits
   no-wait : (s : ℕ) → T (awaits (txn ((fresh S) .txns) s)) → ⊥
@@ -162,5 +180,12 @@ module _ (S : Sizes) (room : 1 ≤ S .places) where
               exchangers = λ x r s i j a b c n. absurd (no-wait r (awaitsOn→ x (txn ((fresh S) .txns) r) a .0));
             };
         settledGood = record { apart = λ r s i j d a b. absurd (not-settled r a); above = λ s x i j a b. absurd (not-settled s a) };
+        setsGood =
+            record {
+              apart = λ r s i j a b. not-settled r a;
+              ofRelaxed = λ s q i b. absurd (false-is (bit-none q) (subst (λ (r : Txn). T (bit (r .laterFor) q)) (txn-free s) b));
+              holdsRead = λ x s q i j e b. absurd (false-is (bit-none x) (subst (λ (r : Txn). T (bit (r .itemsRead) x)) (txn-free q) b));
+              holdsHidden = λ x s q i h b. absurd (no-holder x s h);
+            };
         noCircle = λ a w. no-walk w;
       }

@@ -11,19 +11,20 @@ use Rattle.rules.specs.Words.{bit, withBit, withoutBit}
 use Rattle.rules.specs.Tables.{Tables, tables, Txn, txn, withRank, liveUpdate, liveSettled, noLock, Lock, lock, setLock, holdsShared, holdsExclusive, holds, exclusivesOf}
 use Rattle.rules.specs.Waits.{awaits, conflicts, waitsFor}
 use Rattle.rules.specs.Changed.{leaving}
-use Rattle.rules.specs.Good.{Good, GoodTxn, GoodLock, GoodQuota}
+use Rattle.rules.specs.Versions.{hiddenNow}
+use Rattle.rules.specs.Good.{Good, GoodTxn, GoodLock, GoodQuota, GoodSets}
 use Rattle.rules.specs.Step.{withTxns, cleared, locked, sharedToo, taken, replaced}
 use Rattle.rules.proofs.Tests.{and-left, and-right, and-both, or-cases, or-left, or-right, same?, is-false, true-is, false-is, iff-eq}
 use Rattle.rules.proofs.Bits.{withBit-there, withoutBit-here, withoutBit-there, no-bits}
 use Rattle.rules.proofs.Views.{lock-setLock, lock-setLock-other, length-setLock}
-use Rattle.rules.proofs.Carried.{NoMore, no-more-same, txn-carried, lock-carried, settled-carried}
+use Rattle.rules.proofs.Carried.{NoMore, no-more-holds, no-more-same, txn-carried, lock-carried, settled-carried}
 use Rattle.rules.proofs.Quotas.{exclusives-fewer, exclusives-one-more, quota-carried}
 use Rattle.rules.proofs.EqualRows.{update-live, settled-live, update-holds}
 use Rattle.rules.proofs.EqualRanks.{awaits→}
 use Rattle.rules.proofs.Lines.{same-leaving, left-ranks, left-links}
 use Rattle.rules.proofs.Walks.{waits-for→}
 use Rattle.rules.proofs.Deadlock.{grant-no-circle}
-use Rattle.rules.proofs.Waited.{cleared-good, cleared-here, cleared-update, cleared-holder}
+use Rattle.rules.proofs.Waited.{cleared-good, cleared-here, cleared-keeps, cleared-update, cleared-holder}
 
 -- who holds no more conflicts with no more
 pub conflicts-fewer : (k b : ℕ) (h h′ : Lock) → NoMore b h h′ → T (conflicts h′ k b) → T (conflicts h k b)
@@ -40,13 +41,27 @@ conflicts-fewer k b h h′ n a = go (or-cases (holdsExclusive h′ b) (eqb k 2 &
 abbrev pub Room : Sizes → List ℕ → ℕ → ℕ → Type 0
 Room S l s x = T (holdsExclusive (lock l x) s) ⊎ (exclusivesOf S l s ≢ S .quota)
 
+-- request E11: slot s, which holds h′ of the item x, is in the sets in which this has it
+pub record InSets (S : Sizes) (G : Tables) (s x : ℕ) (h′ : Lock) : Type 0 where
+  pub hidden : T (holds h′ s) → (q : ℕ) → T (bit (hiddenNow S (G .versions) x) q) → T (bit ((txn (G .txns) s) .laterFor) q)
+  pub read : T (holdsExclusive h′ s) → (q : ℕ) → q < S .slots → T (bit ((txn (G .txns) q) .itemsRead) x) → T (bit ((txn (G .txns) s) .laterFor) q)
+
+-- it is if it holds no more than it did
+pub in-sets : (S : Sizes) (G : Tables) → Good S G → (s x : ℕ) → x < S .items → (h′ : Lock) → NoMore s (lock (G .locks) x) h′ → InSets S G s x h′
+in-sets S G g s x i h′ n =
+    record {
+      hidden = λ h q b. g .setsGood .holdsHidden x s q i (no-more-holds s _ _ n h) b;
+      read = λ h q j b. g .setsGood .holdsRead x s q i j (n .exclusive h) b;
+    }
+
 -- ---- the lock of item x becomes h′; slot s awaits nothing, and has room where it holds the item exclusively now and did not before, which
--- it does not past its writing; the other slots hold no more of it than before, and share it as before
+-- it does not past its writing, and is in the sets that this asks for; the other slots hold no more of it than before, and share it as before
 module _ (S : Sizes) (G : Tables) (g : Good S G) (s x : ℕ) (known : x < S .items) (idle : (txn (G .txns) s) .awaitedLock ≡ noLock)
     (h′ : Lock) (good′ : GoodLock S (G .txns) h′) (others : (r : ℕ) → r ≢ s → NoMore r (lock (G .locks) x) h′)
     (keeps : (r : ℕ) → r ≢ s → T (holdsShared (lock (G .locks) x) r) → T (holdsShared h′ r)) (holder-inside : s < S .slots)
     (room : T (holdsExclusive h′ s) → Room S (G .locks) s x)
-    (past : T (liveSettled (txn (G .txns) s)) → T (holdsExclusive h′ s) → T (holdsExclusive (lock (G .locks) x) s)) where
+    (past : T (liveSettled (txn (G .txns) s)) → T (holdsExclusive h′ s) → T (holdsExclusive (lock (G .locks) x) s))
+    (sets : InSets S G s x h′) where
   abbrev t : List ℕ
   t = G .txns
 
@@ -148,9 +163,41 @@ module _ (S : Sizes) (G : Tables) (g : Good S G) (s x : ℕ) (known : x < S .ite
         versionsGood = g .versionsGood;
         ranksGood = left-ranks S t t l s holder-inside stay no-wait (g .ranksGood) l′ shares;
         settledGood = settled-carried S G (tables t l′ (G .versions)) (λ r i h. (h, refl)) (λ r y i j a h. (settled r y a h (same? r s) (same? y x), refl)) (g .settledGood);
+        setsGood = joins;
         noCircle = grant-no-circle S G g s t l′ (λ b h. waits-for→ t l′ s b h .0 idle) links;
       }
     where
+      joins : GoodSets S (tables t l′ (G .versions))
+      joins =
+          record {
+            apart = g .setsGood .apart;
+            ofRelaxed = g .setsGood .ofRelaxed;
+            holdsRead = λ y r q i j e b. read y r q i j e b (same? r s) (same? y x);
+            holdsHidden = λ y r q i h b. hidden y r q i h b (same? r s) (same? y x);
+          }
+        where
+          read :
+              (y r q : ℕ) → y < S .items → q < S .slots → T (holdsExclusive (lock l′ y) r) → T (bit ((txn t q) .itemsRead) y)
+              → (r ≡ s) ⊎ (r ≢ s) → (y ≡ x) ⊎ (y ≢ x) → T (bit ((txn t r) .laterFor) q)
+          read y r q i j e b (inr d) z = g .setsGood .holdsRead y r q i j (fewer r d y .exclusive e) b
+          read y r q i j e b (inl d) (inr n) = g .setsGood .holdsRead y r q i j (subst (λ (o : Lock). T (holdsExclusive o r)) (there y n) e) b
+          read y r q i j e b (inl d) (inl z) =
+              subst (λ (m : ℕ). T (bit ((txn t m) .laterFor) q)) (sym d)
+              (sets .read
+              (subst (λ (m : ℕ). T (holdsExclusive h′ m)) d (subst (λ (o : Lock). T (holdsExclusive o r)) (ap (lock l′) z ∙ here) e)) q j
+              (subst (λ (u : ℕ). T (bit ((txn t q) .itemsRead) u)) z b))
+
+          hidden :
+              (y r q : ℕ) → y < S .items → T (holds (lock l′ y) r) → T (bit (hiddenNow S (G .versions) y) q)
+              → (r ≡ s) ⊎ (r ≢ s) → (y ≡ x) ⊎ (y ≢ x) → T (bit ((txn t r) .laterFor) q)
+          hidden y r q i h b (inr d) z = g .setsGood .holdsHidden y r q i (no-more-holds r _ _ (fewer r d y) h) b
+          hidden y r q i h b (inl d) (inr n) = g .setsGood .holdsHidden y r q i (subst (λ (o : Lock). T (holds o r)) (there y n) h) b
+          hidden y r q i h b (inl d) (inl z) =
+              subst (λ (m : ℕ). T (bit ((txn t m) .laterFor) q)) (sym d)
+              (sets .hidden
+              (subst (λ (m : ℕ). T (holds h′ m)) d (subst (λ (o : Lock). T (holds o r)) (ap (lock l′) z ∙ here) h)) q
+              (subst (λ (u : ℕ). T (bit (hiddenNow S (G .versions) u) q)) z b))
+
       settled : (r y : ℕ) → T (liveSettled (txn t r)) → T (holdsExclusive (lock l′ y) r) → (r ≡ s) ⊎ (r ≢ s) → (y ≡ x) ⊎ (y ≢ x) → T (holdsExclusive (lock l y) r)
       settled r y a h (inr d) e = fewer r d y .exclusive h
       settled r y a h (inl d) (inr e) = subst (λ (o : Lock). T (holdsExclusive o r)) (there y e) h
@@ -240,12 +287,21 @@ pub locked-good :
     (S : Sizes) (G : Tables) → Good S G → (s x : ℕ) → s < S .slots → T (liveUpdate (txn (G .txns) s)) → x < S .items → (h′ : Lock)
     → GoodLock S (G .txns) h′ → ((r : ℕ) → r ≢ s → NoMore r (lock (G .locks) x) h′)
     → ((r : ℕ) → r ≢ s → T (holdsShared (lock (G .locks) x) r) → T (holdsShared h′ r)) → (T (holdsExclusive h′ s) → Room S (G .locks) s x)
-    → Good S (locked S s x h′ G)
+    → InSets S G s x h′ → Good S (locked S s x h′ G)
 unfolding locked
-locked-good S G g s x inside update known h′ good′ others keeps room =
+locked-good S G g s x inside update known h′ good′ others keeps room sets =
     relocked-good S (withTxns G (cleared S (G .txns) s)) (cleared-good S G g s inside update) s x known
     (ap (λ (w : Txn). w .awaitedLock) (cleared-here S (G .txns) (g .txnsExact) s inside)) h′
     (lock-carried S (G .txns) (cleared S (G .txns) s) h′ (λ r a u. subst T (sym (cleared-update S (G .txns) (g .txnsExact) s inside r (good′ .sharers r a .0))) u)
     (λ r a u. subst T (sym (cleared-holder S (G .txns) (g .txnsExact) s inside r (good′ .excluders r a .0))) u) good′)
     others keeps inside room
     (λ a b. absurd (let k = settled-live _ a .1 in let m = update-live _ (subst T (sym (cleared-update S (G .txns) (g .txnsExact) s inside s inside)) update) .1 in omega arith))
+    (record {
+      hidden = λ h q b. subst (λ (w : ℕ). T (bit w q)) (sym (later s inside)) (sets .hidden h q b);
+      read = λ h q j b.
+          subst (λ (w : ℕ). T (bit w q)) (sym (later s inside))
+          (sets .read h q j (subst (λ (w : ℕ). T (bit w x)) (cleared-keeps S (G .txns) (g .txnsExact) s inside (λ (r : Txn). r .itemsRead) (λ r k x p. refl) (λ r p. refl) q j) b));
+    })
+  where
+    later : (r : ℕ) → r < S .slots → (txn (cleared S (G .txns) s) r) .laterFor ≡ (txn (G .txns) r) .laterFor
+    later = cleared-keeps S (G .txns) (g .txnsExact) s inside (λ (r : Txn). r .laterFor) (λ r k x p. refl) (λ r p. refl)

@@ -1,23 +1,21 @@
 -- Who comes last stands last: one whose wait is noted, and who does not share the item, stands behind all who waited there.
 use Prim.Native.Nat.{ℕ, suc, _+_, _≤_, _<_}
-use mathlib.Core.Path.{_≡_, refl, sym, ap, _∙_, subst}
-use mathlib.Core.Logic.{_≢_, _⊎_, inl, inr}
+use mathlib.Core.Path.{_≡_, refl, _∙_, subst}
+use mathlib.Core.Logic.{_⊎_, inl, inr}
 use mathlib.Core.Bool.{Bool, true, false, _&&_, cond}
-use mathlib.Core.List.{List}
 use native.Mathlib.Omega.{arith}
 use lib.ListN.{getD}
 use lib.Dec.{T, leb}
 use borrow.Author.Tests.{lt-leb}
 use Rattle.names.specs.declared.Sizes.{Sizes}
 use Rattle.names.specs.Layout.{txnRankAt}
-use Rattle.rules.specs.Tables.{Tables, txnAt, Txn, txn, byStart, lock, holdsShared}
+use Rattle.rules.specs.Tables.{txnAt, Txn, txn, byStart}
 use Rattle.rules.specs.Waits.{awaitsOn, waitersOn, rankFor, raised}
 use Rattle.rules.specs.Good.{Good}
-use Rattle.rules.specs.Answers.{Call, code, Wait}
-use Rattle.rules.specs.Conditions.{CallerIn, Wants}
-use Rattle.rules.specs.Promises.{codeOf, after, coming, Noted, NewcomerLast}
+use Rattle.rules.specs.Conditions.{CallerIn}
+use Rattle.rules.specs.Promises.{after, coming, Noted, NewcomerLast}
 use Rattle.rules.proofs.Tests.{is-false}
-use Rattle.rules.proofs.EqualRows.{update-live, reader-live}
+use Rattle.rules.proofs.RowKinds.{update-no-reader, start-reads}
 use Rattle.rules.proofs.EqualRanks.{awaitsOn→}
 use Rattle.rules.proofs.Noting.{rank-last}
 use Rattle.rules.proofs.Refused.{wait-good, wait-words}
@@ -44,7 +42,7 @@ newcomer-last S c G s k x r e C up w new alone i d h = go (wait-words S c G e)
         → (txn ((after S c G) .txns) r) .rank < (txn ((after S c G) .txns) s) .rank
     go (inr z) =
         let q = one-caller S G g c (z .0 .0) s (z .0 .1) C in
-        absurd (reader-live (txn (G .txns) s) (subst (λ (j : ℕ). T (byStart (txn (G .txns) j))) q (z .0 .2)) .1 (update-live (txn (G .txns) s) up .1))
+        absurd (update-no-reader (txn (G .txns) s) up (start-reads (txn (G .txns) s) (subst (λ (j : ℕ). T (byStart (txn (G .txns) j))) q (z .0 .2))))
     go (inl N) =
         let q : N .slot ≡ s = one-caller S G g c (N .slot) s (N .caller) C in
         let y : N .item ≡ x = one-want c (N .lockKind) k (N .item) x (N .wants) w .1 in

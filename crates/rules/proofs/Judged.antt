@@ -9,27 +9,28 @@ use native.Mathlib.Omega.{arith}
 use lib.Dec.{T, eqb}
 use borrow.Author.Tests.{eqb-true, eqb-false, leb-false, not-false}
 use Rattle.names.specs.declared.Sizes.{Sizes}
-use Rattle.names.specs.Sizes.{firstStamp, lastWord}
-use Rattle.rules.specs.Tables.{Tables, clock, txn, noLock, sharedLock, exclusiveLock, anUpdate, aQuery, aSettled}
-use Rattle.rules.specs.Tables.{liveUpdate, liveQuery, liveSettled, byStart, Lock, lock, holds, holdsShared, holdsExclusive, exclusivesOf, slotOf}
+use Rattle.names.specs.Sizes.{lastWord}
+use Rattle.rules.specs.Tables.{Tables, clock, txn, noLock, sharedLock, exclusiveLock, anUpdate, aSettled, queryKind, someRelaxed}
+use Rattle.rules.specs.Tables.{liveUpdate, liveSettled, liveRelaxed, anyQuery, isReader, Lock, lock, holds, holdsShared, holdsExclusive, exclusivesOf, slotOf}
 use Rattle.rules.specs.Good.{Good}
 use Rattle.rules.specs.Locks.{toRead, toWrite, Cell, heldBy, decide, decision}
-use Rattle.rules.specs.Answers.{Call, BeginUpdate, BeginQuery, Read, Write, Commit, Abort, Settle, granted, code}
+use Rattle.rules.specs.Answers.{Call, BeginUpdate, BeginQuery, Read, Write, Commit, Abort, Settle, BeginRelaxed, granted, code}
 use Rattle.rules.specs.Answers.{Wait, Deadlock, UnknownTransaction, UnknownItem, QueryMayNotWrite, StillWaiting}
-use Rattle.rules.specs.Answers.{ClockSpent, BadTables, QuotaSpent, PastWriting, Deed, Replaces, asSlot, asItem}
-use Rattle.rules.specs.Step.{judged, done, readBy, writeBy, commitUpdate, commitBy, abortBy, settleBy, access, cellDeed, awaitsOther, holdsBack, heldBack, startRead, writesPast, writesFurther, queryRead}
+use Rattle.rules.specs.Answers.{ClockSpent, BadTables, QuotaSpent, PastWriting, KeptApart, Deed, Replaces, asSlot, asItem}
+use Rattle.rules.specs.Step.{judged, done, readBy, writeBy, commitUpdate, commitBy, abortBy, settleBy, access, cellDeed, awaitsOther, holdsBack, heldBack, startRead, writesPast, writesFurther, versionRead}
 use Rattle.rules.specs.Conditions.{IsSettle, CallerIn, NeedsLock, ConflictIn, HeldBackIn, When, thenTested, order}
 use Rattle.rules.proofs.Tests.{and-both, or-left, or-right, is-true, true-is, false-is, not-make, ne-make, ne-use}
 use Rattle.rules.proofs.Counts.{someBelow→, →someBelow}
-use Rattle.rules.proofs.EqualRows.{update-live, reader-live, query-reads, settled-reads}
+use Rattle.rules.proofs.RowKinds.{update-live, settled-reads, any-query-reads, update-no-reader}
+use Rattle.rules.proofs.EqualSets.{some-relaxed, relaxed-some}
 use Rattle.rules.proofs.Quotas.{has-room}
 use Rattle.rules.proofs.Steps.{cond-case}
-use Rattle.rules.proofs.Callers.{caller-in, is-query, is-update, is-writer, is-reader, is-settled, query-kind, settled-kind, reader-holds}
+use Rattle.rules.proofs.Callers.{caller-in, is-query, is-update, is-writer, is-reader, is-settled, any-query-kind, settled-kind, reader-holds, held-by-start}
 use Rattle.rules.proofs.Decisions.{wanted-lock, never-both, none-excludes, none-holds, blockedFor}
 use Rattle.rules.proofs.Decisions.{CellIs, ownCell, newestCell, shareCell, replaceCell, exchangeCell, excludeCell, readConflict, writeConflict, cell}
-use Rattle.rules.proofs.Ways.{Updater, Way, waited, beganUpdate, beganQuery, readOwn, readNewest, readShared, readSettled, readByStart}
+use Rattle.rules.proofs.Ways.{Updater, Way, waited, readOwn, readNewest, readShared, readSettled, readVersion}
 use Rattle.rules.proofs.Ways.{wroteOwn, wroteSettled, wroteTaken, committedUpdate, committedEmpty, committedSettled, committedQuery, abortedUpdate, abortedSettled, abortedQuery, settledUpdate}
-use Rattle.rules.proofs.Testing.{Goes, tests, skips, grants, begins, unblocked, held-back, here, names-tests, at-caller, no-clock}
+use Rattle.rules.proofs.Testing.{Goes, tests, skips, grants, begins-update, begins-query, begins-relaxed, unblocked, held-back, here, names-tests, at-caller, no-clock}
 use Rattle.rules.proofs.Testing.{items-tests, waits-tests, past-tests, quota-tests, free, conflicting}
 
 -- the calls that are no settles
@@ -49,10 +50,14 @@ replaces S G s x v h = rw (is-true (holdsExclusive (lock (G .locks) x) s) h)
 
 -- ---- each call on good tables
 module _ (S : Sizes) (G : Tables) (g : Good S G) where
+  -- the test of a query's kind
+  no-query : (i : ℕ) → queryKind ((txn (G .txns) i) .kind) ≡ false → T (anyQuery (txn (G .txns) i)) → ⊥
+  no-query i q w = false-is q (true-is (any-query-kind (G .txns) i w))
+
   reads :
       (n x : ℕ) → Goes S (Read n x) G
       (UnknownTransaction ∷ UnknownItem ∷ QueryMayNotWrite ∷ StillWaiting ∷ PastWriting ∷ QuotaSpent ∷ Deadlock ∷ Wait ∷ []) (readBy S n x G)
-  unfolding readBy startRead heldBack When done queryRead
+  unfolding readBy startRead heldBack When done versionRead
   reads n x =
       names-tests S G g c n refl only _ _ (λ e. let C = here S G g c n refl only e in
       items-tests S G g c n refl only toRead x (refl, refl) asks _ _ (λ f.
@@ -80,15 +85,14 @@ module _ (S : Sizes) (G : Tables) (g : Good S G) where
       no-write (inl w) = let q = w .1 .0 in omega arith
       no-write (inr w) = read-no-settle w
 
-      -- who reads by a start is in no conflict
-      no-update : T (byStart (txn (G .txns) i)) → (r k y : ℕ) → ConflictIn c S G r k y → ⊥
+      -- who reads versions is in no conflict
+      no-update : T (isReader (txn (G .txns) i)) → (r k y : ℕ) → ConflictIn c S G r k y → ⊥
       no-update q r k y K =
-          reader-live (txn (G .txns) i) q .1
-          (update-live (txn (G .txns) i) (at-caller S G g c n refl only (λ (r : ℕ). T (liveUpdate (txn (G .txns) r))) r (K .caller) (K .update)) .1)
+          update-no-reader (txn (G .txns) i) (at-caller S G g c n refl only (λ (r : ℕ). T (liveUpdate (txn (G .txns) r))) r (K .caller) (K .update)) q
 
-      -- its own working value, or a wait for one past its writing, or the version up to its start
+      -- its own working value, or a wait for one past its writing, or the version that it may read
       started :
-          eqb i (S .slots) ≡ false → CallerIn c S G i → T (byStart (txn (G .txns) i)) → x < S .items
+          eqb i (S .slots) ≡ false → CallerIn c S G i → T (isReader (txn (G .txns) i)) → x < S .items
           → Goes S c G (Deadlock ∷ Wait ∷ []) (startRead S i x G)
       started e C q known =
           cond-case (Goes S c G (Deadlock ∷ Wait ∷ [])) (holdsExclusive (lock (G .locks) x) i) _ _
@@ -97,9 +101,9 @@ module _ (S : Sizes) (G : Tables) (g : Good S G) where
           (λ o. cond-case (Goes S c G (Deadlock ∷ Wait ∷ [])) (heldBack S (G .txns) (G .locks) x i) _ _
           (λ b. let w = someBelow→ (S .slots) (holdsBack (G .txns) (G .locks) x i) (true-is b) in
           held-back S c G i x (no-update q)
-          (record { caller = C; reader = q; wants = (refl, refl); notOwn = λ z. false-is o z; other = w .0; otherInside = w .1; otherHolds = w .2 }))
+          (record { caller = C; reader = held-by-start S G g i (C .inside) q x (w .0) (w .1) (w .2); wants = (refl, refl); notOwn = λ z. false-is o z; other = w .0; otherInside = w .1; otherHolds = w .2 }))
           (λ b. unblocked S c G _ (no-update q) (λ r y K. nobody b r y K)
-          (readByStart n i x (caller-in S G n e) q known (λ z. false-is o z) b) refl))
+          (readVersion n i x (caller-in S G n e) q known (λ z. false-is o z) b) refl))
         where
           own : holdsExclusive (lock (G .locks) x) i ≡ true → (r y : ℕ) → HeldBackIn c S G r y → ⊥
           own o r y K =
@@ -156,10 +160,9 @@ module _ (S : Sizes) (G : Tables) (g : Good S G) where
   writes n x v =
       names-tests S G g c n refl only _ _ (λ e. let C = here S G g c n refl only e in
       items-tests S G g c n refl only toWrite x (refl, refl) asks _ _ (λ f.
-      tests S c G QueryMayNotWrite _ (eqb ((txn (G .txns) i) .kind) aQuery) _ (λ z. omega arith, λ z. omega arith)
+      tests S c G QueryMayNotWrite _ (queryKind ((txn (G .txns) i) .kind)) _ (λ z. omega arith, λ z. omega arith)
       (λ q. (i, C, is-query (G .txns) i (C .alive) q, inl (x, (refl, refl))))
-      (λ q w. eqb-false ((txn (G .txns) i) .kind) aQuery q
-      (query-kind (G .txns) i (at-caller S G g c n refl only (λ (r : ℕ). T (liveQuery (txn (G .txns) r))) (w .0) (w .1) (w .2))))
+      (λ q w. no-query i q (at-caller S G g c n refl only (λ (r : ℕ). T (anyQuery (txn (G .txns) r))) (w .0) (w .1) (w .2)))
       (λ q. waits-tests S G g c n refl only toWrite x (refl, refl) asks _ _ C (λ h.
       past-tests S G g c n refl only toWrite x (refl, refl) asks _ _ refl C write-no-settle (λ p.
       quota-tests S G g c n refl only toWrite x (refl, refl) asks _ _ refl C (λ o. writer C q p o (eqb ((txn (G .txns) i) .kind) aSettled) refl) (λ m.
@@ -186,7 +189,7 @@ module _ (S : Sizes) (G : Tables) (g : Good S G) where
           go false o = absurd (false-is p (and-both (eqb ((txn (G .txns) i) .kind) aSettled) _ (true-is z) (not-make (holdsExclusive (lock (G .locks) x) i) (λ k. false-is o k))))
 
       writer :
-          CallerIn c S G i → eqb ((txn (G .txns) i) .kind) aQuery ≡ false → writesPast (G .txns) (G .locks) i x ≡ false
+          CallerIn c S G i → queryKind ((txn (G .txns) i) .kind) ≡ false → writesPast (G .txns) (G .locks) i x ≡ false
           → (T (holdsExclusive (lock (G .locks) x) i) → ⊥) → (b : Bool) → eqb ((txn (G .txns) i) .kind) aSettled ≡ b → T (liveUpdate (txn (G .txns) i))
       writer C q p o true z = absurd (o (own p z))
       writer C q p o false z = is-update S G g i (C .inside) (C .alive) q z
@@ -232,7 +235,7 @@ module _ (S : Sizes) (G : Tables) (g : Good S G) where
               })))
 
       both :
-          eqb i (S .slots) ≡ false → CallerIn c S G i → awaitsOther (G .txns) i exclusiveLock x ≡ false → eqb ((txn (G .txns) i) .kind) aQuery ≡ false
+          eqb i (S .slots) ≡ false → CallerIn c S G i → awaitsOther (G .txns) i exclusiveLock x ≡ false → queryKind ((txn (G .txns) i) .kind) ≡ false
           → writesPast (G .txns) (G .locks) i x ≡ false → writesFurther S (G .locks) i x ≡ false → x < S .items
           → (b : Bool) → eqb ((txn (G .txns) i) .kind) aSettled ≡ b → Goes S c G (Deadlock ∷ Wait ∷ []) (access S toWrite i x v G)
       both e C h q p m known false z = accessed e C h (is-update S G g i (C .inside) (C .alive) q z) known m
@@ -256,9 +259,9 @@ module _ (S : Sizes) (G : Tables) (g : Good S G) where
       tests S c G StillWaiting _ (not (eqb ((txn (G .txns) i) .awaitedLock) noLock)) _ (λ z. omega arith, λ z. omega arith)
       (λ f. (i, C, ne-use _ noLock (true-is f), λ w. w))
       (λ f w. false-is f (ne-make _ noLock (at-caller S G g c n refl only (λ (r : ℕ). (txn (G .txns) r) .awaitedLock ≢ noLock) (w .0) (w .1) (w .2))))
-      (λ f. cond-case (Goes S c G (ClockSpent ∷ [])) (eqb ((txn (G .txns) i) .kind) aQuery) _ _
+      (λ f. cond-case (Goes S c G (ClockSpent ∷ [])) (queryKind ((txn (G .txns) i) .kind)) _ _
       (λ q. let k = is-query (G .txns) i (C .alive) q in
-      skips S c G ClockSpent _ _ (no-clock S G g c n refl only (query-reads (txn (G .txns) i) k)) (grants S c G _ (committedQuery n i (caller-in S G n e) k) refl))
+      skips S c G ClockSpent _ _ (no-clock S G g c n refl only (any-query-reads (txn (G .txns) i) k)) (grants S c G _ (committedQuery n i (caller-in S G n e) k) refl))
       (λ q. cond-case (Goes S c G (ClockSpent ∷ [])) (eqb ((txn (G .txns) i) .kind) aSettled) _ _
       (λ z. let k = is-settled (G .txns) i (C .alive) z in
       skips S c G ClockSpent _ _ (no-clock S G g c n refl only (settled-reads (txn (G .txns) i) k)) (grants S c G _ (committedSettled n i (caller-in S G n e) k) refl))
@@ -292,7 +295,7 @@ module _ (S : Sizes) (G : Tables) (g : Good S G) where
   unfolding abortBy done
   aborts n =
       names-tests S G g c n refl only _ _ (λ e. let C = caller-in S G n e in
-      cond-case (Goes S c G []) (eqb ((txn (G .txns) i) .kind) aQuery) _ _
+      cond-case (Goes S c G []) (queryKind ((txn (G .txns) i) .kind)) _ _
       (λ q. grants S c G _ (abortedQuery n i C (is-query (G .txns) i (C .alive) q)) refl)
       (λ q. cond-case (Goes S c G []) (eqb ((txn (G .txns) i) .kind) aSettled) _ _
       (λ z. grants S c G _ (abortedSettled n i C (is-settled (G .txns) i (C .alive) z)) refl)
@@ -307,14 +310,13 @@ module _ (S : Sizes) (G : Tables) (g : Good S G) where
       only : (m : ℕ) → n ≡ m → m ≡ n
       only m e = sym e
 
-  settles : (n : ℕ) → Goes S (Settle n) G (UnknownTransaction ∷ QueryMayNotWrite ∷ PastWriting ∷ StillWaiting ∷ ClockSpent ∷ []) (settleBy S n G)
+  settles : (n : ℕ) → Goes S (Settle n) G (UnknownTransaction ∷ QueryMayNotWrite ∷ PastWriting ∷ StillWaiting ∷ ClockSpent ∷ KeptApart ∷ []) (settleBy S n G)
   unfolding settleBy When done
   settles n =
       names-tests S G g c n refl only _ _ (λ e. let C = here S G g c n refl only e in
-      tests S c G QueryMayNotWrite _ (eqb ((txn (G .txns) i) .kind) aQuery) _ (λ z. omega arith, λ z. omega arith)
+      tests S c G QueryMayNotWrite _ (queryKind ((txn (G .txns) i) .kind)) _ (λ z. omega arith, λ z. omega arith)
       (λ q. (i, C, is-query (G .txns) i (C .alive) q, inr (n, refl)))
-      (λ q w. eqb-false ((txn (G .txns) i) .kind) aQuery q
-      (query-kind (G .txns) i (at-caller S G g c n refl only (λ (r : ℕ). T (liveQuery (txn (G .txns) r))) (w .0) (w .1) (w .2))))
+      (λ q w. no-query i q (at-caller S G g c n refl only (λ (r : ℕ). T (anyQuery (txn (G .txns) r))) (w .0) (w .1) (w .2)))
       (λ q. tests S c G PastWriting _ (eqb ((txn (G .txns) i) .kind) aSettled) _ (λ z. omega arith, λ z. omega arith)
       (λ z. (i, C, is-settled (G .txns) i (C .alive) z, inr (n, refl)))
       (λ z w. eqb-false ((txn (G .txns) i) .kind) aSettled z
@@ -326,8 +328,20 @@ module _ (S : Sizes) (G : Tables) (g : Good S G) where
       (λ f. tests S c G ClockSpent _ (eqb (clock (G .txns)) lastWord) _ (λ z. omega arith, λ z. omega arith)
       (λ h. (i, C, up, eqb-true (clock (G .txns)) lastWord h, inr (n, refl)))
       (λ h w. eqb-false (clock (G .txns)) lastWord h (w .3))
-      (λ h. grants S c G _ (settledUpdate n i (caller-in S G n e) up (eqb-true ((txn (G .txns) i) .awaitedLock) noLock (not-false _ f)) (eqb-false (clock (G .txns)) lastWord h)) refl)))))
+      (λ h. tests S c G KeptApart _ (someRelaxed S (G .txns)) _ (λ z. omega arith, λ z. omega arith)
+      (λ m. inl ((n, refl), some-relaxed S (G .txns) (true-is m)))
+      (λ m w. settle-apart m w)
+      (λ m. grants S c G _
+      (settledUpdate n i (caller-in S G n e) up (eqb-true ((txn (G .txns) i) .awaitedLock) noLock (not-false _ f)) (eqb-false (clock (G .txns)) lastWord h)
+      (λ q j k. false-is m (relaxed-some S (G .txns) q j k))) refl))))))
     where
+      settle-apart :
+          someRelaxed S (G .txns) ≡ false
+          → (IsSettle (Settle n) × ((q : ℕ) × (q < S .slots) × T (liveRelaxed (txn (G .txns) q))))
+          ⊎ ((Settle n ≡ BeginRelaxed) × ((s : ℕ) × (s < S .slots) × T (liveSettled (txn (G .txns) s)))) → ⊥
+      settle-apart m (inl (z, (q, j, k))) = false-is m (relaxed-some S (G .txns) q j k)
+      settle-apart m (inr (z, k)) = let y : _≡_ {A = ℕ} 0 1 = cc in omega arith
+
       c : Call
       c = Settle n
 
@@ -339,13 +353,14 @@ module _ (S : Sizes) (G : Tables) (g : Good S G) where
 
   tested : (c : Call) → Goes S c G (thenTested c) (judged S c G)
   unfolding judged thenTested
-  tested BeginUpdate = begins S BeginUpdate G anUpdate firstStamp beganUpdate
-  tested BeginQuery = begins S BeginQuery G aQuery (clock (G .txns)) beganQuery
+  tested BeginUpdate = begins-update S G
+  tested BeginQuery = begins-query S G
   tested (Read n x) = reads n x
   tested (Write n x v) = writes n x v
   tested (Commit n) = commits n
   tested (Abort n) = aborts n
   tested (Settle n) = settles n
+  tested BeginRelaxed = begins-relaxed S G
 
   pub goes : (c : Call) → Goes S c G (order c) (judged S c G)
   unfolding order When

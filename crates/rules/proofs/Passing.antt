@@ -20,11 +20,11 @@ passing p k zero = 0
 passing p k (suc n) = tally (p k) (passing p (suc k) n)
 
 -- how many elements pass
-unfoldable pub counted : (ℕ → Bool) → List ℕ → ℕ
+unfoldable pub counted : {A : Type 0} → (A → Bool) → List A → ℕ
 counted g [] = 0
 counted g (q ∷ qs) = tally (g q) (counted g qs)
 
-pub counted-le : (g : ℕ → Bool) (qs : List ℕ) → counted g qs ≤ length qs
+pub counted-le : {A : Type 0} (g : A → Bool) (qs : List A) → counted g qs ≤ length qs
 unfolding counted tally
 counted-le g [] = omega arith
 counted-le g (q ∷ qs) = go (g q) (counted-le g qs)
@@ -75,7 +75,7 @@ passing-false k (suc n) = passing-false (suc k) n
 
 -- the places f q of those elements q that pass g
 pub passing-some :
-    (g : ℕ → Bool) (f : ℕ → ℕ) (qs : List ℕ) (k n : ℕ) → passing (λ i. some (λ q. g q && eqb (f q) i) qs) k n ≤ counted g qs
+    {A : Type 0} (g : A → Bool) (f : A → ℕ) (qs : List A) (k n : ℕ) → passing (λ i. some (λ q. g q && eqb (f q) i) qs) k n ≤ counted g qs
 unfolding some counted tally
 passing-some g f [] k n = let z = passing-false k n in omega arith
 passing-some g f (q ∷ qs) k n =

@@ -5,30 +5,31 @@ use mathlib.Core.Logic.{_≢_, _⊎_, inl, inr}
 use mathlib.Core.Bool.{false}
 use mathlib.Core.List.{List}
 use native.Mathlib.Omega.{arith}
-use lib.ListN.{length, set, length-set}
+use lib.ListN.{length, getD, set, length-set}
 use lib.Seq.{getD-set-same, getD-set-other}
-use lib.Dec.{T, eqb→eq}
+use lib.Dec.{T, le→leb}
 use Rattle.names.specs.declared.Sizes.{Sizes}
 use Rattle.names.specs.Sizes.{lastWord}
 use Rattle.names.specs.Layout.{clockAt}
-use Rattle.rules.specs.Words.{bit, withoutBit}
-use Rattle.rules.specs.Tables.{Tables, tables, txnWords, lastNumber, clock, Txn, txn, setTxn, newTxn, withRank, live, liveUpdate, liveSettled, mayHold, byStart}
-use Rattle.rules.specs.Tables.{aSettled, noLock, Lock, lock, holdsShared, holdsExclusive, unshared, unshare}
-use Rattle.rules.specs.Versions.{versionsOf, stampAt}
+use Rattle.rules.specs.Words.{row, bit, withoutBit}
+use Rattle.rules.specs.Tables.{Tables, tables, txnWords, versionRow, lastNumber, clock, Txn, txn, setTxn, newTxn, withRank, live, liveUpdate, liveSettled, liveRelaxed, mayHold, isReader}
+use Rattle.rules.specs.Tables.{aSettled, noLock, Reader, upTo, readerIn, Lock, lock, holdsShared, holdsExclusive, unshared, unshare}
+use Rattle.rules.specs.Versions.{Version, noVersion, versionsIn, versionsOf, stampAt, hiddenNow, sees}
 use Rattle.rules.specs.Waits.{awaits, awaitsOn, waitsFor}
 use Rattle.rules.specs.Changed.{leaving}
-use Rattle.rules.specs.Good.{Good, GoodTxn, GoodLock, GoodQuota, GoodRanks, GoodSettled}
+use Rattle.rules.specs.Good.{Good, GoodTxn, GoodLock, GoodQuota, GoodRanks, GoodSettled, GoodSets}
 use Rattle.rules.specs.Step.{settled}
-use Rattle.rules.proofs.Tests.{same?}
+use Rattle.rules.proofs.Tests.{same?, false-is}
 use Rattle.rules.proofs.Bits.{withoutBit-here, withoutBit-there, bit-none, no-bits}
 use Rattle.rules.proofs.Views.{length-setTxn, lastNumber-setTxn, clock-setTxn, txn-setTxn, txn-setTxn-other, txn-top, lock-unshare, length-unshare}
-use Rattle.rules.proofs.EqualRows.{update-live, settled-live, holder-live, reader-live, update-holds, settled-holds, live-settled, settled-reads, live-number, number-live}
-use Rattle.rules.proofs.Carried.{NoMore, no-reads, no-more-same, txn-carried, lock-carried, versions-carried, settled-carried}
+use Rattle.rules.proofs.RowKinds.{update-live, relaxed-live, update-holds, settled-holds, live-settled, settled-starts, live-number, number-live, update-no-reader, reads-up-to}
+use Rattle.rules.proofs.Carried.{NoMore, no-reads, no-notes, no-more-same, reads-alike, txn-carried, lock-carried, versions-carried, settled-carried, sets-carried}
 use Rattle.rules.proofs.Quotas.{exclusives-fewer, quota-carried, quotas-but}
 use Rattle.rules.proofs.EqualRanks.{awaits→, awaitsOn→, waiter-inside}
 use Rattle.rules.proofs.Lines.{same-leaving, left-ranks, left-links}
 use Rattle.rules.proofs.Deadlock.{fewer-no-circle}
 use Rattle.rules.proofs.Grants.{conflicts-fewer}
+use Rattle.rules.proofs.Taken.{reader-relaxed}
 
 -- ---- one lock without the shared bit of slot s
 module _ (s : ℕ) (h : Lock) where
@@ -129,17 +130,19 @@ module _ (S : Sizes) (G : Tables) (g : Good S G) (s : ℕ) (within : s < S .slot
         versionsGood = g .versionsGood;
         ranksGood = ranked;
         settledGood = settled-carried S G (tables t l′ (G .versions)) (λ r i h. (h, refl)) (λ r x i j a h. (fewer r x j .exclusive h, refl)) (g .settledGood);
+        setsGood = sets-carried S G (tables t l′ (G .versions)) g (g .setsGood .apart) (λ q i h. h) (λ r i. refl) (λ q x i b. b) fewer (λ x q i b. b);
         noCircle = fewer-no-circle S G g t l′ links;
       }
 
   pub unshared-holds : (x : ℕ) → x < S .items → T (holdsShared (lock (unshare S s (G .locks)) x) s) → ⊥
   unshared-holds x i a = unshared-none s (lock l x) (subst (λ (o : Lock). T (holdsShared o s)) (freed x i) a)
 
--- ---- the row of slot s, an update that shares nothing and awaits nothing, becomes that of one past its writing
+-- ---- the row of slot s, an update that shares nothing and awaits nothing, becomes that of one past its writing; no relaxed query lives
 module _
     (S : Sizes) (G : Tables) (g : Good S G) (s : ℕ) (inside : s < S .slots) (update : T (liveUpdate (txn (G .txns) s)))
     (resting : (txn (G .txns) s) .awaitedLock ≡ noLock) (unspent : clock (G .txns) ≢ lastWord)
     (sharing : (x : ℕ) → x < S .items → T (holdsShared (lock (G .locks) x) s) → ⊥)
+    (alone : (q : ℕ) → q < S .slots → T (liveRelaxed (txn (G .txns) q)) → ⊥)
   where
     abbrev t₀ : List ℕ
     t₀ = G .txns
@@ -179,9 +182,10 @@ module _
         record {
           free = λ e. absurd (live-number (txn t₀ s) alive e);
           given = let a = last′ in let b = g .txnGood s inside .given in omega arith;
-          kindListed = inr (inr refl);
+          kindListed = inr (inr (inl refl));
           lockListed = omega arith;
           updateStart = λ h. absurd (let a = update-live R h .1 in omega arith);
+          relaxedStart = λ h. absurd (let a = relaxed-live R h .1 in omega arith);
           readerStart = λ h. let a = clock′ in omega arith;
           readerIdle = λ h. refl;
           settledStart = λ h. omega arith;
@@ -189,6 +193,7 @@ module _
           itemUnused = λ e. refl;
           rankUnused = λ e. refl;
           readsGood = no-reads R refl refl;
+          notesGood = no-notes S R refl refl;
           awaitsShared = λ e. absurd (omega arith);
           awaitsExclusive = λ e. absurd (omega arith);
         }
@@ -224,16 +229,55 @@ module _
         go (inl e) = subst (λ (m : ℕ). T (mayHold (txn t′ m))) (sym e) (subst (λ (w : Txn). T (mayHold w)) (sym here) (settled-holds R (live-settled R (number-live R (live-number (txn t₀ s) alive)) refl)))
         go (inr d) = subst (λ (w : Txn). T (mayHold w)) (sym (there r d)) h
 
-    -- a reader of before is another's row; one of afterwards that was none has the new stamp
-    reader-stays : (r : ℕ) → T (byStart (txn t₀ r)) → txn t′ r ≡ txn t₀ r
-    reader-stays r h = there r (λ e. reader-live (txn t₀ r) h .1 (ap (λ (m : ℕ). (txn t₀ m) .kind) e ∙ update-live (txn t₀ s) update .1))
+    -- a reader of before is another's row; one of afterwards that was none may read every newest version, since its stamp is above
+    reader-stays : (r : ℕ) → T (isReader (txn t₀ r)) → T (isReader (txn t′ r)) × (readerIn t′ r ≡ readerIn t₀ r)
+    reader-stays r h =
+        let e = there r (λ z. update-no-reader (txn t₀ s) update (subst (λ (m : ℕ). T (isReader (txn t₀ m))) z h)) in
+        (subst (λ (w : Txn). T (isReader w)) (sym e) h, reads-alike t₀ t′ r e)
 
-    reader-new : (r : ℕ) → (txn t′ r ≡ txn t₀ r) ⊎ (clock t₀ ≤ (txn t′ r) .start)
-    reader-new r = go (same? r s)
+    reader-new :
+        (x : ℕ) → x < S .items → (r : ℕ) → T (isReader (txn t′ r))
+        → (T (isReader (txn t₀ r)) × (readerIn t′ r ≡ readerIn t₀ r)) ⊎ T (sees (readerIn t′ r) (getD (versionsIn S (row (versionRow S) x (G .versions))) 0 noVersion))
+    unfolding sees stampAt
+    reader-new x i r h = go (same? r s)
       where
-        go : (r ≡ s) ⊎ (r ≢ s) → (txn t′ r ≡ txn t₀ r) ⊎ (clock t₀ ≤ (txn t′ r) .start)
-        go (inl e) = inr (let w : (txn t′ r) .start ≡ c = ap (λ (m : ℕ). (txn t′ m) .start) e ∙ ap (λ (w : Txn). w .start) here in omega arith)
-        go (inr d) = inl (there r d)
+        vs : List Version
+        vs = versionsIn S (row (versionRow S) x (G .versions))
+
+        up : readerIn t′ s ≡ upTo c
+        up = reads-up-to t′ s (λ e. let k = ap (λ (w : Txn). w .kind) here in absurd (omega arith)) ∙ ap (λ (w : Txn). upTo (w .start)) here
+
+        go : (r ≡ s) ⊎ (r ≢ s) → (T (isReader (txn t₀ r)) × (readerIn t′ r ≡ readerIn t₀ r)) ⊎ T (sees (readerIn t′ r) (getD vs 0 noVersion))
+        go (inl e) =
+            inr (subst (λ (p : Reader). T (sees p (getD vs 0 noVersion))) (sym (ap (readerIn t′) e ∙ up))
+            (le→leb (stampAt vs 0) c (let a = g .versionsGood x i .first in omega arith)))
+        go (inr d) = inl (subst (λ (w : Txn). T (isReader w)) (there r d) h, reads-alike t₀ t′ r (there r d))
+
+    -- ---- where no relaxed query lives, there are no sets
+    relaxed-not : (q : ℕ) → q < S .slots → T (liveRelaxed (txn t′ q)) → ⊥
+    relaxed-not q i h = go (same? q s)
+      where
+        go : (q ≡ s) ⊎ (q ≢ s) → ⊥
+        go (inl e) = let k = relaxed-live R (subst (λ (w : Txn). T (liveRelaxed w)) (ap (txn t′) e ∙ here) h) .1 in omega arith
+        go (inr d) = alone q i (subst (λ (w : Txn). T (liveRelaxed w)) (there q d) h)
+
+    sets : GoodSets S (tables t′ (G .locks) (G .versions))
+    unfolding hiddenNow versionsOf
+    sets =
+        record {
+          apart = λ a b i j h m. relaxed-not b j m;
+          ofRelaxed = λ r q i b. absurd (later-not r q i b (same? r s));
+          holdsRead = λ x r q i j e b. absurd (read-not q x j b (same? q s));
+          holdsHidden = λ x r q i h b. absurd (let m = g .versionsGood x i .fromRelaxed 0 q b in alone q (m .0) (m .1));
+        }
+      where
+        later-not : (r q : ℕ) → r < S .slots → T (bit ((txn t′ r) .laterFor) q) → (r ≡ s) ⊎ (r ≢ s) → ⊥
+        later-not r q i b (inl e) = false-is (bit-none q) (subst (λ (w : Txn). T (bit (w .laterFor) q)) (ap (txn t′) e ∙ here) b)
+        later-not r q i b (inr d) = let m = g .setsGood .ofRelaxed r q i (subst (λ (w : Txn). T (bit (w .laterFor) q)) (there r d) b) in alone q (m .0) (m .1)
+
+        read-not : (q x : ℕ) → q < S .slots → T (bit ((txn t′ q) .itemsRead) x) → (q ≡ s) ⊎ (q ≢ s) → ⊥
+        read-not q x i b (inl e) = false-is (bit-none x) (subst (λ (w : Txn). T (bit (w .itemsRead) x)) (ap (txn t′) e ∙ here) b)
+        read-not q x i b (inr d) = alone q i (reader-relaxed S G g q x i (subst (λ (w : Txn). T (bit (w .itemsRead) x)) (there q d) b))
 
     none : T (awaits (txn t₀ s)) → ⊥
     none h = awaits→ (txn t₀ s) h resting
@@ -267,7 +311,7 @@ module _
         old : (r : ℕ) → r < S .slots → r ≢ s → T (liveSettled (txn t′ r)) → T (liveSettled (txn t₀ r)) × ((txn t′ r) .start ≡ (txn t₀ r) .start) × ((txn t₀ r) .start ≤ clock t₀)
         old r i d h =
             let k = subst (λ (w : Txn). T (liveSettled w)) (there r d) h in
-            (k, ap (λ (w : Txn). w .start) (there r d), g .txnGood r i .readerStart (settled-reads (txn t₀ r) k))
+            (k, ap (λ (w : Txn). w .start) (there r d), g .txnGood r i .readerStart (settled-starts (txn t₀ r) k))
 
         pick :
             (a b : ℕ) → a < S .slots → b < S .slots → a ≢ b → T (liveSettled (txn t′ a)) → T (liveSettled (txn t′ b)) → (a ≡ s) ⊎ (a ≢ s) → (b ≡ s) ⊎ (b ≢ s)
@@ -297,17 +341,19 @@ module _
               (λ r h q. subst (λ (w : Txn). T (liveUpdate w)) (sym (there r (λ e. sharing x i (subst (λ (m : ℕ). T (holdsShared (lock (G .locks) x) m)) e h)))) q)
               (λ r h q. holds′ r q) (g .lockGood x i);
           quotaGood = quotas-but S (G .locks) t₀ t′ s there (subst (λ (w : Txn). GoodQuota S (G .locks) s w) (sym here) new-quota) (g .quotaGood);
-          versionsGood = λ x i. versions-carried S t₀ t′ _ (let a = clock′ in omega arith) (λ r j h. reader-stays r h) (λ r j h. reader-new r) (g .versionsGood x i);
+          versionsGood = λ x i. versions-carried S t₀ t′ _ (let a = clock′ in omega arith) (λ r j h. reader-stays r h) (λ r j h. reader-new x i r h)
+              (λ q j h. absurd (alone q j h)) (g .versionsGood x i);
           ranksGood = left-ranks S t₀ t′ (G .locks) s inside others idle (g .ranksGood) (G .locks) (λ x r d. refl);
           settledGood = stamped;
+          setsGood = sets;
           noCircle = fewer-no-circle S G g t′ (G .locks) links′;
         }
 
 -- ---- both together
 pub settled-good :
     (S : Sizes) (G : Tables) → Good S G → (s : ℕ) → s < S .slots → T (liveUpdate (txn (G .txns) s)) → (txn (G .txns) s) .awaitedLock ≡ noLock
-    → clock (G .txns) ≢ lastWord → Good S (settled S s G)
+    → clock (G .txns) ≢ lastWord → ((q : ℕ) → q < S .slots → T (liveRelaxed (txn (G .txns) q)) → ⊥) → Good S (settled S s G)
 unfolding settled
-settled-good S G g s inside update resting unspent =
+settled-good S G g s inside update resting unspent alone =
     settled-row-good S (tables (G .txns) (unshare S s (G .locks)) (G .versions)) (unshared-good S G g s inside resting) s inside update resting unspent
-    (unshared-holds S G g s inside resting)
+    (unshared-holds S G g s inside resting) alone

@@ -15,13 +15,14 @@ use Rattle.rules.specs.Tables.{Tables, txnWords, lockWords, txn, live, l
 use Rattle.rules.specs.Waits.{waitsFor, Walk, one, more, marked, reached}
 use Rattle.rules.specs.Good.{Good}
 use Rattle.rules.specs.Answers.{Call, code, Refusal}
-use Rattle.rules.specs.Answers.{Wait, Deadlock, UnknownTransaction, UnknownItem, QueryMayNotWrite, StillWaiting, NoSlot, NumbersSpent, ClockSpent, BadTables, QuotaSpent, PastWriting}
+use Rattle.rules.specs.Answers.{Wait, Deadlock, UnknownTransaction, UnknownItem, QueryMayNotWrite, StillWaiting, NoSlot, NumbersSpent, ClockSpent, BadTables, QuotaSpent, PastWriting, KeptApart}
 use Rattle.rules.specs.Step.{holdsBack}
 use Rattle.rules.specs.Conditions.{ConflictIn, HeldBackIn, Circle, When, order, Answered}
 use Rattle.rules.specs.Promises.{codeOf, waitsSilently, waitsAtAll, ReaderWaits, Descends, SilentDescends, NoCircleAtAll, NoSetWaits}
 use Rattle.rules.proofs.Tests.{and-left, and-right, and-both, or-cases, true-is, false-is, ne-use}
 use Rattle.rules.proofs.Counts.{someBelow→, →someBelow}
-use Rattle.rules.proofs.EqualRows.{settled-live, update-live, reader-live, settled-reads, live-number, holder}
+use Rattle.rules.proofs.RowKinds.{settled-live, update-no-reader, start-reads, settled-starts, live-number}
+use Rattle.rules.proofs.EqualRows.{holder}
 use Rattle.rules.proofs.EqualRanks.{waiter-inside}
 use Rattle.rules.proofs.Circles.{reached→walk, walk→reached}
 use Rattle.rules.proofs.Lines.{count-more}
@@ -100,6 +101,7 @@ waits-when S c G (r ∷ rs) k (inl p) e = it r (p .0) (sym (p .1) ∙ e)
     it BadTables w q = absurd (omega arith)
     it QuotaSpent w q = absurd (omega arith)
     it PastWriting w q = absurd (omega arith)
+    it KeptApart w q = absurd (omega arith)
 waits-when S c G (r ∷ rs) k (inr p) e = waits-when S c G rs k (p .1) e
 
 pub reader-waits : (S : Sizes) → ReaderWaits S
@@ -115,7 +117,7 @@ reader-waits S c G s e C reader = go (waits-when S c G (order c) (codeOf S c G) 
     go (inl w) =
         let K = w .3 in
         let up = subst (λ (r : ℕ). T (liveUpdate (txn (G .txns) r))) (one-caller S G g c (w .0) s (K .caller) C) (K .update) in
-        absurd (reader-live (txn (G .txns) s) reader .1 (update-live (txn (G .txns) s) up .1))
+        absurd (update-no-reader (txn (G .txns) s) up (start-reads (txn (G .txns) s) reader))
     go (inr w) =
         let K = w .2 in
         let b = K .other in
@@ -146,7 +148,7 @@ module _ (S : Sizes) (G : Tables) (g : Good S G) where
   unnoted : (a c : ℕ) → T (byStart (txn t a)) → T (waitsFor t l a c) → ⊥
   unnoted a c r w =
       let d = waits-for→ t l a c w .0 in
-      d (g .txnGood a (waiter-inside S t (g .txnsExact) a d) .readerIdle r)
+      d (g .txnGood a (waiter-inside S t (g .txnsExact) a d) .readerIdle (start-reads (txn t a) r))
 
   descends : (a b : ℕ) → T (waitsSilently S G a b) → Descends G a b
   descends a b h =
@@ -168,7 +170,7 @@ module _ (S : Sizes) (G : Tables) (g : Good S G) where
   link-down a b s h = go (at-all→ S G a b h)
     where
       go : T (waitsFor t l a b) ⊎ T (waitsSilently S G a b) → past b × (stamp b < stamp a)
-      go (inl w) = absurd (unnoted a b (settled-reads (txn t a) s) w)
+      go (inl w) = absurd (unnoted a b (settled-starts (txn t a) s) w)
       go (inr w) = let d = descends a b w in (d .past, d .smaller s)
 
   walk-down : {a b : ℕ} → Walk E a b → past a → past b × (stamp b < stamp a)

@@ -9,24 +9,25 @@ use native.Mathlib.Omega.{arith}
 use lib.Dec.{T, eqb, leb, eqb→eq}
 use borrow.Author.Tests.{eqb-true, eqb-false, leb-true, leb-false}
 use Rattle.names.specs.declared.Sizes.{Sizes}
-use Rattle.names.specs.Sizes.{lastWord}
-use Rattle.rules.specs.Tables.{Tables, lastNumber, txn, aSettled, noLock, exclusiveLock}
-use Rattle.rules.specs.Tables.{liveUpdate, liveQuery, liveSettled, byStart, lock, holdsExclusive, exclusivesOf, slotOf, freeSlot}
+use Rattle.names.specs.Sizes.{firstStamp, lastWord}
+use Rattle.rules.specs.Tables.{Tables, lastNumber, clock, txn, anUpdate, aQuery, aSettled, aRelaxed, noLock, exclusiveLock, isReader, liveRelaxed, someSettled}
+use Rattle.rules.specs.Tables.{liveUpdate, liveSettled, byStart, lock, holdsExclusive, exclusivesOf, slotOf, freeSlot}
 use Rattle.rules.specs.Waits.{rankFor, blocks, noted, circleAt}
 use Rattle.rules.specs.Good.{Good}
 use Rattle.rules.specs.Locks.{Asked, wanted}
-use Rattle.rules.specs.Answers.{Call, granted, code, Refusal, asSlot, asItem, asStamp}
+use Rattle.rules.specs.Answers.{Call, BeginUpdate, BeginQuery, BeginRelaxed, granted, code, Refusal, asSlot, asItem, asStamp}
 use Rattle.rules.specs.Answers.{Wait, Deadlock, UnknownTransaction, UnknownItem, StillWaiting}
-use Rattle.rules.specs.Answers.{NoSlot, NumbersSpent, ClockSpent, QuotaSpent, PastWriting, Deed, Refused, Begins, Waits}
-use Rattle.rules.specs.Step.{done, beginBy, conflicted, awaitsOther, writesPast, writesFurther}
+use Rattle.rules.specs.Answers.{NoSlot, NumbersSpent, ClockSpent, QuotaSpent, PastWriting, KeptApart, Deed, Refused, Begins, Waits}
+use Rattle.rules.specs.Step.{done, meetsSettled, beginBy, conflicted, awaitsOther, writesPast, writesFurther}
 use Rattle.rules.specs.Conditions.{Names, Wants, IsSettle, CallerIn, NeedsLock, ConflictIn, HeldBackIn, Circle, When, Answered}
 use Rattle.rules.proofs.Tests.{and-left, and-right, and-both, is-true, true-is, false-is, not-make, not-use, ne-make, ne-use, eq-make}
 use Rattle.rules.proofs.Quotas.{has-room, further→}
-use Rattle.rules.proofs.EqualRows.{update-live, settled-live, reader-live}
+use Rattle.rules.proofs.RowKinds.{update-live, reader-live, start-reads, update-no-reader}
 use Rattle.rules.proofs.Deadlock.{circle-is}
 use Rattle.rules.proofs.Callers.{caller-is, caller-none, caller-found, Free, free-found, free-none, is-settled, settled-kind}
 use Rattle.rules.proofs.Decisions.{blockedFor, blocked-other, wanted-lock}
-use Rattle.rules.proofs.Ways.{Mere, Way, refused, keptWaiting}
+use Rattle.rules.proofs.Ways.{Mere, Way, refused, keptWaiting, beganUpdate, beganQuery, beganRelaxed}
+use Rattle.rules.proofs.EqualSets.{some-settled, settled-some}
 
 module _ (S : Sizes) (c : Call) (G : Tables) where
   -- the code of the deed is that of the first of these whose condition holds
@@ -55,18 +56,20 @@ module _ (S : Sizes) (c : Call) (G : Tables) where
   unfolding Answered
   grants d w e = (w, e)
 
-  -- ---- begin
+  -- ---- begin: rs is what is tested of the kind k last
   pub begins :
-      (k q : ℕ) → ((s : ℕ) → Free S (G .txns) s → lastNumber (G .txns) ≢ lastWord → Way S G c (Begins (asSlot s) k (asStamp q)))
-      → Goes (NoSlot ∷ NumbersSpent ∷ []) (beginBy S k q G)
-  unfolding beginBy When done
-  begins k q w =
+      (k q : ℕ) (rs : List Refusal)
+      → ((s : ℕ) → Free S (G .txns) s → lastNumber (G .txns) ≢ lastWord
+      → Goes rs (cond (meetsSettled S (G .txns) k) (Refused KeptApart) (Begins (asSlot s) k (asStamp q))))
+      → Goes (NoSlot ∷ NumbersSpent ∷ rs) (beginBy S k q G)
+  unfolding beginBy When
+  begins k q rs w =
       tests NoSlot _ (eqb (freeSlot S (G .txns)) (S .slots)) _ (λ z. omega arith, λ z. omega arith) (λ e. free-none S (G .txns) e)
       (λ e w. let f = free-found S (G .txns) e in f .free (w (freeSlot S (G .txns)) (f .inside)))
       (λ e. tests NumbersSpent _ (eqb (lastNumber (G .txns)) lastWord) _ (λ z. omega arith, λ z. omega arith)
       (λ f. eqb-true (lastNumber (G .txns)) lastWord f)
       (λ f w. eqb-false (lastNumber (G .txns)) lastWord f w)
-      (λ f. grants _ (w (freeSlot S (G .txns)) (free-found S (G .txns) e) (eqb-false (lastNumber (G .txns)) lastWord f)) refl))
+      (λ f. w (freeSlot S (G .txns)) (free-found S (G .txns) e) (eqb-false (lastNumber (G .txns)) lastWord f)))
 
   -- where there is no conflict and nobody is held back, the call is granted
   pub unblocked :
@@ -84,6 +87,33 @@ module _ (S : Sizes) (c : Call) (G : Tables) where
   held-back s x f K =
       skips Deadlock (Wait ∷ []) (Refused Wait) (λ w. f (w .0) (w .1) (w .2) (w .3))
       (keptWaiting s (K .caller) (K .reader), inl (inr (s, x, K), refl))
+
+-- ---- the three begins
+module _ (S : Sizes) (G : Tables) where
+  pub begins-update : Goes S BeginUpdate G (NoSlot ∷ NumbersSpent ∷ []) (beginBy S anUpdate firstStamp G)
+  unfolding meetsSettled done
+  begins-update = begins S BeginUpdate G anUpdate firstStamp [] (λ s f n. grants S BeginUpdate G _ (beganUpdate s f n) refl)
+
+  pub begins-query : Goes S BeginQuery G (NoSlot ∷ NumbersSpent ∷ []) (beginBy S aQuery (clock (G .txns)) G)
+  unfolding meetsSettled done
+  begins-query = begins S BeginQuery G aQuery (clock (G .txns)) [] (λ s f n. grants S BeginQuery G _ (beganQuery s f n) refl)
+
+  pub begins-relaxed : Goes S BeginRelaxed G (NoSlot ∷ NumbersSpent ∷ KeptApart ∷ []) (beginBy S aRelaxed firstStamp G)
+  unfolding meetsSettled When done
+  begins-relaxed =
+      begins S BeginRelaxed G aRelaxed firstStamp (KeptApart ∷ [])
+      (λ s f n.
+      tests S BeginRelaxed G KeptApart [] (someSettled S (G .txns)) _ (λ z. omega arith, λ z. omega arith)
+      (λ e. inr (refl, some-settled S (G .txns) (true-is e)))
+      (λ e w. apart e w)
+      (λ e. grants S BeginRelaxed G _ (beganRelaxed s f n (λ r i h. false-is e (settled-some S (G .txns) r i h))) refl))
+    where
+      apart :
+          someSettled S (G .txns) ≡ false
+          → (IsSettle BeginRelaxed × ((q : ℕ) × (q < S .slots) × T (liveRelaxed (txn (G .txns) q))))
+          ⊎ ((BeginRelaxed ≡ BeginRelaxed) × ((s : ℕ) × (s < S .slots) × T (liveSettled (txn (G .txns) s)))) → ⊥
+      apart e (inl ((m, z), k)) = let y : _≡_ {A = ℕ} 0 1 = cc in omega arith
+      apart e (inr (z, (r, i, h))) = false-is e (settled-some S (G .txns) r i h)
 
 -- ---- the calls that name a transaction: c names n and no other
 module _ (S : Sizes) (G : Tables) (g : Good S G) (c : Call) (n : ℕ) (says-n : Names c n) (only-n : (m : ℕ) → Names c m → m ≡ n) where
@@ -111,7 +141,7 @@ module _ (S : Sizes) (G : Tables) (g : Good S G) (c : Call) (n : ℕ) (says-n : 
   pub at-caller : (P : ℕ → Type 0) (r : ℕ) → CallerIn c S G r → P r → P s
   at-caller P r C h = subst P (sym (there r C)) h
 
-  pub no-clock : T (byStart (txn (G .txns) s)) → When S c G ClockSpent → ⊥
+  pub no-clock : T (isReader (txn (G .txns) s)) → When S c G ClockSpent → ⊥
   unfolding When
   no-clock q w =
       reader-live (txn (G .txns) s) q .1
@@ -249,7 +279,7 @@ module _ (S : Sizes) (G : Tables) (g : Good S G) (c : Call) (n : ℕ) (says-n : 
         where
           -- an update that writes reads by no start
           writer-here : (r : ℕ) → CallerIn c S G r → T (byStart (txn (G .txns) r)) → ⊥
-          writer-here r D h = reader-live (txn (G .txns) s) (at-caller (λ (i : ℕ). T (byStart (txn (G .txns) i))) r D h) .1 (update-live (txn (G .txns) s) up .1)
+          writer-here r D h = update-no-reader (txn (G .txns) s) up (start-reads (txn (G .txns) s) (at-caller (λ (i : ℕ). T (byStart (txn (G .txns) i))) r D h))
 
       pub conflicting :
           NeedsLock (lock (G .locks) x) (wanted a) s → T (blockedFor S (G .txns) (G .locks) (wanted a) x s)

@@ -6,17 +6,17 @@ use mathlib.Core.Logic.{_≢_, _⊎_, inl, inr, ⊎-elim}
 use mathlib.Core.Bool.{Bool, true, false}
 use mathlib.Core.List.{List, [], _∷_}
 use native.Mathlib.Omega.{arith}
-use native.Mathlib.Nat.{add-zero}
+use native.Mathlib.Nat.{add-zero, zero-add}
 use lib.ListN.{length, getD, set, replicate, length-set, List·getD-eq-default}
-use lib.Seq.{getD-set-same, getD-set-other, set-getD, set-set, set-comm}
+use lib.Seq.{getD-set-same, getD-set-other, set-getD, set-set, set-comm, ext-getD}
 use lib.Dec.{ltb}
 use borrow.Author.Tests.{ltb-true, ltb-false}
 use Rattle.names.specs.declared.Sizes.{Sizes}
 use Rattle.names.specs.Layout.{txnHead, txnNumberAt, txnKindAt, txnStartAt, txnLockAt, txnItemAt, txnRankAt, txnCountAt, txnSumAt, txnRow}
 use Rattle.rules.specs.Words.{row}
-use Rattle.rules.specs.Tables.{behind, wordsFrom, putFrom, Txn, txnIn, txnWordsOf, txn, setTxn, noTxn, newTxn, txnAt, txnWords, lastNumber, clock, setAwaited, setReads, withRank, reranked}
+use Rattle.rules.specs.Tables.{behind, wordsFrom, putFrom, Txn, txnIn, txnWordsOf, txn, setTxn, noTxn, newTxn, txnAt, txnWords, lastNumber, clock, setAwaited, setReads, withWord, reworded}
 use Rattle.rules.specs.Tables.{Lock, lock, setLock, lockRow, lockWords, lockIn, lockWordsOf, released, release, unshared, unshare}
-use Rattle.rules.specs.Changed.{NoRank}
+use Rattle.rules.specs.Changed.{NoWord}
 use Rattle.rules.proofs.Rows.{row-word, row-mapRows, length-mapRows}
 
 below? : (a b : ℕ) → (a < b) ⊎ (b ≤ a)
@@ -185,55 +185,89 @@ unfolding setAwaited txn
 setAwaited-same t s =
     rw (set-getD t (txnAt s + txnLockAt) 0, set-getD t (txnAt s + txnItemAt) 0, set-getD t (txnAt s + txnRankAt) 0)
 
--- to write the rank is to write the row with this rank
-rank-row : (t : List ℕ) (s p : ℕ) → set t (txnAt s + txnRankAt) p ≡ setTxn t s (withRank (txn t s) p)
-unfolding setTxn txn
-rank-row t s p =
-    sym
-    (put-set (txnAt s) (wordsFrom t (txnAt s) 0 txnRow) t 0 txnRankAt p (omega arith)
-    ∙ ap (λ (u : List ℕ). set u (txnAt s + txnRankAt) p) (put-words (txnAt s) txnRow t 0))
+-- ---- one word of each row, that at the place k
+-- the words of a row, read and written back
+length-words : (n b k : ℕ) (l : List ℕ) → length (wordsFrom l b k n) ≡ n
+length-words zero b k l = refl
+length-words (suc n) b k l = ap suc (length-words n b (suc k) l)
 
--- ---- the ranks of the n first rows
-pub length-reranked : (n : ℕ) (f : Txn → ℕ) (t : List ℕ) → length (reranked n f t) ≡ length t
-unfolding reranked
-length-reranked zero f t = refl
-length-reranked (suc n) f t = length-set (reranked n f t) (txnAt n + txnRankAt) (f (txn t n)) ∙ length-reranked n f t
+words-at : (n b k : ℕ) (l : List ℕ) (i : ℕ) → i < n → getD (wordsFrom l b k n) i 0 ≡ getD l (b + (k + i)) 0
+words-at zero b k l i h = absurd (omega arith)
+words-at (suc n) b k l zero h = ap (λ (j : ℕ). getD l j 0) (behind-is b k ∙ ap (λ (j : ℕ). b + j) (sym (add-zero k)))
+words-at (suc n) b k l (suc i) h =
+    words-at n b (suc k) l i (omega arith) ∙ ap (λ (j : ℕ). getD l (b + j) 0) (let e : suc k + i ≡ k + suc i = omega arith in e)
 
--- a word that is none of them
-pub word-reranked : (n : ℕ) (f : Txn → ℕ) (t : List ℕ) (j : ℕ) → NoRank n j → getD (reranked n f t) j 0 ≡ getD t j 0
-unfolding reranked
-word-reranked zero f t j d = refl
-word-reranked (suc n) f t j d =
-    getD-set-other (reranked n f t) (txnAt n + txnRankAt) j (f (txn t n)) 0 (d n (omega arith)) ∙ word-reranked n f t j (λ r h. d r (omega arith))
+words-back : (ws : List ℕ) → length ws ≡ txnRow → txnWordsOf (txnIn ws) ≡ ws
+words-back ws e =
+    ext-getD 0 (wordsFrom ws 0 0 txnRow) ws (length-words txnRow 0 0 ws ∙ sym e)
+    (λ i h. words-at txnRow 0 0 ws i (omega (arith, length-words txnRow 0 0 ws)) ∙ ap (λ (j : ℕ). getD ws j 0) (let z : 0 + (0 + i) ≡ i = omega arith in z))
 
--- a row behind them, and one of them
-pub txn-reranked-out : (n : ℕ) (f : Txn → ℕ) (t : List ℕ) (s : ℕ) → n ≤ s → txn (reranked n f t) s ≡ txn t s
-unfolding reranked
-txn-reranked-out zero f t s h = refl
-txn-reranked-out (suc n) f t s h =
-    ap (λ (u : List ℕ). txn u s) (rank-row (reranked n f t) n (f (txn t n)))
-    ∙ txn-setTxn-other (reranked n f t) n (withRank (txn (reranked n f t) n) (f (txn t n))) s (λ e. omega arith)
-    ∙ txn-reranked-out n f t s (omega arith)
+module _ (k : ℕ) (within : k < txnRow) where
+  -- to write it is to write the row with it
+  pub word-row : (t : List ℕ) (s w : ℕ) → set t (txnAt s + k) w ≡ setTxn t s (withWord k (txn t s) w)
+  unfolding setTxn txn
+  word-row t s w =
+      sym
+      (ap (λ (vs : List ℕ). putFrom t (txnAt s) 0 vs) (words-back (set ws k w) (length-set ws k w))
+      ∙ put-set (txnAt s) ws t 0 k w within
+      ∙ ap (λ (j : ℕ). set (putFrom t (txnAt s) 0 ws) (txnAt s + j) w) (zero-add k)
+      ∙ ap (λ (u : List ℕ). set u (txnAt s + k) w) (put-words (txnAt s) txnRow t 0))
+    where
+      ws : List ℕ
+      ws = wordsFrom t (txnAt s) 0 txnRow
 
-pub txn-reranked :
-    (S : Sizes) (t : List ℕ) → length t ≡ txnWords S → (n : ℕ) → n ≤ S .slots → (f : Txn → ℕ) (s : ℕ) → s < n
-    → txn (reranked n f t) s ≡ withRank (txn t s) (f (txn t s))
-unfolding reranked
-txn-reranked S t e zero m f s h = absurd (omega arith)
-txn-reranked S t e (suc n) m f s h =
-    ap (λ (u : List ℕ). txn u s) (rank-row (reranked n f t) n (f (txn t n))) ∙ go (below? s n) (txn-reranked S t e n (omega arith) f s)
-  where
-    v : Txn
-    v = withRank (txn (reranked n f t) n) (f (txn t n))
+  pub length-reworded : (n : ℕ) (f : Txn → ℕ) (t : List ℕ) → length (reworded k n f t) ≡ length t
+  unfolding reworded
+  length-reworded zero f t = refl
+  length-reworded (suc n) f t = length-set (reworded k n f t) (txnAt n + k) (f (txn t n)) ∙ length-reworded n f t
 
-    go : (s < n) ⊎ (n ≤ s) → (s < n → txn (reranked n f t) s ≡ withRank (txn t s) (f (txn t s))) → txn (setTxn (reranked n f t) n v) s ≡ withRank (txn t s) (f (txn t s))
-    go (inl l) r = txn-setTxn-other (reranked n f t) n v s (λ q. omega arith) ∙ r l
-    go (inr l) r =
-        let q : s ≡ n = omega arith in
-        ap (λ (m : ℕ). txn (setTxn (reranked n f t) n v) m) q
-        ∙ txn-setTxn (reranked n f t) n v S (length-reranked n f t ∙ e) (omega arith)
-        ∙ ap (λ (w : Txn). withRank w (f (txn t n))) (txn-reranked-out n f t n (omega arith))
-        ∙ ap (λ (m : ℕ). withRank (txn t m) (f (txn t m))) (sym q)
+  -- a word that is none of them
+  pub word-reworded : (n : ℕ) (f : Txn → ℕ) (t : List ℕ) (j : ℕ) → NoWord k n j → getD (reworded k n f t) j 0 ≡ getD t j 0
+  unfolding reworded
+  word-reworded zero f t j d = refl
+  word-reworded (suc n) f t j d =
+      getD-set-other (reworded k n f t) (txnAt n + k) j (f (txn t n)) 0 (d n (omega arith)) ∙ word-reworded n f t j (λ r h. d r (omega arith))
+
+  -- the head is none of them
+  pub head-reworded : (n : ℕ) (f : Txn → ℕ) (t : List ℕ) (j : ℕ) → j < txnHead → getD (reworded k n f t) j 0 ≡ getD t j 0
+  head-reworded n f t j h = word-reworded n f t j (λ r i e. omega arith)
+
+  -- a row behind them, and one of them
+  pub txn-reworded-out : (n : ℕ) (f : Txn → ℕ) (t : List ℕ) (s : ℕ) → n ≤ s → txn (reworded k n f t) s ≡ txn t s
+  unfolding reworded
+  txn-reworded-out zero f t s h = refl
+  txn-reworded-out (suc n) f t s h =
+      ap (λ (u : List ℕ). txn u s) (word-row (reworded k n f t) n (f (txn t n)))
+      ∙ txn-setTxn-other (reworded k n f t) n (withWord k (txn (reworded k n f t) n) (f (txn t n))) s (λ e. omega arith)
+      ∙ txn-reworded-out n f t s (omega arith)
+
+  pub txn-reworded :
+      (S : Sizes) (t : List ℕ) → length t ≡ txnWords S → (n : ℕ) → n ≤ S .slots → (f : Txn → ℕ) (s : ℕ) → s < n
+      → txn (reworded k n f t) s ≡ withWord k (txn t s) (f (txn t s))
+  unfolding reworded
+  txn-reworded S t e zero m f s h = absurd (omega arith)
+  txn-reworded S t e (suc n) m f s h =
+      ap (λ (u : List ℕ). txn u s) (word-row (reworded k n f t) n (f (txn t n))) ∙ go (below? s n) (txn-reworded S t e n (omega arith) f s)
+    where
+      v : Txn
+      v = withWord k (txn (reworded k n f t) n) (f (txn t n))
+
+      go : (s < n) ⊎ (n ≤ s) → (s < n → txn (reworded k n f t) s ≡ withWord k (txn t s) (f (txn t s))) → txn (setTxn (reworded k n f t) n v) s ≡ withWord k (txn t s) (f (txn t s))
+      go (inl l) r = txn-setTxn-other (reworded k n f t) n v s (λ q. omega arith) ∙ r l
+      go (inr l) r =
+          let q : s ≡ n = omega arith in
+          ap (λ (m : ℕ). txn (setTxn (reworded k n f t) n v) m) q
+          ∙ txn-setTxn (reworded k n f t) n v S (length-reworded n f t ∙ e) (omega arith)
+          ∙ ap (λ (w : Txn). withWord k w (f (txn t n))) (txn-reworded-out n f t n (omega arith))
+          ∙ ap (λ (m : ℕ). withWord k (txn t m) (f (txn t m))) (sym q)
+
+  -- where each row has the word already, nothing changes
+  pub reworded-same : (n : ℕ) (f : Txn → ℕ) (t : List ℕ) → ((s : ℕ) → s < n → f (txn t s) ≡ getD t (txnAt s + k) 0) → reworded k n f t ≡ t
+  unfolding reworded
+  reworded-same zero f t e = refl
+  reworded-same (suc n) f t e =
+      ap (λ (u : List ℕ). set u (txnAt n + k) (f (txn t n))) (reworded-same n f t (λ s h. e s (omega arith)))
+      ∙ ap (set t (txnAt n + k)) (e n (omega arith)) ∙ set-getD t (txnAt n + k) 0
 
 -- a word before the rows changes no row
 pub txn-top : (t : List ℕ) (j w q : ℕ) → j < txnHead → txn (set t j w) q ≡ txn t q

@@ -10,19 +10,16 @@ use lib.Dec.{T, eqb, eqb→eq}
 use borrow.Author.Tests.{eq-eqb}
 use Rattle.names.specs.declared.Sizes.{Sizes}
 use Rattle.rules.specs.Tables.{Tables, txnWords, lastNumber, clock, Txn, txn, setTxn, withRank, live, liveUpdate, liveSettled, mayHold}
-use Rattle.rules.specs.Tables.{noLock, sharedLock, exclusiveLock, Lock, lock, holds, holdsShared, holdsExclusive, exclusivesOf}
-use Rattle.rules.specs.Waits.{awaits, awaitsOn, waitersOn, exchangersOn, rankFor, raised, noted, closedUp, conflicts, waitsFor, Walk, one, more}
-use Rattle.rules.specs.Good.{Good, GoodTxn, GoodQuota, GoodRanks}
+use Rattle.rules.specs.Tables.{noLock, sharedLock, exclusiveLock, Lock, lock, holds, holdsShared, holdsExclusive}
+use Rattle.rules.specs.Waits.{awaits, awaitsOn, waitersOn, exchangersOn, rankFor, raised, noted, closedUp, conflicts, waitsFor, one, more}
+use Rattle.rules.specs.Good.{Good, GoodRanks}
 use Rattle.rules.specs.Conditions.{Circle}
 use Rattle.rules.specs.Changed.{leaving}
 use Rattle.rules.specs.Step.{withTxns, cleared, awaitsOther}
-use Rattle.rules.proofs.Tests.{same?, true-is, false-is, eq-make, ne-make, not-make, and-left, and-right, and-both, or-left, or-right}
+use Rattle.rules.proofs.Tests.{same?, true-is, false-is, ne-make, not-make, and-left, and-right, and-both, or-left, or-right}
 use Rattle.rules.proofs.Counts.{count-none}
 use Rattle.rules.proofs.Views.{awaiting, setAwaited-row, length-setTxn, lastNumber-setTxn, clock-setTxn, txn-setTxn, txn-setTxn-other}
-use Rattle.rules.proofs.EqualRows.{live-number, update-live, query-live}
 use Rattle.rules.proofs.EqualRanks.{awaits→, →awaits, awaitsOn→, →awaitsOn}
-use Rattle.rules.proofs.Carried.{no-more-same, txn-carried, row-reranked, lock-carried, versions-carried}
-use Rattle.rules.proofs.Quotas.{quotas-but-rank}
 use Rattle.rules.proofs.Walks.{→waits-for}
 use Rattle.rules.proofs.Lines.{leaving-idle, left-ranks, left-links}
 use Rattle.rules.proofs.Joins.{come-ranks}
@@ -191,21 +188,23 @@ module _ (S : Sizes) (t : List ℕ) (size : length t ≡ txnWords S) (s : ℕ) (
   pub cleared-as-closed : (r : ℕ) → r ≢ s → txn (cleared S t s) r ≡ txn (closedUp S t s) r
   cleared-as-closed r d = ap (λ (v : List ℕ). txn v r) is ∙ txn-setTxn-other u s (awaiting (txn u s) noLock 0 0) r d
 
+  -- what does not go by the awaited fields is as it was
+  pub cleared-keeps :
+      {A : Type 0} (h : Txn → A) → ((r : Txn) (k x p : ℕ) → h (awaiting r k x p) ≡ h r) → ((r : Txn) (p : ℕ) → h (withRank r p) ≡ h r)
+      → (r : ℕ) → r < S .slots → h (txn (cleared S t s) r) ≡ h (txn t r)
+  cleared-keeps h a b r i = go (same? r s)
+    where
+      go : (r ≡ s) ⊎ (r ≢ s) → h (txn (cleared S t s) r) ≡ h (txn t r)
+      go (inl e) = ap (λ (m : ℕ). h (txn (cleared S t s) m)) e ∙ ap h cleared-here ∙ a (txn t s) noLock 0 0 ∙ ap (λ (m : ℕ). h (txn t m)) (sym e)
+      go (inr d) = ap h (cleared-there r i d) ∙ b (txn t r) (leaving t s (txn t r))
+
   pub cleared-update : (r : ℕ) → r < S .slots → liveUpdate (txn (cleared S t s) r) ≡ liveUpdate (txn t r)
   unfolding liveUpdate live
-  cleared-update r i = go (same? r s)
-    where
-      go : (r ≡ s) ⊎ (r ≢ s) → liveUpdate (txn (cleared S t s) r) ≡ liveUpdate (txn t r)
-      go (inl e) = ap (λ (m : ℕ). liveUpdate (txn (cleared S t s) m)) e ∙ ap liveUpdate cleared-here ∙ ap (λ (m : ℕ). liveUpdate (txn t m)) (sym e)
-      go (inr d) = ap liveUpdate (cleared-there r i d)
+  cleared-update = cleared-keeps liveUpdate (λ r k x p. refl) (λ r p. refl)
 
   pub cleared-holder : (r : ℕ) → r < S .slots → mayHold (txn (cleared S t s) r) ≡ mayHold (txn t r)
   unfolding mayHold liveUpdate liveSettled live
-  cleared-holder r i = go (same? r s)
-    where
-      go : (r ≡ s) ⊎ (r ≢ s) → mayHold (txn (cleared S t s) r) ≡ mayHold (txn t r)
-      go (inl e) = ap (λ (m : ℕ). mayHold (txn (cleared S t s) m)) e ∙ ap mayHold cleared-here ∙ ap (λ (m : ℕ). mayHold (txn t m)) (sym e)
-      go (inr d) = ap mayHold (cleared-there r i d)
+  cleared-holder = cleared-keeps mayHold (λ r k x p. refl) (λ r p. refl)
 
   pub cleared-idle : T (awaits (txn (cleared S t s) s)) → ⊥
   cleared-idle h = awaits→ (txn (cleared S t s) s) h (ap (λ (w : Txn). w .awaitedLock) cleared-here)

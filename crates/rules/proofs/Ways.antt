@@ -8,11 +8,11 @@ use native.Mathlib.Omega.{arith}
 use lib.Dec.{T}
 use Rattle.names.specs.declared.Sizes.{Sizes}
 use Rattle.names.specs.Sizes.{firstStamp, lastWord}
-use Rattle.rules.specs.Tables.{Tables, lastNumber, clock, txn, liveUpdate, liveQuery, liveSettled, byStart, exclusivesOf}
-use Rattle.rules.specs.Tables.{anUpdate, aQuery, noLock, sharedLock, exclusiveLock, lock, holds, holdsShared, holdsExclusive}
-use Rattle.rules.specs.Answers.{Call, BeginUpdate, BeginQuery, Read, Write, Commit, Abort, Settle, granted, code, Refusal}
-use Rattle.rules.specs.Answers.{Wait, Deadlock, UnknownTransaction, UnknownItem, QueryMayNotWrite, StillWaiting, NoSlot, NumbersSpent, ClockSpent, BadTables, QuotaSpent, PastWriting}
-use Rattle.rules.specs.Answers.{Deed, Refused, Waits, Begins, ReadsByStart, ReadsOwn, ReadsNewest, TakesShared}
+use Rattle.rules.specs.Tables.{Tables, lastNumber, clock, txn, liveUpdate, liveSettled, liveRelaxed, anyQuery, isReader, byStart, exclusivesOf}
+use Rattle.rules.specs.Tables.{anUpdate, aQuery, aRelaxed, noLock, sharedLock, exclusiveLock, lock, holds, holdsShared, holdsExclusive}
+use Rattle.rules.specs.Answers.{Call, BeginUpdate, BeginQuery, Read, Write, Commit, Abort, Settle, BeginRelaxed, granted, code, Refusal}
+use Rattle.rules.specs.Answers.{Wait, Deadlock, UnknownTransaction, UnknownItem, QueryMayNotWrite, StillWaiting, NoSlot, NumbersSpent, ClockSpent, BadTables, QuotaSpent, PastWriting, KeptApart}
+use Rattle.rules.specs.Answers.{Deed, Refused, Waits, Begins, ReadsVersion, ReadsOwn, ReadsNewest, TakesShared}
 use Rattle.rules.specs.Answers.{Replaces, TakesExclusive, Commits, CommitsEmpty, Ends, Aborts, Settles, CommitsSettled, AbortsSettled, asSlot, asItem, asStamp}
 use Rattle.rules.specs.Step.{awaitsOther, heldBack}
 pub use Rattle.rules.specs.Conditions.{Updater}
@@ -33,9 +33,10 @@ refusal-code ClockSpent e = omega arith
 refusal-code BadTables e = omega arith
 refusal-code QuotaSpent e = omega arith
 refusal-code PastWriting e = omega arith
+refusal-code KeptApart e = omega arith
 
 -- and none has a code above the last one
-pub refusal-most : (r : Refusal) → code r ≤ code PastWriting
+pub refusal-most : (r : Refusal) → code r ≤ code KeptApart
 refusal-most Wait = omega arith
 refusal-most Deadlock = omega arith
 refusal-most UnknownTransaction = omega arith
@@ -48,6 +49,7 @@ refusal-most ClockSpent = omega arith
 refusal-most BadTables = omega arith
 refusal-most QuotaSpent = omega arith
 refusal-most PastWriting = omega arith
+refusal-most KeptApart = omega arith
 
 -- a refusal of a call on good tables, that is no wait
 abbrev pub Mere : Refusal → Type 0
@@ -70,6 +72,10 @@ pub data Way (S : Sizes) (G : Tables) : Call → Deed → Type 0 where
   keptWaiting : {c : Call} (s : ℕ) → CallerIn c S G s → T (byStart (txn (G .txns) s)) → Way S G c (Refused Wait)
   beganUpdate : (s : ℕ) → Free S (G .txns) s → lastNumber (G .txns) ≢ lastWord → Way S G BeginUpdate (Begins (asSlot s) anUpdate (asStamp firstStamp))
   beganQuery : (s : ℕ) → Free S (G .txns) s → lastNumber (G .txns) ≢ lastWord → Way S G BeginQuery (Begins (asSlot s) aQuery (asStamp (clock (G .txns))))
+  -- request E11
+  beganRelaxed :
+      (s : ℕ) → Free S (G .txns) s → lastNumber (G .txns) ≢ lastWord → ((r : ℕ) → r < S .slots → T (liveSettled (txn (G .txns) r)) → ⊥)
+      → Way S G BeginRelaxed (Begins (asSlot s) aRelaxed (asStamp firstStamp))
   readOwn : (n s x : ℕ) → Updater S G n s sharedLock x → T (holdsExclusive (lock (G .locks) x) s) → Way S G (Read n x) (ReadsOwn (asSlot s) (asItem x))
   readNewest : (n s x : ℕ) → Updater S G n s sharedLock x → T (holdsShared (lock (G .locks) x) s) → Way S G (Read n x) (ReadsNewest (asSlot s) (asItem x))
   readShared :
@@ -78,9 +84,9 @@ pub data Way (S : Sizes) (G : Tables) : Call → Deed → Type 0 where
   readSettled :
       (n s x : ℕ) → Caller S G n s → T (liveSettled (txn (G .txns) s)) → x < S .items → T (holdsExclusive (lock (G .locks) x) s)
       → Way S G (Read n x) (ReadsOwn (asSlot s) (asItem x))
-  readByStart :
-      (n s x : ℕ) → Caller S G n s → T (byStart (txn (G .txns) s)) → x < S .items → (T (holdsExclusive (lock (G .locks) x) s) → ⊥)
-      → heldBack S (G .txns) (G .locks) x s ≡ false → Way S G (Read n x) (ReadsByStart (asSlot s) (asItem x))
+  readVersion :
+      (n s x : ℕ) → Caller S G n s → T (isReader (txn (G .txns) s)) → x < S .items → (T (holdsExclusive (lock (G .locks) x) s) → ⊥)
+      → heldBack S (G .txns) (G .locks) x s ≡ false → Way S G (Read n x) (ReadsVersion (asSlot s) (asItem x))
   wroteOwn :
       (n s x v : ℕ) → Updater S G n s exclusiveLock x → T (holdsExclusive (lock (G .locks) x) s)
       → Way S G (Write n x v) (Replaces (asSlot s) (asItem x) v)
@@ -98,10 +104,10 @@ pub data Way (S : Sizes) (G : Tables) : Call → Deed → Type 0 where
       (n s : ℕ) → Caller S G n s → T (liveUpdate (txn (G .txns) s)) → (txn (G .txns) s) .awaitedLock ≡ noLock
       → exclusivesOf S (G .locks) s ≡ 0 → Way S G (Commit n) (CommitsEmpty (asSlot s))
   committedSettled : (n s : ℕ) → Caller S G n s → T (liveSettled (txn (G .txns) s)) → Way S G (Commit n) (CommitsSettled (asSlot s))
-  committedQuery : (n s : ℕ) → Caller S G n s → T (liveQuery (txn (G .txns) s)) → Way S G (Commit n) (Ends (asSlot s))
+  committedQuery : (n s : ℕ) → Caller S G n s → T (anyQuery (txn (G .txns) s)) → Way S G (Commit n) (Ends (asSlot s))
   abortedUpdate : (n s : ℕ) → Caller S G n s → T (liveUpdate (txn (G .txns) s)) → Way S G (Abort n) (Aborts (asSlot s))
   abortedSettled : (n s : ℕ) → Caller S G n s → T (liveSettled (txn (G .txns) s)) → Way S G (Abort n) (AbortsSettled (asSlot s))
-  abortedQuery : (n s : ℕ) → Caller S G n s → T (liveQuery (txn (G .txns) s)) → Way S G (Abort n) (Ends (asSlot s))
+  abortedQuery : (n s : ℕ) → Caller S G n s → T (anyQuery (txn (G .txns) s)) → Way S G (Abort n) (Ends (asSlot s))
   settledUpdate :
       (n s : ℕ) → Caller S G n s → T (liveUpdate (txn (G .txns) s)) → (txn (G .txns) s) .awaitedLock ≡ noLock → clock (G .txns) ≢ lastWord
-      → Way S G (Settle n) (Settles (asSlot s))
+      → ((q : ℕ) → q < S .slots → T (liveRelaxed (txn (G .txns) q)) → ⊥) → Way S G (Settle n) (Settles (asSlot s))

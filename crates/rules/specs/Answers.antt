@@ -10,15 +10,15 @@ use Rattle.names.specs.Answers.{answer, refusal}
 use Rattle.rules.specs.Tables.{Tables, tables}
 -- a call with its words
 pub use Rattle.names.specs.declared.calls.Call.{Call}
-pub use Rattle.names.specs.declared.calls.Call.the-variants.{BeginUpdate, BeginQuery, Read, Write, Commit, Abort, Settle}
+pub use Rattle.names.specs.declared.calls.Call.the-variants.{BeginUpdate, BeginQuery, Read, Write, Commit, Abort, Settle, BeginRelaxed}
 -- why a call is refused, and the codes
 pub use Rattle.names.specs.declared.deeds.Refusal.{Refusal}
 pub use Rattle.names.specs.declared.deeds.Refusal.the-variants.{Wait, Deadlock, UnknownTransaction, UnknownItem, QueryMayNotWrite, StillWaiting}
-pub use Rattle.names.specs.declared.deeds.Refusal.the-variants.{NoSlot, NumbersSpent, ClockSpent, BadTables, QuotaSpent, PastWriting}
+pub use Rattle.names.specs.declared.deeds.Refusal.the-variants.{NoSlot, NumbersSpent, ClockSpent, BadTables, QuotaSpent, PastWriting, KeptApart}
 pub use Rattle.names.specs.Answers.{granted, code}
 -- what a call comes to
 pub use Rattle.names.specs.declared.deeds.Deed.{Deed}
-pub use Rattle.names.specs.declared.deeds.Deed.the-variants.{Refused, Waits, Begins, ReadsByStart, ReadsOwn, ReadsNewest, TakesShared}
+pub use Rattle.names.specs.declared.deeds.Deed.the-variants.{Refused, Waits, Begins, ReadsVersion, ReadsOwn, ReadsNewest, TakesShared}
 pub use Rattle.names.specs.declared.deeds.Deed.the-variants.{Replaces, TakesExclusive, Commits, CommitsEmpty, Ends, Aborts, Settles, CommitsSettled, AbortsSettled}
 
 -- a word as a slot, an item, a stamp

@@ -9,12 +9,12 @@ use lib.Dec.{T}
 use Rattle.names.specs.declared.Sizes.{Sizes}
 use Rattle.names.specs.Sizes.{lastWord}
 use Rattle.rules.specs.Tables.{Tables, lastNumber, clock, txn, noLock, sharedLock, exclusiveLock}
-use Rattle.rules.specs.Tables.{live, liveUpdate, liveQuery, liveSettled, byStart, Lock, lock, holdsShared, holdsExclusive, exclusivesOf}
+use Rattle.rules.specs.Tables.{live, liveUpdate, anyQuery, liveSettled, liveRelaxed, byStart, Lock, lock, holdsShared, holdsExclusive, exclusivesOf}
 use Rattle.rules.specs.Waits.{rankFor, blocks, noted, waitsFor, Walk}
 use Rattle.rules.specs.Good.{Good}
-use Rattle.rules.specs.Answers.{Call, BeginUpdate, BeginQuery, Read, Write, Commit, Abort, Settle, granted, code, Refusal}
+use Rattle.rules.specs.Answers.{Call, BeginUpdate, BeginQuery, Read, Write, Commit, Abort, Settle, BeginRelaxed, granted, code, Refusal}
 use Rattle.rules.specs.Answers.{Wait, Deadlock, UnknownTransaction, UnknownItem, QueryMayNotWrite, StillWaiting}
-use Rattle.rules.specs.Answers.{NoSlot, NumbersSpent, ClockSpent, BadTables, QuotaSpent, PastWriting}
+use Rattle.rules.specs.Answers.{NoSlot, NumbersSpent, ClockSpent, BadTables, QuotaSpent, PastWriting, KeptApart}
 use Rattle.rules.specs.Step.{awaitsOther, holdsBack}
 
 -- the transaction with the number n lives in slot s
@@ -45,6 +45,7 @@ Names (Write m x v) n = m ≡ n
 Names (Commit m) n = m ≡ n
 Names (Abort m) n = m ≡ n
 Names (Settle m) n = m ≡ n
+Names BeginRelaxed n = ⊥
 
 -- the call asks for a lock of kind k on item x, if its caller is an update
 abbrev pub Wants : Call → ℕ → ℕ → Type 0
@@ -55,6 +56,7 @@ Wants (Write m y v) k x = (k ≡ exclusiveLock) × (y ≡ x)
 Wants (Commit m) k x = ⊥
 Wants (Abort m) k x = ⊥
 Wants (Settle m) k x = ⊥
+Wants BeginRelaxed k x = ⊥
 
 -- the call is a settle
 abbrev pub IsSettle : Call → Type 0
@@ -107,9 +109,9 @@ When S c G Deadlock = (s : ℕ) × (k : ℕ) × (x : ℕ) × ConflictIn c S G s 
 When S c G UnknownTransaction = (s : ℕ) → CallerIn c S G s → ⊥
 -- "item above 63"
 When S c G UnknownItem = (k : ℕ) × (x : ℕ) × Wants c k x × (S .items ≤ x)
--- "write by a query"; request E6: a settle "5 for a query"
+-- "write by a query"; request E6: a settle "5 for a query"; request E11: relaxed or not
 When S c G QueryMayNotWrite =
-    (s : ℕ) × CallerIn c S G s × T (liveQuery (txn (G .txns) s)) × (((x : ℕ) × Wants c exclusiveLock x) ⊎ IsSettle c)
+    (s : ℕ) × CallerIn c S G s × T (anyQuery (txn (G .txns) s)) × (((x : ℕ) × Wants c exclusiveLock x) ⊎ IsSettle c)
 -- "caller awaits, and this is neither abort nor its awaited call"
 When S c G StillWaiting =
     (s : ℕ) × CallerIn c S G s × ((txn (G .txns) s) .awaitedLock ≢ noLock)
@@ -133,10 +135,14 @@ When S c G QuotaSpent =
 When S c G PastWriting =
     (s : ℕ) × CallerIn c S G s × T (liveSettled (txn (G .txns) s))
     × (((x : ℕ) × Wants c exclusiveLock x × (T (holdsExclusive (lock (G .locks) x) s) → ⊥)) ⊎ IsSettle c)
+-- request E11: "Ending the writing (E6) while a relaxed query lives, or beginning one while a transaction is past its writing"
+When S c G KeptApart =
+    (IsSettle c × ((q : ℕ) × (q < S .slots) × T (liveRelaxed (txn (G .txns) q))))
+    ⊎ ((c ≡ BeginRelaxed) × ((s : ℕ) × (s < S .slots) × T (liveSettled (txn (G .txns) s))))
 
 -- ---- "Order: 10; then for begin 7, 8; for read and write 3, 4, 5, 6, then 2 or 1; for commit 3, 6, 9; for abort 3."
 -- Request E2: the test of 11 "comes after 6 and before the conflict." Request E6: 12 is "tested before 11"; of a settle "10, 3, 5 for a
--- query, 12 if already past its writing, 6, 9"
+-- query, 12 if already past its writing, 6, 9". Request E11: 13 is "tested last"
 unfoldable pub thenTested : Call → List Refusal
 thenTested BeginUpdate = NoSlot ∷ NumbersSpent ∷ []
 thenTested BeginQuery = NoSlot ∷ NumbersSpent ∷ []
@@ -146,7 +152,8 @@ thenTested (Write n x v) =
     UnknownTransaction ∷ UnknownItem ∷ QueryMayNotWrite ∷ StillWaiting ∷ PastWriting ∷ QuotaSpent ∷ Deadlock ∷ Wait ∷ []
 thenTested (Commit n) = UnknownTransaction ∷ StillWaiting ∷ ClockSpent ∷ []
 thenTested (Abort n) = UnknownTransaction ∷ []
-thenTested (Settle n) = UnknownTransaction ∷ QueryMayNotWrite ∷ PastWriting ∷ StillWaiting ∷ ClockSpent ∷ []
+thenTested (Settle n) = UnknownTransaction ∷ QueryMayNotWrite ∷ PastWriting ∷ StillWaiting ∷ ClockSpent ∷ KeptApart ∷ []
+thenTested BeginRelaxed = NoSlot ∷ NumbersSpent ∷ KeptApart ∷ []
 
 unfoldable pub order : Call → List Refusal
 order c = BadTables ∷ thenTested c

@@ -1,6 +1,6 @@
 -- Document 01, "Tables are good when all of this holds": a field for each clause, in the document's order. The test that the calls
 -- make is in Tested; the two are proved equal.
-use Prim.Native.Nat.{ℕ, _-_, _*_, _≤_, _<_}
+use Prim.Native.Nat.{ℕ, _+_, _-_, _*_, _^_, _≤_, _<_}
 use mathlib.Core.Path.{_≡_}
 use mathlib.Core.Logic.{_≢_, _⊎_, _↔_}
 use mathlib.Core.List.{List}
@@ -8,11 +8,11 @@ use lib.ListN.{getD, length}
 use lib.Dec.{T}
 use Rattle.names.specs.declared.Sizes.{Sizes}
 use Rattle.names.specs.Sizes.{lastWord}
-use Rattle.rules.specs.Words.{row}
-use Rattle.rules.specs.Tables.{Tables, txnWords, lockWords, versionWords, versionRow}
-use Rattle.rules.specs.Tables.{lastNumber, clock, Txn, txn, noTxn, live, liveUpdate, liveSettled, mayHold, byStart}
-use Rattle.rules.specs.Tables.{anUpdate, aQuery, aSettled, noLock, sharedLock, exclusiveLock, Lock, lock, holds, holdsShared, holdsExclusive, exclusivesOf}
-use Rattle.rules.specs.Versions.{versionsIn, versionsOf, stampAt, place}
+use Rattle.rules.specs.Words.{row, bit}
+use Rattle.rules.specs.Tables.{Tables, txnWords, lockWords, versionWords, versionRow, masksAt, readerIn}
+use Rattle.rules.specs.Tables.{lastNumber, clock, Txn, txn, noTxn, live, liveUpdate, liveSettled, liveRelaxed, mayHold, byStart, isReader}
+use Rattle.rules.specs.Tables.{anUpdate, aQuery, aSettled, aRelaxed, noLock, sharedLock, exclusiveLock, Lock, lock, holds, holdsShared, holdsExclusive, exclusivesOf}
+use Rattle.rules.specs.Versions.{noVersion, versionsIn, versionsOf, stampAt, hiddenAt, hiddenNow, sees, place}
 use Rattle.rules.specs.Waits.{awaits, awaitsOn, waitersOn, waitsFor, Walk}
 
 -- ---- request E8: the clauses on the read count and the weight sum of the row r
@@ -24,6 +24,14 @@ pub record GoodReads (r : Txn) : Type 0 where
   pub updateCount : T (mayHold r) → r .readCount ≡ 0
   pub updateSum : T (mayHold r) → r .weightSum ≡ 0
 
+-- ---- request E11: the clauses on the items read and the sets joined of the row r
+pub record GoodNotes (S : Sizes) (r : Txn) : Type 0 where
+  -- the items that are noted as read are items, and only a relaxed query has them
+  pub itemsMost : r .itemsRead < 2 ^ S .items
+  pub onlyRelaxed : (T (liveRelaxed r) → ⊥) → r .itemsRead ≡ 0
+  -- only an update is in sets; those past their writing meet no relaxed query
+  pub onlyUpdates : (T (liveUpdate r) → ⊥) → r .laterFor ≡ 0
+
 -- ---- the clauses on the row r of slot s; t and l are the words of the transactions and of the locks
 pub record GoodTxn (S : Sizes) (t l : List ℕ) (s : ℕ) (r : Txn) : Type 0 where
   -- "A free row is all zeros"
@@ -31,13 +39,14 @@ pub record GoodTxn (S : Sizes) (t l : List ℕ) (s : ℕ) (r : Txn) : Type 0 whe
   -- "live numbers are .. from 1 to the last given"
   pub given : r .number ≤ lastNumber t
   -- "kinds and awaited locks are as listed"
-  pub kindListed : (r .kind ≡ anUpdate) ⊎ ((r .kind ≡ aQuery) ⊎ (r .kind ≡ aSettled))
+  pub kindListed : (r .kind ≡ anUpdate) ⊎ ((r .kind ≡ aQuery) ⊎ ((r .kind ≡ aSettled) ⊎ (r .kind ≡ aRelaxed)))
   pub lockListed : r .awaitedLock ≤ exclusiveLock
   -- "an update's start is 0, a query's is at most the clock, and a query awaits nothing"; request E6: such a row "awaits nothing; its
-  -- stamp is 1 to the clock"
+  -- stamp is 1 to the clock"; request E11: of a relaxed query "start 0"
   pub updateStart : T (liveUpdate r) → r .start ≡ 0
+  pub relaxedStart : T (liveRelaxed r) → r .start ≡ 0
   pub readerStart : T (byStart r) → r .start ≤ clock t
-  pub readerIdle : T (byStart r) → r .awaitedLock ≡ noLock
+  pub readerIdle : T (isReader r) → r .awaitedLock ≡ noLock
   pub settledStart : T (liveSettled r) → 1 ≤ r .start
   -- "an awaited item is below 64, and 0 where nothing is awaited"
   pub itemKnown : r .awaitedLock ≢ noLock → r .awaitedItem < S .items
@@ -46,6 +55,8 @@ pub record GoodTxn (S : Sizes) (t l : List ℕ) (s : ℕ) (r : Txn) : Type 0 whe
   pub rankUnused : r .awaitedLock ≡ noLock → r .rank ≡ 0
   -- request E8
   pub readsGood : GoodReads r
+  -- request E11
+  pub notesGood : GoodNotes S r
   -- "who awaits shared holds nothing on that item, who awaits exclusive does not hold it exclusively"
   pub awaitsShared : r .awaitedLock ≡ sharedLock → T (holds (lock l (r .awaitedItem)) s) → ⊥
   pub awaitsExclusive : r .awaitedLock ≡ exclusiveLock → T (holdsExclusive (lock l (r .awaitedItem)) s) → ⊥
@@ -85,18 +96,28 @@ pub record GoodVersions (S : Sizes) (t r : List ℕ) : Type 0 where
   -- "A version count is 1 to 16", to 32 since request E5
   pub countLeast : 1 ≤ getD r 0 0
   pub countMost : getD r 0 0 ≤ S .places
-  -- "unused pairs are zero"
-  pub unused : (k : ℕ) → 2 * getD r 0 0 < k → getD r k 0 ≡ 0
+  -- "unused pairs are zero", and so are the words of whom they are hidden from
+  pub unused : (k : ℕ) → 2 * getD r 0 0 < k → k < masksAt S → getD r k 0 ≡ 0
+  pub unhidden : (k : ℕ) → getD r 0 0 ≤ k → getD r (masksAt S + k) 0 ≡ 0
   -- "stamps fall strictly"
-  pub fall : (i j : ℕ) → i < j → j < length (versionsIn r) → stampAt (versionsIn r) j < stampAt (versionsIn r) i
+  pub fall : (i j : ℕ) → i < j → j < length (versionsIn S r) → stampAt (versionsIn S r) j < stampAt (versionsIn S r) i
+  -- request E11: who overwrites a version whose creator is in a set joins it, so whatever is newer than a hidden version is hidden too
+  pub nest :
+      (i j : ℕ) → i < j → j < length (versionsIn S r)
+      → (q : ℕ) → T (bit (hiddenAt (versionsIn S r) j) q) → T (bit (hiddenAt (versionsIn S r) i) q)
+  -- and it is from relaxed queries that versions are hidden
+  pub fromRelaxed : (k q : ℕ) → T (bit (hiddenAt (versionsIn S r) k) q) → (q < S .slots) × T (liveRelaxed (txn t q))
   -- "the first is at most the clock"
-  pub first : stampAt (versionsIn r) 0 ≤ clock t
-  -- "the last is at most every live query's start"; request E6 counts those past their writing as queries here
-  pub last : (s : ℕ) → s < S .slots → T (byStart (txn t s)) → stampAt (versionsIn r) (length (versionsIn r) - 1) ≤ (txn t s) .start
+  pub first : stampAt (versionsIn S r) 0 ≤ clock t
+  -- "the last is at most every live query's start"; request E6 counts those past their writing as queries here, and of request E11 the
+  -- last is hidden from no relaxed one: every reader may read the last
+  pub last :
+      (s : ℕ) → s < S .slots → T (isReader (txn t s))
+      → T (sees (readerIn t s) (getD (versionsIn S r) (length (versionsIn S r) - 1) noVersion))
   -- "A version that is not the newest is there exactly if some live query reads it."
   pub reads :
       (k : ℕ) → 0 < k
-      → (k < length (versionsIn r)) ↔ ((s : ℕ) × (s < S .slots) × T (byStart (txn t s)) × (place ((txn t s) .start) (versionsIn r) ≡ k))
+      → (k < length (versionsIn S r)) ↔ ((s : ℕ) × (s < S .slots) × T (isReader (txn t s)) × (place (readerIn t s) (versionsIn S r) ≡ k))
 
 -- ---- request E6: the clauses on those past their writing
 pub record GoodSettled (S : Sizes) (G : Tables) : Type 0 where
@@ -108,6 +129,25 @@ pub record GoodSettled (S : Sizes) (G : Tables) : Type 0 where
   pub above :
       (s x : ℕ) → s < S .slots → x < S .items → T (liveSettled (txn (G .txns) s)) → T (holdsExclusive (lock (G .locks) x) s)
       → stampAt (versionsOf S (G .versions) x) 0 < (txn (G .txns) s) .start
+
+-- ---- request E11: the clauses on relaxed queries, and on the sets of later updates that they have
+pub record GoodSets (S : Sizes) (G : Tables) : Type 0 where
+  -- "Ending the writing while a relaxed query lives, or beginning one while a transaction is past its writing, gets code 13": so the two
+  -- are never there together
+  pub apart :
+      (r s : ℕ) → r < S .slots → s < S .slots → T (liveSettled (txn (G .txns) r)) → T (liveRelaxed (txn (G .txns) s)) → ⊥
+  -- sets are those of relaxed queries
+  pub ofRelaxed :
+      (s q : ℕ) → s < S .slots → T (bit ((txn (G .txns) s) .laterFor) q) → (q < S .slots) × T (liveRelaxed (txn (G .txns) q))
+  -- "An update joins when it asks to write what the query has read .., when the query reads what it holds exclusively, or when it reads
+  -- or overwrites a version whose creator is in the set.": so who holds an item exclusively is in the sets of those who have read it
+  pub holdsRead :
+      (x s q : ℕ) → x < S .items → q < S .slots → T (holdsExclusive (lock (G .locks) x) s) → T (bit ((txn (G .txns) q) .itemsRead) x)
+      → T (bit ((txn (G .txns) s) .laterFor) q)
+  -- and who holds it, either way, in those from which its newest version is hidden
+  pub holdsHidden :
+      (x s q : ℕ) → x < S .items → T (holds (lock (G .locks) x) s) → T (bit (hiddenNow S (G .versions) x) q)
+      → T (bit ((txn (G .txns) s) .laterFor) q)
 
 pub record Good (S : Sizes) (G : Tables) : Type 0 where
   -- "The sizes are exact."
@@ -132,5 +172,7 @@ pub record Good (S : Sizes) (G : Tables) : Type 0 where
   pub ranksGood : GoodRanks S (G .txns) (G .locks)
   -- request E6
   pub settledGood : GoodSettled S G
+  -- request E11
+  pub setsGood : GoodSets S G
   -- "No circle of waits exists."
   pub noCircle : (s : ℕ) → Walk (waitsFor (G .txns) (G .locks)) s s → ⊥

@@ -1,5 +1,5 @@
--- Document 01, in its order: the tables, when they are good, the calls (its six, and the seventh of request E6), what comes back. Then what
--- is promised of them.
+-- Document 01, in its order: the tables, when they are good, the calls (its six, the seventh of request E6, the eighth of request
+-- E11), what comes back. Then what is promised of them.
 pub mod Words
 pub mod Tables
 pub mod Versions

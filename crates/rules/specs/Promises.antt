@@ -3,19 +3,21 @@
 use Prim.Native.Nat.{ℕ, suc, _+_, _≤_, _<_}
 use mathlib.Core.Path.{_≡_}
 use mathlib.Core.Logic.{_≢_, _⊎_, _↔_}
-use mathlib.Core.Bool.{Bool, false, cond, _&&_, _||_}
+use mathlib.Core.Bool.{Bool, true, false, cond, _&&_, _||_, not}
 use mathlib.Core.List.{List, [], _∷_}
 use lib.ListN.{length, getD}
-use lib.Dec.{T, ltb}
+use lib.Bits.{bitOr}
+use lib.Dec.{T, eqb, ltb}
 use Rattle.names.specs.declared.Sizes.{Sizes}
-use Rattle.rules.specs.Words.{someBelow}
-use Rattle.rules.specs.Tables.{Tables, clock, Txn, txn, withRank, live, liveUpdate, liveSettled, byStart, starts, noLock, Lock, lock, holds, holdsShared, holdsExclusive}
-use Rattle.rules.specs.Versions.{Version, noVersion, versionsOf, stampAt, place, choice}
+use Rattle.rules.specs.Words.{someBelow, bit}
+use Rattle.rules.specs.Tables.{Tables, clock, Txn, txn, withRank, withLaterFor, live, liveUpdate, liveSettled, liveRelaxed, byStart, isReader}
+use Rattle.rules.specs.Tables.{Reader, upTo, outside, readerIn, readers, noLock, sharedLock, exclusiveLock, Lock, lock, holds, holdsShared, holdsExclusive}
+use Rattle.rules.specs.Versions.{Version, noVersion, versionsOf, hiddenAt, hiddenNow, sees, place, choice, revealed}
 use Rattle.rules.specs.Waits.{awaitsOn, waitersOn, rankFor, raised, blocks, waitsFor, Walk}
 use Rattle.rules.specs.Good.{Good}
 use Rattle.rules.specs.Locks.{Asked, toRead, toWrite, wanted}
-use Rattle.rules.specs.Answers.{Call, Read, Write, Abort, Outcome, says, granted, code, Wait, Deadlock}
-use Rattle.rules.specs.Step.{step, holdsBack, heldBack, writesFurther, withTxns, counted, withNew, committed, settledCommitted, ended, settledAborted}
+use Rattle.rules.specs.Answers.{Call, Read, Write, Commit, Abort, Outcome, says, granted, code, Wait, Deadlock, StillWaiting}
+use Rattle.rules.specs.Step.{step, holdsBack, heldBack, writesFurther, withTxns, askingJoins, joining, readNoted, counted, withNew, committed, settledCommitted, ended, settledAborted}
 use Rattle.rules.specs.Conditions.{Caller, CallerIn, Updater, Names, Wants, NeedsLock, Circle, order, Answered}
 use Rattle.rules.specs.Changed.{AwaitedChanged, Granted}
 
@@ -44,8 +46,8 @@ RefusedUnchanged S = (c : Call) (G : Tables) → codeOf S c G ≢ granted → co
 abbrev pub coming : Sizes → Tables → ℕ → ℕ → Txn → ℕ
 coming S G s x q = cond (awaitsOn x (txn (G .txns) s)) (q .rank) (raised x (rankFor S (G .txns) (G .locks) s x) q)
 
--- ".. only a wait is noted down": "only the caller's awaited fields", and since request E4 the ranks behind it. Request E6: so waits an
--- update that still writes, and the waits of those who read by a start "change no word" (Refused)
+-- ".. only a wait is noted down": "only the caller's awaited fields", since request E4 the ranks behind it, and since request E11 the sets
+-- that it joins. Request E6: so waits an update that still writes, and the waits of those who read by a start "change no word" (Refused)
 pub record Noted (S : Sizes) (c : Call) (G : Tables) : Type 0 where
   pub slot : ℕ
   pub lockKind : ℕ
@@ -54,7 +56,8 @@ pub record Noted (S : Sizes) (c : Call) (G : Tables) : Type 0 where
   pub update : T (liveUpdate (txn (G .txns) slot))
   pub wants : Wants c lockKind item
   pub txns :
-      AwaitedChanged S slot lockKind item (rankFor S (G .txns) (G .locks) slot item) (coming S G slot item) (G .txns) ((after S c G) .txns)
+      AwaitedChanged S slot lockKind item (rankFor S (G .txns) (G .locks) slot item)
+      (bitOr ((txn (G .txns) slot) .laterFor) (askingJoins S (G .txns) lockKind item)) (coming S G slot item) (G .txns) ((after S c G) .txns)
   pub locks : (after S c G) .locks ≡ G .locks
   pub versions : (after S c G) .versions ≡ G .versions
 
@@ -124,12 +127,12 @@ GrantedHolds S =
 
 -- ==== waiting
 
--- the same row, but for the rank
+-- the same row, but for the rank and, since request E11, the sets to which it belongs
 abbrev pub SameButRank : Txn → Txn → Type 0
-SameButRank q r = q ≡ withRank r (q .rank)
+SameButRank q r = q ≡ withLaterFor (withRank r (q .rank)) (q .laterFor)
 
 -- "A waiting transaction stays so until it makes the same kind of call on the same item again and is granted, or is aborted": else its
--- row stays as it is but for its rank, whoever calls (Waiting)
+-- row stays as it is but for its rank and its sets, whoever calls (Waiting)
 abbrev pub StaysWaiting : Sizes → Type 0
 StaysWaiting S =
     (c : Call) (G : Tables) (s : ℕ) → Good S G → s < S .slots → (txn (G .txns) s) .awaitedLock ≢ noLock
@@ -137,18 +140,20 @@ StaysWaiting S =
     ⊎ ((Names c ((txn (G .txns) s) .number) × Wants c ((txn (G .txns) s) .awaitedLock) ((txn (G .txns) s) .awaitedItem) × (codeOf S c G ≡ granted))
     ⊎ (c ≡ Abort ((txn (G .txns) s) .number)))
 
--- calls by others leave the row of a live transaction as it is, but for its rank (Waiting)
+-- calls by others leave the row of a live transaction as it is, but for its rank and its sets (Waiting); how these change is `JoinsExactly`
 abbrev pub OthersLeave : Sizes → Type 0
 OthersLeave S =
     (c : Call) (G : Tables) (s : ℕ) → Good S G → s < S .slots → T (live (txn (G .txns) s))
     → (Names c ((txn (G .txns) s) .number) → ⊥) → SameButRank (txn ((after S c G) .txns) s) (txn (G .txns) s)
 
--- the awaited call made again is never a deadlock, and if it waits again no word changes (Waiting)
+-- the awaited call made again is never a deadlock, and if it waits again no word changes but, since request E11, the sets that it joins
+-- where it asks to write (Waiting)
 abbrev pub RepeatedWaits : Sizes → Type 0
 RepeatedWaits S =
     (c : Call) (G : Tables) (s : ℕ) → Good S G → CallerIn c S G s → (txn (G .txns) s) .awaitedLock ≢ noLock
     → Wants c ((txn (G .txns) s) .awaitedLock) ((txn (G .txns) s) .awaitedItem)
-    → (codeOf S c G ≢ code Deadlock) × (codeOf S c G ≡ code Wait → after S c G ≡ G)
+    → (codeOf S c G ≢ code Deadlock)
+    × (codeOf S c G ≡ code Wait → after S c G ≡ joining s (askingJoins S (G .txns) ((txn (G .txns) s) .awaitedLock) ((txn (G .txns) s) .awaitedItem)) G)
 
 -- ---- request E6, "Queries and such readers now can wait": waits that "change no word"
 
@@ -221,65 +226,137 @@ ExchangerFirst S =
 -- ==== versions
 
 -- "The value is that of the newest version whose stamp is at most its start. .. The looked count is the place of that version in its
--- row, from 1.": vs are the versions, q is the start (Queries)
-pub record NewestUpTo (q : ℕ) (vs : List Version) (k : ℕ) : Type 0 where
+-- row, from 1.", and of request E11 "the newest version whose creator is not in the set": vs are the versions, q is the reader (Queries)
+pub record NewestSeen (q : Reader) (vs : List Version) (k : ℕ) : Type 0 where
   pub there : k < length vs
-  pub upTo : stampAt vs k ≤ q
-  pub newest : (j : ℕ) → j < length vs → stampAt vs j ≤ q → k ≤ j
+  pub seen : T (sees q (getD vs k noVersion))
+  pub newest : (j : ℕ) → j < length vs → T (sees q (getD vs j noVersion)) → k ≤ j
 
--- how many of the starts qs are later than q
-unfoldable pub later : ℕ → List ℕ → ℕ
+-- "the other live queries that are relaxed or start later; for a relaxed reader, .. all other live queries": r is such another for q
+unfoldable pub mayPass : Reader → Reader → Bool
+mayPass (upTo q) (upTo r) = ltb q r
+mayPass (upTo q) (outside b) = true
+mayPass (outside a) (upTo r) = true
+mayPass (outside a) (outside b) = not (eqb a b)
+
+-- how many of the readers qs are
+unfoldable pub later : Reader → List Reader → ℕ
 later q [] = 0
-later q (s ∷ qs) = let rest = later q qs in cond (ltb q s) (suc rest) rest
+later q (r ∷ qs) = let rest = later q qs in cond (mayPass q r) (suc rest) rest
 
--- "No lock": no word changes but, since request E8, those in which a query's read is counted. "It is at most 2 plus the number of live
--- queries with a later start."; request E6 counts those past their writing among them. Read by a query, or by one past its writing that
--- does not hold the item, where nobody holds it back
-abbrev pub StartReads : Sizes → Type 0
-StartReads S =
-    (G : Tables) (n s x : ℕ) → Good S G → Caller S G n s → T (byStart (txn (G .txns) s)) → x < S .items
+-- "No lock": no word changes but, since request E8, those in which a query's read is counted, and since request E11 those in which a relaxed
+-- query's is noted. "It is at most 2 plus the number of live queries with a later start."; request E6 counts those past their writing among
+-- them; request E11: "2 plus the other live queries that are relaxed or start later; for a relaxed reader, 2 plus all other live queries".
+-- Read by a query, or by one past its writing that does not hold the item, where nobody holds it back
+abbrev pub VersionReads : Sizes → Type 0
+VersionReads S =
+    (G : Tables) (n s x : ℕ) → Good S G → Caller S G n s → T (isReader (txn (G .txns) s)) → x < S .items
     → (T (holdsExclusive (lock (G .locks) x) s) → ⊥) → heldBack S (G .txns) (G .locks) x s ≡ false
-    → let q = (txn (G .txns) s) .start in
+    → let q = readerIn (G .txns) s in
     let vs = versionsOf S (G .versions) x in
-    (k : ℕ) × NewestUpTo q vs k
-    × (step S (Read n x) G ≡ says granted ((getD vs k noVersion) .value) 0 (suc k) (withTxns G (counted (G .txns) s (suc k))))
-    × (suc k ≤ 2 + later q (starts S (G .txns)))
+    (k : ℕ) × NewestSeen q vs k
+    × (step S (Read n x) G
+    ≡ says granted ((getD vs k noVersion) .value) 0 (suc k) (withTxns G (counted (readNoted (G .txns) (G .locks) s x) s (suc k))))
+    × (suc k ≤ 2 + later q (readers S (G .txns)))
 
 -- "every row keeps its newest version and those that some live query reads, and no others": the versions vs of item x, as they are in
 -- the tables G. "So .. 16 places are always enough", and in general as many as there are slots (Queries)
 pub record TrimmedTo (S : Sizes) (vs : List Version) (G : Tables) (x : ℕ) : Type 0 where
   pub newest : getD (versionsOf S (G .versions) x) 0 noVersion ≡ getD vs 0 noVersion
   pub read :
-      (r : ℕ) → r < S .slots → T (byStart (txn (G .txns) r))
-      → choice ((txn (G .txns) r) .start) (versionsOf S (G .versions) x) ≡ choice ((txn (G .txns) r) .start) vs
+      (r : ℕ) → r < S .slots → T (isReader (txn (G .txns) r))
+      → choice (readerIn (G .txns) r) (versionsOf S (G .versions) x) ≡ choice (readerIn (G .txns) r) vs
   pub noOther :
       (k : ℕ) → 0 < k → k < length (versionsOf S (G .versions) x)
-      → (r : ℕ) × (r < S .slots) × T (byStart (txn (G .txns) r)) × (place ((txn (G .txns) r) .start) (versionsOf S (G .versions) x) ≡ k)
+      → (r : ℕ) × (r < S .slots) × T (isReader (txn (G .txns) r)) × (place (readerIn (G .txns) r) (versionsOf S (G .versions) x) ≡ k)
   pub places : length (versionsOf S (G .versions) x) ≤ S .slots
 
--- "after a query's end"
+-- "after a query's end"; request E11: nothing is hidden any more from a relaxed one
 abbrev pub EndTrims : Sizes → Type 0
 EndTrims S =
     (G : Tables) (s : ℕ) → Good S G → s < S .slots → (x : ℕ) → x < S .items
-    → TrimmedTo S (versionsOf S (G .versions) x) (ended S s G) x
+    → TrimmedTo S (revealed s (versionsOf S (G .versions) x)) (ended S s G) x
 
 -- request E6: after the end of one past its writing, "either way"
 abbrev pub SettledTrims : Sizes → Type 0
 SettledTrims S =
     (G : Tables) (s : ℕ) → Good S G → s < S .slots → T (liveSettled (txn (G .txns) s)) → (x : ℕ) → x < S .items
-    → TrimmedTo S (withNew (G .locks) s ((txn (G .txns) s) .start) x (versionsOf S (G .versions) x)) (settledCommitted S s G) x
+    → TrimmedTo S (withNew (G .locks) s ((txn (G .txns) s) .start) 0 x (versionsOf S (G .versions) x)) (settledCommitted S s G) x
     × TrimmedTo S (versionsOf S (G .versions) x) (settledAborted S s G) x
 
 -- "After an update's commit": with the new pair in front, where it holds the item exclusively
 abbrev pub CommitTrims : Sizes → Type 0
 CommitTrims S =
     (G : Tables) (s : ℕ) → Good S G → s < S .slots → T (liveUpdate (txn (G .txns) s)) → (x : ℕ) → x < S .items
-    → TrimmedTo S (withNew (G .locks) s (clock (G .txns) + 1) x (versionsOf S (G .versions) x)) (committed S s G) x
+    → TrimmedTo S (withNew (G .locks) s (clock (G .txns) + 1) ((txn (G .txns) s) .laterFor) x (versionsOf S (G .versions) x)) (committed S s G) x
 
--- so a query that lives through a commit chooses the very same version
+-- so a query that lives through a commit chooses the very same version; request E11: a relaxed one does where the committer is in its
+-- set, or did not write the item; and so it does where it has read the item
 abbrev pub CommitKeeps : Sizes → Type 0
 CommitKeeps S =
-    (G : Tables) (s r : ℕ) → Good S G → s < S .slots → T (liveUpdate (txn (G .txns) s)) → r < S .slots → T (byStart (txn (G .txns) r))
+    (G : Tables) (s r : ℕ) → Good S G → s < S .slots → T (liveUpdate (txn (G .txns) s)) → r < S .slots → T (isReader (txn (G .txns) r))
     → (x : ℕ) → x < S .items
-    → choice ((txn (G .txns) r) .start) (versionsOf S ((committed S s G) .versions) x)
-    ≡ choice ((txn (G .txns) r) .start) (versionsOf S (G .versions) x)
+    → T (byStart (txn (G .txns) r))
+    ⊎ (T (bit ((txn (G .txns) s) .laterFor) r)
+    ⊎ ((T (holdsExclusive (lock (G .locks) x) s) → ⊥) ⊎ T (bit ((txn (G .txns) r) .itemsRead) x)))
+    → choice (readerIn (G .txns) r) (versionsOf S ((committed S s G) .versions) x)
+    ≡ choice (readerIn (G .txns) r) (versionsOf S (G .versions) x)
+
+-- ==== request E11: relaxed queries
+
+-- "it never gets 1 or 6" (Relaxed)
+abbrev pub RelaxedNeverWaits : Sizes → Type 0
+RelaxedNeverWaits S =
+    (c : Call) (G : Tables) (s : ℕ) → CallerIn c S G s → T (liveRelaxed (txn (G .txns) s))
+    → (codeOf S c G ≢ code Wait) × (codeOf S c G ≢ code StillWaiting)
+
+-- "An update joins when it asks to write what the query has read (granted or waiting), ..": the update in slot s, the query in slot q
+abbrev pub AsksToWriteRead : Sizes → Call → Tables → ℕ → ℕ → Type 0
+AsksToWriteRead S c G s q =
+    (x : ℕ) × CallerIn c S G s × Wants c exclusiveLock x × ((codeOf S c G ≡ granted) ⊎ (codeOf S c G ≡ code Wait))
+    × T (bit ((txn (G .txns) q) .itemsRead) x)
+
+-- ".. when the query reads what it holds exclusively, .."
+abbrev pub QueryReadsHeld : Sizes → Call → Tables → ℕ → ℕ → Type 0
+QueryReadsHeld S c G s q =
+    (x : ℕ) × CallerIn c S G q × T (liveRelaxed (txn (G .txns) q)) × Wants c sharedLock x × (codeOf S c G ≡ granted)
+    × T (holdsExclusive (lock (G .locks) x) s)
+
+-- ".. or when it reads or overwrites a version whose creator is in the set.": the newest version of item x
+abbrev pub MeetsHidden : Sizes → Call → Tables → ℕ → ℕ → Type 0
+MeetsHidden S c G s q =
+    (k : ℕ) × (x : ℕ) × CallerIn c S G s × Wants c k x × (codeOf S c G ≡ granted) × T (bit (hiddenNow S (G .versions) x) q)
+
+-- so, of an update that lives on, and whatever is called: it is in a set afterwards exactly if it was in it, and the query lives on, or it
+-- joined in one of these ways. "An asking that is answered 2 or 11 joins nothing." (Sets)
+abbrev pub JoinsExactly : Sizes → Type 0
+JoinsExactly S =
+    (c : Call) (G : Tables) (s q : ℕ) → Good S G → s < S .slots → q < S .slots → T (liveUpdate (txn (G .txns) s))
+    → T (liveUpdate (txn ((after S c G) .txns) s))
+    → T (bit ((txn ((after S c G) .txns) s) .laterFor) q)
+    ↔ ((T (bit ((txn (G .txns) s) .laterFor) q) × T (liveRelaxed (txn ((after S c G) .txns) q)))
+    ⊎ (AsksToWriteRead S c G s q ⊎ (QueryReadsHeld S c G s q ⊎ MeetsHidden S c G s q)))
+
+-- a version that is there afterwards was there, hidden from the same of those relaxed queries that live on; or it is new, of an update that
+-- commits, and hidden from those in whose sets that update is: "a committed update outside the set stays outside" (VersionsCome)
+pub record OldVersion (S : Sizes) (G G′ : Tables) (x : ℕ) (v : Version) : Type 0 where
+  pub place : ℕ
+  pub there : place < length (versionsOf S (G .versions) x)
+  pub stamp : v .stamp ≡ (getD (versionsOf S (G .versions) x) place noVersion) .stamp
+  pub value : v .value ≡ (getD (versionsOf S (G .versions) x) place noVersion) .value
+  pub hidden :
+      (q : ℕ) → T (bit (v .hidden) q) ↔ (T (bit (hiddenAt (versionsOf S (G .versions) x) place) q) × T (liveRelaxed (txn (G′ .txns) q)))
+
+pub record NewVersion (S : Sizes) (c : Call) (G : Tables) (x : ℕ) (v : Version) : Type 0 where
+  pub slot : ℕ
+  pub number : ℕ
+  pub caller : Caller S G number slot
+  pub commits : c ≡ Commit number
+  pub held : T (holdsExclusive (lock (G .locks) x) slot)
+  pub value : v .value ≡ (lock (G .locks) x) .working
+  pub hidden : v .hidden ≡ (txn (G .txns) slot) .laterFor
+
+abbrev pub VersionsCome : Sizes → Type 0
+VersionsCome S =
+    (c : Call) (G : Tables) → Good S G → (x k : ℕ) → x < S .items → k < length (versionsOf S ((after S c G) .versions) x)
+    → let v = getD (versionsOf S ((after S c G) .versions) x) k noVersion in OldVersion S G (after S c G) x v ⊎ NewVersion S c G x v

@@ -1,38 +1,47 @@
--- Document 01, "The six calls", and the seventh of request E6. `judged` says what a call comes to, by reading alone, with the refusals in
--- the order of "What comes back"; `done` says what each deed answers and changes; `step` is the one after the other, on good tables.
-use Prim.Native.Nat.{ℕ, suc, _+_}
+-- Document 01, "The six calls", the seventh of request E6 and the eighth of request E11. `judged` says what a call comes to, by reading
+-- alone, with the refusals in the order of "What comes back"; `done` says what each deed answers and changes; `step` is the one after the
+-- other, on good tables.
+use Prim.Native.Nat.{ℕ, zero, suc, _+_, _^_}
 use mathlib.Core.Bool.{Bool, _&&_, not, cond}
 use mathlib.Core.List.{List, _∷_}
 use lib.ListN.{set}
+use lib.Bits.{bitOr}
 use lib.Dec.{eqb, leb}
 use Rattle.names.specs.declared.Sizes.{Sizes}
 use Rattle.names.specs.Sizes.{firstStamp, lastWord}
-use Rattle.names.specs.Layout.{lastNumberAt, clockAt}
+use Rattle.names.specs.Layout.{lastNumberAt, clockAt, txnLaterForAt}
 use Rattle.names.specs.Words.{heldAtLast}
 use Rattle.rules.specs.Words.{someBelow, withBit, withoutBit}
-use Rattle.rules.specs.Tables.{Tables, tables, lastNumber, clock, txn, setTxn, setAwaited, setReads, noTxn, newTxn, anUpdate, aQuery, aSettled, noLock, liveSettled}
-use Rattle.rules.specs.Tables.{slotOf, freeSlot, starts, Lock, lock, setLock, holdsExclusive, exclusivesOf, release, unshare, sharedLock, exclusiveLock}
-use Rattle.rules.specs.Versions.{Version, versionsOf, newest, place, choice, rewritten}
+use Rattle.rules.specs.Tables.{Tables, tables, lastNumber, clock, Txn, txn, setTxn, setAwaited, setReads, setItemsRead, setLaterFor, reworded, noTxn, newTxn}
+use Rattle.rules.specs.Tables.{anUpdate, aQuery, aSettled, aRelaxed, noLock, queryKind, liveSettled, someSettled, someRelaxed, haveRead}
+use Rattle.rules.specs.Tables.{slotOf, freeSlot, readerIn, readers, Lock, lock, setLock, holdsExclusive, exclusivesOf, release, unshare, sharedLock, exclusiveLock}
+use Rattle.rules.specs.Versions.{Version, versionsOf, newest, hiddenNow, place, choice, rewritten, revealed}
 use Rattle.rules.specs.Waits.{noted, closedUp, circleAt}
 use Rattle.rules.specs.Tested.{good}
 use Rattle.rules.specs.Locks.{Asked, toRead, toWrite, wanted, Cell, OwnValue, ReplaceValue, NewestValue}
 use Rattle.rules.specs.Locks.{ExchangeLock, TakeShared, TakeExclusive, Conflict, decision}
-use Rattle.rules.specs.Answers.{Call, BeginUpdate, BeginQuery, Read, Write, Commit, Abort, Settle, Outcome, says, granted, refuses}
+use Rattle.rules.specs.Answers.{Call, BeginUpdate, BeginQuery, Read, Write, Commit, Abort, Settle, BeginRelaxed, Outcome, says, granted, refuses}
 use Rattle.rules.specs.Answers.{Wait, Deadlock, UnknownTransaction, UnknownItem, QueryMayNotWrite, StillWaiting}
-use Rattle.rules.specs.Answers.{NoSlot, NumbersSpent, ClockSpent, BadTables, QuotaSpent, PastWriting}
-use Rattle.rules.specs.Answers.{Deed, Refused, Waits, Begins, ReadsByStart, ReadsOwn, ReadsNewest, TakesShared}
+use Rattle.rules.specs.Answers.{NoSlot, NumbersSpent, ClockSpent, BadTables, QuotaSpent, PastWriting, KeptApart}
+use Rattle.rules.specs.Answers.{Deed, Refused, Waits, Begins, ReadsVersion, ReadsOwn, ReadsNewest, TakesShared}
 use Rattle.rules.specs.Answers.{Replaces, TakesExclusive, Commits, CommitsEmpty, Ends, Aborts, Settles, CommitsSettled, AbortsSettled, asSlot, asItem, asStamp}
 
 -- ==== what a call comes to
 
--- ---- Begin update, begin query
--- "The lowest free slot gets last number plus 1."; "for begin 7, 8": a transaction of the kind k with the start q
+-- ---- Begin update, begin query, and since request E11 begin relaxed
+-- "beginning one while a transaction is past its writing": the transactions are t, the kind is k
+unfoldable pub meetsSettled : Sizes → List ℕ → ℕ → Bool
+meetsSettled S t k = eqb k aRelaxed && someSettled S t
+
+-- "The lowest free slot gets last number plus 1."; "for begin 7, 8", and of request E11 13, "tested last": a transaction of the kind k
+-- with the start q
 unfoldable pub beginBy : Sizes → ℕ → ℕ → Tables → Deed
 beginBy S k q G =
     let s = freeSlot S (G .txns) in
     cond (eqb s (S .slots)) (Refused NoSlot)
     (cond (eqb (lastNumber (G .txns)) lastWord) (Refused NumbersSpent)
-    (Begins (asSlot s) k (asStamp q)))
+    (cond (meetsSettled S (G .txns) k) (Refused KeptApart)
+    (Begins (asSlot s) k (asStamp q))))
 
 -- ---- Read and write by an update
 -- "If the wait would let one walk from the caller .. back to the caller, the answer is 2; otherwise 1"; request E4: "as the graph
@@ -65,7 +74,7 @@ awaitsOther t s k x =
 unfoldable pub writesFurther : Sizes → List ℕ → ℕ → ℕ → Bool
 writesFurther S l s x = eqb (exclusivesOf S l s) (S .quota) && not (holdsExclusive (lock l x) s)
 
--- ---- Read by a start: by a query, and since request E6 by one past its writing
+-- ---- Read by a query, and since request E6 by one past its writing
 -- "code 1 when the item is held exclusively by another transaction past its writing whose stamp is at most their own": slot b is such
 -- another for slot s, which reads the item x
 unfoldable pub holdsBack : List ℕ → List ℕ → ℕ → ℕ → ℕ → Bool
@@ -75,12 +84,13 @@ holdsBack t l x s b =
 unfoldable pub heldBack : Sizes → List ℕ → List ℕ → ℕ → ℕ → Bool
 heldBack S t l x s = someBelow (S .slots) (holdsBack t l x s)
 
--- "From then on it reads by that stamp, sees its own working values"; a wait here changes no word
+-- "From then on it reads by that stamp, sees its own working values"; a wait here changes no word. Request E11: a relaxed query "never
+-- gets 1", since nobody is past its writing while it lives
 unfoldable pub startRead : Sizes → ℕ → ℕ → Tables → Deed
 startRead S s x G =
     cond (holdsExclusive (lock (G .locks) x) s) (ReadsOwn (asSlot s) (asItem x))
     (cond (heldBack S (G .txns) (G .locks) x s) (Refused Wait)
-    (ReadsByStart (asSlot s) (asItem x)))
+    (ReadsVersion (asSlot s) (asItem x)))
 
 -- "writes only what it already holds; any other write gets code 12": slot s, item x
 unfoldable pub writesPast : List ℕ → List ℕ → ℕ → ℕ → Bool
@@ -102,7 +112,7 @@ writeBy S n x v G =
     let s = slotOf S (G .txns) n in
     cond (eqb s (S .slots)) (Refused UnknownTransaction)
     (cond (leb (S .items) x) (Refused UnknownItem)
-    (cond (eqb ((txn (G .txns) s) .kind) aQuery) (Refused QueryMayNotWrite)
+    (cond (queryKind ((txn (G .txns) s) .kind)) (Refused QueryMayNotWrite)
     (cond (awaitsOther (G .txns) s exclusiveLock x) (Refused StillWaiting)
     (cond (writesPast (G .txns) (G .locks) s x) (Refused PastWriting)
     (cond (writesFurther S (G .locks) s x) (Refused QuotaSpent)
@@ -122,7 +132,7 @@ commitBy S n G =
     let s = slotOf S (G .txns) n in
     cond (eqb s (S .slots)) (Refused UnknownTransaction)
     (cond (not (eqb ((txn (G .txns) s) .awaitedLock) noLock)) (Refused StillWaiting)
-    (cond (eqb ((txn (G .txns) s) .kind) aQuery) (Ends (asSlot s))
+    (cond (queryKind ((txn (G .txns) s) .kind)) (Ends (asSlot s))
     (cond (eqb ((txn (G .txns) s) .kind) aSettled) (CommitsSettled (asSlot s))
     (commitUpdate S s G))))
 
@@ -131,23 +141,24 @@ unfoldable pub abortBy : Sizes → ℕ → Tables → Deed
 abortBy S n G =
     let s = slotOf S (G .txns) n in
     cond (eqb s (S .slots)) (Refused UnknownTransaction)
-    (cond (eqb ((txn (G .txns) s) .kind) aQuery) (Ends (asSlot s))
+    (cond (queryKind ((txn (G .txns) s) .kind)) (Ends (asSlot s))
     (cond (eqb ((txn (G .txns) s) .kind) aSettled) (AbortsSettled (asSlot s))
     (Aborts (asSlot s))))
 
 -- ---- Settle (request E6)
--- "Order: 10, 3, 5 for a query, 12 if already past its writing, 6, 9."
+-- "Order: 10, 3, 5 for a query, 12 if already past its writing, 6, 9.", and of request E11 13, "tested last"
 unfoldable pub settleBy : Sizes → ℕ → Tables → Deed
 settleBy S n G =
     let s = slotOf S (G .txns) n in
     cond (eqb s (S .slots)) (Refused UnknownTransaction)
-    (cond (eqb ((txn (G .txns) s) .kind) aQuery) (Refused QueryMayNotWrite)
+    (cond (queryKind ((txn (G .txns) s) .kind)) (Refused QueryMayNotWrite)
     (cond (eqb ((txn (G .txns) s) .kind) aSettled) (Refused PastWriting)
     (cond (not (eqb ((txn (G .txns) s) .awaitedLock) noLock)) (Refused StillWaiting)
     (cond (eqb (clock (G .txns)) lastWord) (Refused ClockSpent)
-    (Settles (asSlot s))))))
+    (cond (someRelaxed S (G .txns)) (Refused KeptApart)
+    (Settles (asSlot s)))))))
 
--- ---- the seven calls. "A query's start is the clock."
+-- ---- the eight calls. "A query's start is the clock."; of a relaxed query "start 0"
 unfoldable pub judged : Sizes → Call → Tables → Deed
 judged S BeginUpdate G = beginBy S anUpdate firstStamp G
 judged S BeginQuery G = beginBy S aQuery (clock (G .txns)) G
@@ -156,6 +167,7 @@ judged S (Write n x v) G = writeBy S n x v G
 judged S (Commit n) G = commitBy S n G
 judged S (Abort n) G = abortBy S n G
 judged S (Settle n) G = settleBy S n G
+judged S BeginRelaxed G = beginBy S aRelaxed firstStamp G
 
 -- ==== what each deed answers and changes
 
@@ -165,6 +177,41 @@ withTxns G t = tables t (G .locks) (G .versions)
 
 abbrev pub withLocks : Tables → List ℕ → List ℕ → Tables
 withLocks G t l = tables t l (G .versions)
+
+-- ---- request E11, the sets of later updates: "An update joins when it asks to write what the query has read (granted or waiting), when
+-- the query reads what it holds exclusively, or when it reads or overwrites a version whose creator is in the set."
+-- the transactions with slot s in the sets of the relaxed queries of the word m, too
+unfoldable pub joined : List ℕ → ℕ → ℕ → List ℕ
+joined t s m = setLaterFor t s (bitOr ((txn t s) .laterFor) m)
+
+abbrev pub joining : ℕ → ℕ → Tables → Tables
+joining s m G = withTxns G (joined (G .txns) s m)
+
+-- who asks for a lock of kind k on the item x, "granted or waiting", joins the sets of those who have read what it asks to write
+unfoldable pub askingJoins : Sizes → List ℕ → ℕ → ℕ → ℕ
+askingJoins S t k x = cond (eqb k exclusiveLock) (haveRead S t x) 0
+
+-- who is granted one reads the newest version or overwrites it, and joins besides the sets in which its creator is. Who has the lock
+-- already is in all of them
+unfoldable pub grantJoins : Sizes → Tables → ℕ → ℕ → ℕ
+grantJoins S G k x = bitOr (askingJoins S (G .txns) k x) (hiddenNow S (G .versions) x)
+
+-- the transactions with the exclusive holder of an item, if there is one, in the set of the relaxed query in slot q; e is the holder's
+-- slot plus 1
+unfoldable pub holderJoins : ℕ → ℕ → List ℕ → List ℕ
+holderJoins zero q t = t
+holderJoins (suc b) q t = joined t b (2 ^ q)
+
+-- the transactions with a read of item x by slot s noted, if it is a relaxed query: it has read x, and the holder joins its set
+unfoldable pub readNoted : List ℕ → List ℕ → ℕ → ℕ → List ℕ
+readNoted t l s x =
+    cond (eqb ((txn t s) .kind) aRelaxed)
+    (setItemsRead (holderJoins ((lock l x) .exclusive) s t) s (withBit ((txn t s) .itemsRead) x))
+    t
+
+-- the transactions without slot s in the sets of any: the set of the relaxed query there is no more
+unfoldable pub forgotten : Sizes → ℕ → List ℕ → List ℕ
+forgotten S s t = reworded txnLaterForAt (S .slots) (λ (r : Txn). withoutBit (r .laterFor) s) t
 
 -- ---- a begin: a row of the kind k with the start q in slot s
 unfoldable pub begun : ℕ → ℕ → ℕ → Tables → Tables
@@ -194,36 +241,40 @@ sharedToo h s = record { shared = withBit (h .shared) s; exclusive = h .exclusiv
 abbrev pub taken : Lock → ℕ → ℕ → Lock
 taken h s v = record { shared = withoutBit (h .shared) s; exclusive = suc s; working = v }
 
+-- a further lock on item x: the tables after slot s took it, wanting one of kind k, with the lock h there now
+unfoldable pub lockedAnew : Sizes → ℕ → ℕ → ℕ → Lock → Tables → Tables
+lockedAnew S s k x h G = locked S s x h (joining s (grantJoins S G k x) G)
+
 -- ---- Read by a query, and since request E6 by one past its writing
 -- request E8, "the first version in a row weighs 1, .. the nth n, summed over a query's reads since begin and divided by their number":
 -- the transactions with a read by slot s counted that looked at k versions. Both are "0 for every update", so one past its writing is not
 -- counted
 unfoldable pub counted : List ℕ → ℕ → ℕ → List ℕ
 counted t s k =
-    cond (eqb ((txn t s) .kind) aQuery)
+    cond (queryKind ((txn t s) .kind))
     (setReads t s (heldAtLast ((txn t s) .readCount + 1)) (heldAtLast ((txn t s) .weightSum + k)))
     t
 
 -- "The value is that of the newest version whose stamp is at most its start. .. The looked count is the place of that version in its
--- row, from 1."
-unfoldable pub queryRead : Sizes → ℕ → ℕ → Tables → Outcome
-queryRead S s x G =
-    let q = (txn (G .txns) s) .start in
+-- row, from 1."; request E11: "The query reads the newest version whose creator is not in the set"
+unfoldable pub versionRead : Sizes → ℕ → ℕ → Tables → Outcome
+versionRead S s x G =
+    let q = readerIn (G .txns) s in
     let vs = versionsOf S (G .versions) x in
     let k = suc (place q vs) in
-    says granted ((choice q vs) .value) 0 k (withTxns G (counted (G .txns) s k))
+    says granted ((choice q vs) .value) 0 k (withTxns G (counted (readNoted (G .txns) (G .locks) s x) s k))
 
 -- ---- Commit
 -- "For each item it holds exclusively the commit rewrites that item's row .. with the new pair in front.": the versions
--- of item x, c being the new stamp
-unfoldable pub withNew : List ℕ → ℕ → ℕ → ℕ → List Version → List Version
-withNew l s c x vs = cond (holdsExclusive (lock l x) s) (record { stamp = c; value = (lock l x) .working } ∷ vs) vs
+-- of item x, c being the new stamp. Request E11: whoever is in the sets m is so as the creator of its versions too
+unfoldable pub withNew : List ℕ → ℕ → ℕ → ℕ → ℕ → List Version → List Version
+withNew l s c m x vs = cond (holdsExclusive (lock l x) s) (record { stamp = c; value = (lock l x) .working; hidden = m } ∷ vs) vs
 
 -- "Its locks, working values and row go.": slot s, under the stamp c, t being the transactions with the clock as it is then
 unfoldable pub committedUnder : Sizes → ℕ → ℕ → List ℕ → Tables → Tables
 committedUnder S s c u G =
     let t = setTxn u s noTxn in
-    tables t (release S s (G .locks)) (rewritten S (starts S t) (withNew (G .locks) s c) (G .versions))
+    tables t (release S s (G .locks)) (rewritten S (readers S t) (withNew (G .locks) s c ((txn (G .txns) s) .laterFor)) (G .versions))
 
 -- "An update takes clock plus 1", since request E7 no more when it wrote nothing
 unfoldable pub committed : Sizes → ℕ → Tables → Tables
@@ -235,11 +286,11 @@ committed S s G =
 unfoldable pub settledCommitted : Sizes → ℕ → Tables → Tables
 settledCommitted S s G = committedUnder S s ((txn (G .txns) s) .start) (G .txns) G
 
--- "A query only ends."
+-- "A query only ends."; request E11: and with a relaxed one its set
 unfoldable pub ended : Sizes → ℕ → Tables → Tables
 ended S s G =
-    let t = setTxn (G .txns) s noTxn in
-    tables t (G .locks) (rewritten S (starts S t) (λ x vs. vs) (G .versions))
+    let t = setTxn (forgotten S s (G .txns)) s noTxn in
+    tables t (G .locks) (rewritten S (readers S t) (λ x vs. revealed s vs) (G .versions))
 
 -- ---- Abort
 -- "Abort removes locks, working values and the row"; request E4: and its place in the line
@@ -250,7 +301,7 @@ aborted S s G = withLocks G (setTxn (closedUp S (G .txns) s) s noTxn) (release S
 unfoldable pub settledAborted : Sizes → ℕ → Tables → Tables
 settledAborted S s G =
     let t = setTxn (G .txns) s noTxn in
-    tables t (release S s (G .locks)) (rewritten S (starts S t) (λ x vs. vs) (G .versions))
+    tables t (release S s (G .locks)) (rewritten S (readers S t) (λ x vs. vs) (G .versions))
 
 -- ---- Settle
 -- "the update takes clock plus 1 as its stamp, the clock moves there, .. and its shared locks go. Its row then has kind 2 and that
@@ -264,16 +315,19 @@ settled S s G =
 -- value, 0 for the own working value, the place for a query"
 unfoldable pub done : Sizes → Deed → Tables → Outcome
 done S (Refused r) G = refuses r G
--- "and the awaited fields are written"
-done S (Waits s k x) G = refuses Wait (withTxns G (noted S (G .txns) (G .locks) (s .0) k (x .0)))
+-- "and the awaited fields are written"; request E11: "noted with codes 0 and 1"
+done S (Waits s k x) G =
+    refuses Wait (withTxns G (joined (noted S (G .txns) (G .locks) (s .0) k (x .0)) (s .0) (askingJoins S (G .txns) k (x .0))))
 done S (Begins s k q) G = says granted 0 (lastNumber (G .txns) + 1) 0 (begun k (q .0) (s .0) G)
-done S (ReadsByStart s x) G = queryRead S (s .0) (x .0) G
+done S (ReadsVersion s x) G = versionRead S (s .0) (x .0) G
 done S (ReadsOwn s x) G = says granted ((lock (G .locks) (x .0)) .working) 0 0 (withTxns G (cleared S (G .txns) (s .0)))
 done S (ReadsNewest s x) G = says granted (newest S (G .versions) (x .0)) 0 1 (withTxns G (cleared S (G .txns) (s .0)))
 done S (TakesShared s x) G =
-    says granted (newest S (G .versions) (x .0)) 0 1 (locked S (s .0) (x .0) (sharedToo (lock (G .locks) (x .0)) (s .0)) G)
+    says granted (newest S (G .versions) (x .0)) 0 1
+    (lockedAnew S (s .0) sharedLock (x .0) (sharedToo (lock (G .locks) (x .0)) (s .0)) G)
 done S (Replaces s x v) G = says granted 0 0 0 (locked S (s .0) (x .0) (replaced (lock (G .locks) (x .0)) v) G)
-done S (TakesExclusive s x v) G = says granted 0 0 0 (locked S (s .0) (x .0) (taken (lock (G .locks) (x .0)) (s .0) v) G)
+done S (TakesExclusive s x v) G =
+    says granted 0 0 0 (lockedAnew S (s .0) exclusiveLock (x .0) (taken (lock (G .locks) (x .0)) (s .0) v) G)
 done S (Commits s) G = says granted 0 (clock (G .txns) + 1) 0 (committed S (s .0) G)
 -- request E7: "commits without a new stamp, answers the present clock". Its locks and its row go, as at an abort: it wrote nothing
 done S (CommitsEmpty s) G = says granted 0 (clock (G .txns)) 0 (aborted S (s .0) G)

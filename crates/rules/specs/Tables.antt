@@ -6,10 +6,11 @@ use mathlib.Core.List.{List, [], _∷_}
 use lib.ListN.{getD, set, drop, replicate}
 use lib.Dec.{eqb}
 use Rattle.names.specs.declared.Sizes.{Sizes}
-pub use Rattle.names.specs.Layout.{anUpdate, aQuery, aSettled, noLock, sharedLock, exclusiveLock, lockRow}
-use Rattle.names.specs.Layout.{lastNumberAt, clockAt, txnHead, txnNumberAt, txnKindAt, txnStartAt, txnLockAt, txnItemAt, txnRankAt, txnCountAt, txnSumAt, txnRow}
-use Rattle.names.specs.Layout.{lockSharedAt, lockExclusiveAt, lockWorkingAt, versionStampAt, versionPair}
-use Rattle.rules.specs.Words.{countBelow, firstFrom, mapRows, bit, withoutBit}
+pub use Rattle.names.specs.Layout.{anUpdate, aQuery, aSettled, aRelaxed, noLock, sharedLock, exclusiveLock, lockRow}
+use Rattle.names.specs.Layout.{lastNumberAt, clockAt, txnHead, txnNumberAt, txnKindAt, txnStartAt, txnLockAt, txnItemAt, txnRankAt, txnCountAt, txnSumAt}
+use Rattle.names.specs.Layout.{txnItemsReadAt, txnLaterForAt, txnRow}
+use Rattle.names.specs.Layout.{lockSharedAt, lockExclusiveAt, lockWorkingAt, versionHiddenAt}
+use Rattle.rules.specs.Words.{someBelow, countBelow, firstFrom, mapRows, bit, withoutBit, slotsThat}
 
 pub record Tables : Type 0 where
   pub txns : List ℕ
@@ -50,7 +51,8 @@ txnWords S = txnAt (S .slots)
 
 -- "number (0 is free), kind (0 update, 1 query), start stamp (0 for an update), awaited lock (0 none, 1 shared, 2 exclusive),
 -- awaited item (0 if none)"; request E4: "a word for its rank on the awaited item"; request E6: "kind 2 and that stamp as start";
--- request E8: "Each transaction row gains a read count and a weight sum"
+-- request E8: "Each transaction row gains a read count and a weight sum"; request E11: the items that a relaxed query has read, bit x
+-- for item x, and the relaxed queries for which an update is a later one, bit q for slot q
 pub record Txn : Type 0 where
   pub number : ℕ
   pub kind : ℕ
@@ -60,6 +62,8 @@ pub record Txn : Type 0 where
   pub rank : ℕ
   pub readCount : ℕ
   pub weightSum : ℕ
+  pub itemsRead : ℕ
+  pub laterFor : ℕ
 
 -- the words of a row as a transaction, and back
 abbrev pub txnIn : List ℕ → Txn
@@ -73,10 +77,23 @@ txnIn ws =
       rank = getD ws txnRankAt 0;
       readCount = getD ws txnCountAt 0;
       weightSum = getD ws txnSumAt 0;
+      itemsRead = getD ws txnItemsReadAt 0;
+      laterFor = getD ws txnLaterForAt 0;
     }
 
 abbrev pub txnWordsOf : Txn → List ℕ
-txnWordsOf r = r .number ∷ r .kind ∷ r .start ∷ r .awaitedLock ∷ r .awaitedItem ∷ r .rank ∷ r .readCount ∷ r .weightSum ∷ []
+txnWordsOf r =
+    r .number
+    ∷ r .kind
+    ∷ r .start
+    ∷ r .awaitedLock
+    ∷ r .awaitedItem
+    ∷ r .rank
+    ∷ r .readCount
+    ∷ r .weightSum
+    ∷ r .itemsRead
+    ∷ r .laterFor
+    ∷ []
 
 -- the row of slot s, read and written
 unfoldable pub txn : List ℕ → ℕ → Txn
@@ -93,31 +110,50 @@ setAwaited t s k x p = set (set (set t (txnAt s + txnLockAt) k) (txnAt s + txnIt
 unfoldable pub setReads : List ℕ → ℕ → ℕ → ℕ → List ℕ
 setReads t s n w = set (set t (txnAt s + txnCountAt) n) (txnAt s + txnSumAt) w
 
--- a row with another rank
+-- request E11: the items read alone, and the sets alone to which the transaction belongs
+unfoldable pub setItemsRead : List ℕ → ℕ → ℕ → List ℕ
+setItemsRead t s w = set t (txnAt s + txnItemsReadAt) w
+
+unfoldable pub setLaterFor : List ℕ → ℕ → ℕ → List ℕ
+setLaterFor t s w = set t (txnAt s + txnLaterForAt) w
+
+-- a row with another word at the place k, so with another rank, or in other sets
+abbrev pub withWord : ℕ → Txn → ℕ → Txn
+withWord k r w = txnIn (set (txnWordsOf r) k w)
+
 abbrev pub withRank : Txn → ℕ → Txn
-withRank r p =
+withRank r p = withWord txnRankAt r p
+
+abbrev pub withLaterFor : Txn → ℕ → Txn
+withLaterFor r m = withWord txnLaterForAt r m
+
+-- one word of each row alone, that at the place k: in each of the first n rows the one that f gives
+unfoldable pub reworded : ℕ → ℕ → (Txn → ℕ) → List ℕ → List ℕ
+reworded k zero f t = t
+reworded k (suc n) f t = set (reworded k n f t) (txnAt n + k) (f (txn t n))
+
+-- the ranks alone
+abbrev pub reranked : ℕ → (Txn → ℕ) → List ℕ → List ℕ
+reranked n f t = reworded txnRankAt n f t
+
+-- the row of one that begins, with its number, its kind and its start, and a free row
+abbrev pub newTxn : ℕ → ℕ → ℕ → Txn
+newTxn n k q =
     record {
-      number = r .number;
-      kind = r .kind;
-      start = r .start;
-      awaitedLock = r .awaitedLock;
-      awaitedItem = r .awaitedItem;
-      rank = p;
-      readCount = r .readCount;
-      weightSum = r .weightSum;
+      number = n;
+      kind = k;
+      start = q;
+      awaitedLock = noLock;
+      awaitedItem = 0;
+      rank = 0;
+      readCount = 0;
+      weightSum = 0;
+      itemsRead = 0;
+      laterFor = 0;
     }
 
--- the ranks alone: in each of the first n rows the one that f gives
-unfoldable pub reranked : ℕ → (Txn → ℕ) → List ℕ → List ℕ
-reranked zero f t = t
-reranked (suc n) f t = set (reranked n f t) (txnAt n + txnRankAt) (f (txn t n))
-
--- a free row, and the row of one that begins: its number, its kind and its start
 abbrev pub noTxn : Txn
-noTxn = record { number = 0; kind = 0; start = 0; awaitedLock = 0; awaitedItem = 0; rank = 0; readCount = 0; weightSum = 0 }
-
-abbrev pub newTxn : ℕ → ℕ → ℕ → Txn
-newTxn n k q = record { number = n; kind = k; start = q; awaitedLock = noLock; awaitedItem = 0; rank = 0; readCount = 0; weightSum = 0 }
+noTxn = newTxn 0 0 0
 
 unfoldable pub live : Txn → Bool
 live r = not (eqb (r .number) 0)
@@ -132,13 +168,29 @@ liveQuery r = live r && eqb (r .kind) aQuery
 unfoldable pub liveSettled : Txn → Bool
 liveSettled r = live r && eqb (r .kind) aSettled
 
+-- request E11: a relaxed query
+unfoldable pub liveRelaxed : Txn → Bool
+liveRelaxed r = live r && eqb (r .kind) aRelaxed
+
+-- a query of either kind: "A relaxed query is a query for code 5 and for E8's counts"
+unfoldable pub queryKind : ℕ → Bool
+queryKind k = eqb k aQuery || eqb k aRelaxed
+
+unfoldable pub anyQuery : Txn → Bool
+anyQuery r = live r && queryKind (r .kind)
+
 -- who may hold an item exclusively: an update, past its writing or not
 unfoldable pub mayHold : Txn → Bool
 mayHold r = liveUpdate r || liveSettled r
 
--- who reads by a start: queries, and those past their writing. "Version rules and the bound on looked count such readers as queries."
+-- who reads versions: queries, relaxed or not, and those past their writing. "Version rules and the bound on looked count such readers as
+-- queries."
+unfoldable pub isReader : Txn → Bool
+isReader r = live r && not (eqb (r .kind) anUpdate)
+
+-- who reads by a start. Request E11: "their rules on starts leave it out", the relaxed query
 unfoldable pub byStart : Txn → Bool
-byStart r = live r && not (eqb (r .kind) anUpdate)
+byStart r = live r && (eqb (r .kind) aQuery || eqb (r .kind) aSettled)
 
 -- the slot of the live transaction with the number n, or the number of slots where there is none
 unfoldable pub slotOf : Sizes → List ℕ → ℕ → ℕ
@@ -148,16 +200,38 @@ slotOf S t n = firstFrom (λ s. live (txn t s) && eqb ((txn t s) .number) n) 0 (
 unfoldable pub freeSlot : Sizes → List ℕ → ℕ
 freeSlot S t = firstFrom (λ s. not (live (txn t s))) 0 (S .slots)
 
--- the starts of the readers in n slots from slot s on
-unfoldable pub startsFrom : List ℕ → ℕ → ℕ → List ℕ
-startsFrom t s zero = []
-startsFrom t s (suc n) =
-    let rest = startsFrom t (suc s) n in
-    cond (byStart (txn t s)) ((txn t s) .start ∷ rest) rest
+-- request E11, "Settle while a relaxed query lives, or beginning one while a transaction is past its writing": some slot has one
+unfoldable pub someSettled : Sizes → List ℕ → Bool
+someSettled S t = someBelow (S .slots) (λ s. liveSettled (txn t s))
 
--- the starts of all who read by one
-unfoldable pub starts : Sizes → List ℕ → List ℕ
-starts S t = startsFrom t 0 (S .slots)
+unfoldable pub someRelaxed : Sizes → List ℕ → Bool
+someRelaxed S t = someBelow (S .slots) (λ s. liveRelaxed (txn t s))
+
+-- the word of the slots of all relaxed queries; of those that have read the item x
+unfoldable pub relaxedIn : Sizes → List ℕ → ℕ
+relaxedIn S t = slotsThat (S .slots) (λ s. liveRelaxed (txn t s))
+
+unfoldable pub haveRead : Sizes → List ℕ → ℕ → ℕ
+haveRead S t x = slotsThat (S .slots) (λ s. bit ((txn t s) .itemsRead) x)
+
+-- ---- how a version is chosen: up to a start, or, request E11, outside of the set of the relaxed query in this slot
+pub data Reader : Type 0 where
+  upTo : ℕ → Reader
+  outside : ℕ → Reader
+
+-- the reader in slot s
+unfoldable pub readerIn : List ℕ → ℕ → Reader
+readerIn t s = cond (eqb ((txn t s) .kind) aRelaxed) (outside s) (upTo ((txn t s) .start))
+
+-- the readers in n slots from slot s on; all of them
+unfoldable pub readersFrom : List ℕ → ℕ → ℕ → List Reader
+readersFrom t s zero = []
+readersFrom t s (suc n) =
+    let rest = readersFrom t (suc s) n in
+    cond (isReader (txn t s)) (readerIn t s ∷ rest) rest
+
+unfoldable pub readers : Sizes → List ℕ → List Reader
+readers S t = readersFrom t 0 (S .slots)
 
 -- ---- "Locks, 192 words: 64 rows of 3: shared holders (bit i for slot i), exclusive holder (slot plus 1, 0 for none), working value."
 pub record Lock : Type 0 where
@@ -213,9 +287,12 @@ unfoldable pub unshare : Sizes → ℕ → List ℕ → List ℕ
 unshare S s l = mapRows (S .items) lockRow (λ x r. lockWordsOf (unshared s (lockIn r))) 0 l
 
 -- ---- "Versions ..: 64 rows ..: a count, then 16 pairs of stamp and value, newest first, unused pairs zero.", and of request E5 "so the
--- version table has 64 rows of 65 words"
+-- version table has 64 rows of 65 words". Request E11: behind them, for each pair, from whom it is hidden, so rows of 97 words
+abbrev pub masksAt : Sizes → ℕ
+masksAt S = versionHiddenAt (S .places)
+
 abbrev pub versionRow : Sizes → ℕ
-versionRow S = versionStampAt + versionPair * S .places
+versionRow S = masksAt S + S .places
 
 abbrev pub versionWords : Sizes → ℕ
 versionWords S = versionRow S * S .items

@@ -3,6 +3,7 @@ use Prim.Native.Nat.{ℕ, zero, suc, _+_, _-_, _*_, _/_, _%_, _^_}
 use mathlib.Core.Bool.{Bool, true, false, _&&_, _||_, cond}
 use mathlib.Core.List.{List, [], _∷_, _++_}
 use lib.ListN.{take, drop}
+use lib.Bits.{bitOr}
 use lib.Dec.{eqb}
 
 -- if p then q
@@ -65,3 +66,12 @@ withBit h i = cond (bit h i) h (h + 2 ^ i)
 
 unfoldable pub withoutBit : ℕ → ℕ → ℕ
 withoutBit h i = cond (bit h i) (h - 2 ^ i) h
+
+-- every bit of the word n is one of the word m
+unfoldable pub contains : ℕ → ℕ → Bool
+contains m n = eqb (bitOr m n) m
+
+-- the word of the slots below n that pass
+unfoldable pub slotsThat : ℕ → (ℕ → Bool) → ℕ
+slotsThat zero p = 0
+slotsThat (suc n) p = slotsThat n p + cond (p n) (2 ^ n) 0

@@ -42,6 +42,21 @@ a-settle : parsed (115 ∷ 101 ∷ 116 ∷ 116 ∷ 108 ∷ 101 ∷ 32 ∷ 51 ∷
 unfolding parsed spoken starts firstOf bareOf oneOf twoOf threeOf number someDigits digitsFrom
 a-settle = refl
 
+-- `relaxed`
+a-relaxed : parsed (114 ∷ 101 ∷ 108 ∷ 97 ∷ 120 ∷ 101 ∷ 100 ∷ []) ≡ Call rules.BeginRelaxed
+unfolding parsed spoken starts firstOf bareOf oneOf twoOf threeOf number someDigits digitsFrom
+a-relaxed = refl
+
+-- `relaxed 1`
+relaxed-numbered : parsed (114 ∷ 101 ∷ 108 ∷ 97 ∷ 120 ∷ 101 ∷ 100 ∷ 32 ∷ 49 ∷ []) ≡ Bad
+unfolding parsed spoken starts firstOf bareOf oneOf twoOf threeOf number someDigits digitsFrom
+relaxed-numbered = refl
+
+-- `relax`
+relaxed-cut : parsed (114 ∷ 101 ∷ 108 ∷ 97 ∷ 120 ∷ []) ≡ Bad
+unfolding parsed spoken starts firstOf bareOf oneOf twoOf threeOf number someDigits digitsFrom
+relaxed-cut = refl
+
 -- `commit 18446744073709551615`
 greatest-value : parsed (99 ∷ 111 ∷ 109 ∷ 109 ∷ 105 ∷ 116 ∷ 32 ∷ 49 ∷ 56 ∷ 52 ∷ 52 ∷ 54 ∷ 55 ∷ 52 ∷ 52 ∷ 48 ∷ 55 ∷ 51 ∷ 55 ∷ 48 ∷ 57 ∷ 53 ∷ 53 ∷ 49 ∷ 54 ∷ 49 ∷ 53 ∷ []) ≡ Call (rules.Commit 18446744073709551615)
 unfolding parsed spoken starts firstOf bareOf oneOf twoOf threeOf number someDigits digitsFrom

@@ -3,7 +3,7 @@ use Prim.Native.Nat.{_+_, _*_, _≤_}
 use mathlib.Core.Path.{_≡_, refl}
 use native.Mathlib.Omega.{arith}
 use lib.ListN.{length, length-append}
-use Rattle.rules.specs.Answers.{Call, BeginUpdate, BeginQuery, Read, Write, Commit, Abort, Settle}
+use Rattle.rules.specs.Answers.{Call, BeginUpdate, BeginQuery, Read, Write, Commit, Abort, Settle, BeginRelaxed}
 use Rattle.script.specs.Says.{Says, wordOf, callLine}
 use Rattle.script.specs.Parse.{parsed}
 use Rattle.call_words.specs.Calls.{numbersOf}
@@ -29,6 +29,7 @@ length-callLine c = omega (arith, length-append (wordOf c) (spaced (numbersOf c)
     short (Commit n) = omega arith
     short (Abort n) = omega arith
     short (Settle n) = omega arith
+    short BeginRelaxed = omega arith
 
 pub round-trip : (c : Call) → Words (numbersOf c) → parsed (callLine c) ≡ Parsed.Call c
 round-trip c w = parsed-complete (callLine c) c (callLine-says c w) (length-callLine c)

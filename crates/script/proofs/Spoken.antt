@@ -53,6 +53,7 @@ spoken-complete line (rules.Write n x v) s = rw (s .word) (three-read (λ n x v.
 spoken-complete line (rules.Commit n) s = rw (s .word) (one-read (λ n. rules.Commit n) n (s .numbers))
 spoken-complete line (rules.Abort n) s = rw (s .word) (one-read (λ n. rules.Abort n) n (s .numbers))
 spoken-complete line (rules.Settle n) s = rw (s .word) (one-read (λ n. rules.Settle n) n (s .numbers))
+spoken-complete line rules.BeginRelaxed s = rw (s .word) (none-read rules.BeginRelaxed (s .numbers))
 
 -- ---- a line that is read as a call says it
 
@@ -111,7 +112,7 @@ three-sound c bs d e =
     let b = two-sound c (t .1) (d (t .0)) (t .3) in
     (t .0, b .0, b .1, b .2, more-numbers (t .2) (b .3))
 
--- each of the seven
+-- each of the eight
 data AllSound : List Spelled → Type 0 where
   done : AllSound []
   also : {w : Spelled} {ws : List Spelled} → Sound w → AllSound ws → AllSound (w ∷ ws)
@@ -152,7 +153,8 @@ all-sound =
     (also (by-three _ (λ n x v. rules.Write n x v) (λ n x v. (refl, refl)))
     (also (by-one _ (λ n. rules.Commit n) (λ n. (refl, refl)))
     (also (by-one _ (λ n. rules.Abort n) (λ n. (refl, refl)))
-    (also (by-one _ (λ n. rules.Settle n) (λ n. (refl, refl))) done))))))
+    (also (by-one _ (λ n. rules.Settle n) (λ n. (refl, refl)))
+    (also (by-none rules.BeginRelaxed refl) done)))))))
 
 first-sound : {ws : List Spelled} (line : List ℕ) (c : rules.Call) → AllSound ws → firstOf ws line ≡ Call c → Says line c
 unfolding firstOf

@@ -36,7 +36,7 @@ pub record Spelled : Type 0 where
   pub word : List ℕ
   pub rest : List ℕ → Parsed
 
--- the seven words, each with its numbers
+-- the eight words, each with its numbers
 abbrev pub spelled : List Spelled
 spelled =
     record { word = words.update; rest = bareOf rules.BeginUpdate }
@@ -46,6 +46,7 @@ spelled =
     ∷ record { word = words.commit; rest = oneOf (λ n. rules.Commit n) }
     ∷ record { word = words.abort; rest = oneOf (λ n. rules.Abort n) }
     ∷ record { word = words.settle; rest = oneOf (λ n. rules.Settle n) }
+    ∷ record { word = words.relaxed; rest = bareOf rules.BeginRelaxed }
     ∷ []
 
 -- the first of them that the line starts with

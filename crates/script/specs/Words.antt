@@ -1,4 +1,4 @@
--- The words of the script, as bytes: document 01's six, and `settle` of request E6.
+-- The words of the script, as bytes: document 01's six, `settle` of request E6 and `relaxed` of request E11.
 use Prim.Native.Nat.{ℕ}
 use mathlib.Core.Bool.{Bool, true, false, _&&_}
 use mathlib.Core.List.{List, [], _∷_}
@@ -24,6 +24,9 @@ abort = 97 ∷ 98 ∷ 111 ∷ 114 ∷ 116 ∷ []
 
 abbrev pub settle : List ℕ
 settle = 115 ∷ 101 ∷ 116 ∷ 116 ∷ 108 ∷ 101 ∷ []
+
+abbrev pub relaxed : List ℕ
+relaxed = 114 ∷ 101 ∷ 108 ∷ 97 ∷ 120 ∷ 101 ∷ 100 ∷ []
 
 -- the bytes start with those of the word
 unfoldable pub starts : List ℕ → List ℕ → Bool

@@ -2,6 +2,7 @@
 use crate::words::starts_with;
 use call_words::ABORT;
 use call_words::BEGIN_QUERY;
+use call_words::BEGIN_RELAXED;
 use call_words::BEGIN_UPDATE;
 use call_words::COMMIT;
 use call_words::Fields;
@@ -74,6 +75,9 @@ fn spoken(line: &[u8]) -> Parsed
     }
     if starts_with(line, b"settle") {
         return one(line, 6, SETTLE);
+    }
+    if starts_with(line, b"relaxed") {
+        return none(line, 7, BEGIN_RELAXED);
     }
     Parsed::Bad
 }

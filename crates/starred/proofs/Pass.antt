@@ -16,6 +16,7 @@ use Rattle.starred_waiters.specs.Waiters.{stands, nobodyStands, secondStands}
 use Rattle.starred_waiters.proofs.Pass.{pass-S, pass-T, pass-U, pass-V}
 use Rattle.starred_settled.proofs.Pass.{pass-X, pass-Y, pass-AA}
 use Rattle.starred_weighed.proofs.Pass.{pass-AB, pass-AC, pass-AD, pass-AE, pass-AF}
+use Rattle.starred_relaxed.proofs.Pass.{pass-AG, pass-AH, pass-AI, pass-AJ, pass-AK}
 use Rattle.starred.specs.Trials.{trialA, trialB, trialC, trialD, trialE, trialF, begins, trialG, trialH, trialJ, clockSpent, trialK, trialL, uncounted, trials}
 
 play-A : Both (PlayedFresh (λ S. trialA) (λ S. anyEnd))
@@ -136,7 +137,12 @@ all-pass S k =
     (also (pass-AD S k)
     (also (pass-AE S k)
     (also (pass-AF S k)
-    none)))))))))))))))))))))))))
+    (also (pass-AG S k)
+    (also (pass-AH S k)
+    (also (pass-AI S k)
+    (also (pass-AJ S k)
+    (also (pass-AK S k)
+    none))))))))))))))))))))))))))))))
 
 pub all-trials : Both (λ S. AllPass S (trials S))
 all-trials = (all-pass base (inl refl), all-pass sixteen (inr refl))

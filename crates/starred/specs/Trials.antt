@@ -12,6 +12,7 @@ use Rattle.starred_quotas.specs.Quotas.{trialQ, trialR}
 use Rattle.starred_waiters.specs.Waiters.{nobodyStands, secondStands, trialS, trialT, exchangerAhead, trialU, closedUpLine, trialV}
 use Rattle.starred_settled.specs.Settled.{endXY, endAA, trialX, trialY, trialAA}
 use Rattle.starred_weighed.specs.Weighed.{trialAB, belowLimit, trialAC, trialAD, atLimit, trialAE, beyondLimit, trialAF}
+use Rattle.starred_relaxed.specs.Relaxed.{trialAG, trialAH, trialAI, trialAJ, trialAK}
 
 -- "A. The run above.", and of request E8 "trial A's `commit 2` now prints `0 3 0 2`"
 unfoldable pub trialA : List Line
@@ -120,7 +121,7 @@ trialL = (BeginUpdate ⇒ (10, 0, 0, 0)) ∷ []
 unfoldable pub uncounted : Sizes → Tables
 uncounted S = tables ((fresh S) .txns) ((fresh S) .locks) (set ((fresh S) .versions) (versionRow S) 0)
 
--- ---- the list of them, and of those of requests E2, E4, E6, E7 and E8; the ends of C, E and F are those of E4. A keeper of the sizes S
+-- ---- the list of them, and of those of requests E2, E4, E6, E7, E8 and E11; the ends of C, E and F are those of E4. A keeper of the sizes S
 unfoldable pub trials : Sizes → List Trial
 trials S =
     (record { from = fresh S; script = trialA; end = anyEnd })
@@ -149,4 +150,9 @@ trials S =
     ∷ (record { from = belowLimit S; script = trialAD; end = anyEnd })
     ∷ (record { from = atLimit S; script = trialAE; end = anyEnd })
     ∷ (record { from = beyondLimit S; script = trialAF; end = anyEnd })
+    ∷ (record { from = fresh S; script = trialAG; end = anyEnd })
+    ∷ (record { from = fresh S; script = trialAH; end = anyEnd })
+    ∷ (record { from = fresh S; script = trialAI; end = anyEnd })
+    ∷ (record { from = fresh S; script = trialAJ; end = anyEnd })
+    ∷ (record { from = fresh S; script = trialAK; end = anyEnd })
     ∷ []

@@ -48,6 +48,8 @@ readSoFar n w S =
       rank = 0;
       readCount = n;
       weightSum = w;
+      itemsRead = 0;
+      laterFor = 0;
     }))
     ((fresh S) .locks)
     ((fresh S) .versions)

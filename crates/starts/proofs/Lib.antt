@@ -1,4 +1,5 @@
--- Laws of the starts in order, and of the neighbours of a stamp.
-pub mod Fill
+-- Laws of the starts in order and of the neighbours of a stamp, and of all who read versions.
+pub mod Split
 pub mod Between
+pub mod Fill
 pub mod Tells

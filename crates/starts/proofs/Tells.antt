@@ -10,9 +10,9 @@ use lib.Dec.{T, leb, ltb, leb→le, le→leb, ltb→lt, lt→ltb}
 use borrow.Author.Tests.{ltb-true, ltb-false}
 use Rattle.rules.proofs.Tests.{iff-eq, and-left, and-right, and-both, or-cases, or-left, or-right}
 use Rattle.rules.proofs.Counts.{some-mem, mem-some}
-use Rattle.rules.proofs.Reading.{within}
 use Rattle.starts.specs.Ordered.{guard}
 use Rattle.starts.specs.Beside.{Beside}
+use Rattle.starts.proofs.Split.{within}
 
 pub none-beside : (stamp : ℕ) → Beside [] stamp 0 guard
 none-beside stamp =

@@ -4,10 +4,12 @@ ghost use mathlib.Core.List.{List, [], _∷_, _++_};
 ghost use Prim.Native.Nat.{ℕ};
 ghost use lib.ListN.{length};
 ghost use Rattle.names.specs.Sizes.{base};
-ghost use Rattle.rules.specs.Tables.{txnWords, starts};
+ghost use Rattle.rules.specs.Tables.{txnWords};
+ghost use Rattle.starts.specs.Starts.{starts};
 ghost use Rattle.starts.specs.Beside.{Beside};
 use super::GUARD;
 use super::SLOTS;
+use names::RELAXED_KIND;
 use names::TXN_HEAD;
 use names::TXN_KIND_AT;
 use names::TXN_ROW;
@@ -55,7 +57,8 @@ pub fn beside(txns: &[u64], stamp: u64) -> Neighbours
     let mut i: usize = 0;
     while i < SLOTS {
         let at = TXN_HEAD + TXN_ROW * i;
-        if (txns[at] != 0) & (txns[at + TXN_KIND_AT] != UPDATE_KIND) {
+        let kind = txns[at + TXN_KIND_AT];
+        if (txns[at] != 0) & ((kind != UPDATE_KIND) & (kind != RELAXED_KIND)) {
             known = met(known, stamp, txns[at + TXN_START_AT]);
         }
         i += 1;

@@ -8,31 +8,32 @@ use lib.ListN.{length}
 use lib.Dec.{T, eqb, leb, eqb·zero-suc}
 use Rattle.names.specs.Sizes.{base}
 use Rattle.rules.specs.Words.{bit, implies}
-use Rattle.rules.specs.Tables.{txnWords, lockWords, lastNumber, clock, Txn, txn, live, liveUpdate, anUpdate, aQuery, aSettled, noLock, sharedLock, exclusiveLock}
+use Rattle.rules.specs.Tables.{txnWords, lockWords, lastNumber, clock, Txn, txn, live, liveUpdate, anUpdate, aQuery, aSettled, aRelaxed, noLock, sharedLock, exclusiveLock}
 use Rattle.rules.specs.Tables.{lock, holds, holdsShared, holdsExclusive}
 use Rattle.rules.specs.Good.{GoodTxn}
-use Rattle.rules.specs.Tested.{topsMost, freeZero, listed, startGood, awaitedGood, readsGood, awaiterGood, txnGood, lockGood}
+use Rattle.rules.specs.Tested.{topsMost, freeZero, listed, startGood, awaitedGood, readsGood, notesGood, awaiterGood, txnGood, lockGood}
 use Rattle.rules.proofs.Tests.{and-right, and-both, or-cases, or-right, not-make, implies-make, ne-make, false-is}
 use Rattle.rules.proofs.Counts.{everyBelow→}
-use Rattle.rules.proofs.Bits.{bit-none}
-use Rattle.rules.proofs.EqualRows.{txn→Good, lock→Good, free-or-live, live-update, live-query, live-settled, query-reads, settled-reads, holder}
+use Rattle.rules.proofs.Bits.{bit-none, slots-at, slots-lt}
+use Rattle.rules.proofs.RowKinds.{free-or-live, live-update, live-query, live-settled, live-relaxed, query-reads, settled-reads, relaxed-reads}
+use Rattle.rules.proofs.EqualRows.{txn→Good, lock→Good, holder}
 use Rattle.shapes.specs.Shape.{rowGood, rowsGood, waits, waitingIn}
 use Rattle.holdings.specs.Holding.{locksGood}
 use Rattle.waiting.specs.Waiting.{Readable, Awaiting}
-use Rattle.shapes.proofs.Masks.{slots-at, slots-lt}
 
 -- ---- the rules' test of a row, in two parts
-and-out : (a b c d e f g : Bool) → (a && (b && (c && (d && (e && (f && g)))))) ≡ ((a && (b && (c && (d && (e && f))))) && g)
-and-out false b c d e f g = refl
-and-out true false c d e f g = refl
-and-out true true false d e f g = refl
-and-out true true true false e f g = refl
-and-out true true true true false f g = refl
-and-out true true true true true f g = refl
+and-out : (a b c d e f g h : Bool) → (a && (b && (c && (d && (e && (f && (g && h))))))) ≡ ((a && (b && (c && (d && (e && (f && g)))))) && h)
+and-out false b c d e f g h = refl
+and-out true false c d e f g h = refl
+and-out true true false d e f g h = refl
+and-out true true true false e f g h = refl
+and-out true true true true false f g h = refl
+and-out true true true true true false g h = refl
+and-out true true true true true true g h = refl
 
 pub row-parts : (t l : List ℕ) (s : ℕ) (r : Txn) → txnGood base t l s r ≡ (rowGood base t r && awaiterGood s r (lock l (r .awaitedItem)))
 unfolding txnGood rowGood
-row-parts t l s r = and-out (freeZero r) (leb (r .number) (lastNumber t)) (listed r) (startGood (clock t) r) (awaitedGood base r) (readsGood r) (awaiterGood s r (lock l (r .awaitedItem)))
+row-parts t l s r = and-out (freeZero r) (leb (r .number) (lastNumber t)) (listed r) (startGood (clock t) r) (awaitedGood base r) (readsGood r) (notesGood base r) (awaiterGood s r (lock l (r .awaitedItem)))
 
 -- nobody holds a lock in no words
 unheld : (s x : ℕ) → T (holds (lock [] x) s) → ⊥
@@ -62,10 +63,11 @@ pub awaits-live : (t : List ℕ) (s : ℕ) (r : Txn) → GoodTxn base t [] s r �
 unfolding waits
 awaits-live t s r g d = and-both (liveUpdate r) _ (go (free-or-live r)) (ne-make (r .awaitedLock) noLock d)
   where
-    kind : T (live r) → (r .kind ≡ anUpdate) ⊎ ((r .kind ≡ aQuery) ⊎ (r .kind ≡ aSettled)) → T (liveUpdate r)
+    kind : T (live r) → (r .kind ≡ anUpdate) ⊎ ((r .kind ≡ aQuery) ⊎ ((r .kind ≡ aSettled) ⊎ (r .kind ≡ aRelaxed))) → T (liveUpdate r)
     kind a (inl e) = live-update r a e
     kind a (inr (inl e)) = absurd (d (g .readerIdle (query-reads r (live-query r a e))))
-    kind a (inr (inr e)) = absurd (d (g .readerIdle (settled-reads r (live-settled r a e))))
+    kind a (inr (inr (inl e))) = absurd (d (g .readerIdle (settled-reads r (live-settled r a e))))
+    kind a (inr (inr (inr e))) = absurd (d (g .readerIdle (relaxed-reads r (live-relaxed r a e))))
 
     go : (r .number ≡ 0) ⊎ T (live r) → T (liveUpdate r)
     go (inl e) = absurd (d (ap (λ (q : Txn). q .awaitedLock) (g .free e)))

@@ -1,4 +1,5 @@
-// The test of all tables: sizes, transaction rows, locks, waits, versions and stamps, as the rules ask.
+// The test of all tables: sizes, transaction rows, locks, waits, versions, sets and stamps, as the
+// rules ask.
 //
 // Every function is proved against the rules of the crate `rules`. The test itself has no
 // `requires`: it answers for slices of any length and words of any value. Its parts take what the
@@ -12,6 +13,7 @@ use names::CLOCK_AT;
 use names::LOCK_WORDS;
 use names::TXN_WORDS;
 use names::VERSION_WORDS;
+use sets::sets_pass;
 use shapes::distinct;
 use shapes::rows;
 use stamps::stamps_pass;
@@ -35,6 +37,8 @@ pub fn good(txns: &[u64], locks: &[u64], versions: &[u64]) -> bool
     let updates = seen.updates;
     let waiting = seen.waiting;
     let settled = seen.settled;
+    let relaxed = seen.relaxed;
+    let later = seen.later;
     if !ok {
         return false;
     }
@@ -50,7 +54,10 @@ pub fn good(txns: &[u64], locks: &[u64], versions: &[u64]) -> bool
         }
     }
     let starts = starts::starts_in_order(txns);
-    if !versions::all_good(versions, txns[CLOCK_AT], &starts) {
+    if !versions::all_good(versions, txns[CLOCK_AT], &starts, relaxed) {
+        return false;
+    }
+    if !sets_pass(txns, locks, versions, settled, relaxed, later) {
         return false;
     }
     if settled == 0 {

@@ -1,4 +1,4 @@
--- What a wait notes; request E4: the caller's place in the line, and the ranks behind it. Request E6: the waits of queries and of those
+-- What a wait notes; request E4: the caller's place in the line, and the ranks behind it; request E11: the sets that it joins. Request E6: the waits of queries and of those
 -- past their writing "change no word".
 use Prim.Native.Nat.{ℕ}
 use mathlib.Core.Bool.{Bool, cond}
@@ -9,11 +9,12 @@ use Rattle.names.specs.Sizes.{base}
 use Rattle.rules.specs.Words.{everyBelow}
 use Rattle.rules.specs.Tables.{txnWords, lockWords, slotOf, txn, anUpdate, sharedLock, exclusiveLock}
 use Rattle.rules.specs.Waits.{noted}
-use Rattle.rules.specs.Answers.{Call, BeginUpdate, BeginQuery, Read, Write, Commit, Abort, Settle}
+use Rattle.rules.specs.Step.{joined, askingJoins}
+use Rattle.rules.specs.Answers.{Call, BeginUpdate, BeginQuery, Read, Write, Commit, Abort, Settle, BeginRelaxed}
 
 -- the transactions with the wait of slot s noted, if it is an update's that still writes
 unfoldable pub awaitedBy : List ℕ → List ℕ → ℕ → ℕ → ℕ → List ℕ
-awaitedBy t l s k x = cond (eqb ((txn t s) .kind) anUpdate) (noted base t l s k x) t
+awaitedBy t l s k x = cond (eqb ((txn t s) .kind) anUpdate) (joined (noted base t l s k x) s (askingJoins base t k x)) t
 
 -- the same of the live transaction n; where there is none, or no such item, they stay as they are
 unfoldable pub awaited : List ℕ → List ℕ → ℕ → ℕ → ℕ → List ℕ
@@ -29,6 +30,7 @@ waitedIn (Write n x v) t l = awaited t l n exclusiveLock x
 waitedIn (Commit n) t l = t
 waitedIn (Abort n) t l = t
 waitedIn (Settle n) t l = t
+waitedIn BeginRelaxed t l = t
 
 -- nobody waits in words of another length, nor where a rank is above the number of slots
 unfoldable pub rankSmall : List ℕ → ℕ → Bool

@@ -1,5 +1,5 @@
 // What a wait notes: an update's awaited lock and item, its place in the line and the ranks behind
-// it, and no other word; a reader's wait notes nothing.
+// it, whose sets it joins, and no other word; a reader's wait notes nothing.
 use names::Call;
 use names::EXCLUSIVE_LOCK;
 use names::ITEMS;
@@ -39,7 +39,9 @@ fn awaits_by(txns: &mut [u64], locks: &[u64], slot: Slot, lock: u64, item: Item)
     ensures { λ _. ⌜ now (txns .exit) ≡ awaitedBy (now (txns .entry)) (now (locks .entry)) (slot .0) lock (item .0) ⌝ }
 {
     if rows::kind(&txns[..], slot) == UPDATE_KIND {
+        let sets = notes::asking_joins(&txns[..], lock, item);
         ranks::note(txns, locks, slot, lock, item);
+        notes::join(txns, slot, sets);
     }
 }
 
@@ -73,6 +75,7 @@ fn note_in(txns: &mut [u64], locks: &[u64], call: Call)
         Call::Commit { number: _ } => {}
         Call::Abort { number: _ } => {}
         Call::Settle { number: _ } => {}
+        Call::BeginRelaxed => {}
     }
 }
 

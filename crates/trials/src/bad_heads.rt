@@ -35,38 +35,38 @@ on 0
 put head 0 1: 4294967295
 good: the clock is 4294967295
 on 0
-lend 0 192 4160
+lend 0 192 6208
 damage: no words of transactions
 on 0
-lend 257 192 4160
-damage: 257 words of transactions
+lend 321 192 6208
+damage: 321 words of transactions
 on 0
-lend 259 192 4160
-damage: 259 words of transactions
+lend 323 192 6208
+damage: 323 words of transactions
 on 0
-lend 258 0 4160
+lend 322 0 6208
 damage: no words of locks
 on 0
-lend 258 191 4160
+lend 322 191 6208
 damage: 191 words of locks
 on 0
-lend 258 193 4160
+lend 322 193 6208
 damage: 193 words of locks
 on 0
-lend 258 192 0
+lend 322 192 0
 damage: no words of versions
 on 0
-lend 258 192 4159
-damage: 4159 words of versions
+lend 322 192 6207
+damage: 6207 words of versions
 on 0
-lend 258 192 4161
-damage: 4161 words of versions
+lend 322 192 6209
+damage: 6209 words of versions
 on 0
 lend 0 0 0
 damage: no words at all
 on 0
-lend 258 192 4160
-good: 258, 192 and 4160 words
+lend 322 192 6208
+good: 322, 192 and 6208 words
 ",
         tally,
     )

@@ -50,8 +50,8 @@ good: an update has the number 1
 on 2
 good: an update has the last number given
 on 0
-put transactions 0 1: 3
-damage: the kind is 3
+put transactions 0 1: 4
+damage: the kind is 4
 on 0
 put transactions 0 1: 18446744073709551615
 damage: the kind is the greatest word

@@ -1,4 +1,4 @@
-// Tables tried whole: bad ones by all seven calls, which must answer 10, and good ones by those of
+// Tables tried whole: bad ones by all eight calls, which must answer 10, and good ones by those of
 // nobody, which must be refused for that. No call may change a word.
 use crate::say;
 use crate::set::OF_ITEMS;
@@ -57,7 +57,8 @@ fn scored(tables: Tables, bad: bool) -> Score {
     if bad {
         let s = tried(tables, Call::BeginUpdate, BAD_TABLES, none);
         let begun = tried(tables, Call::BeginQuery, BAD_TABLES, s);
-        return five(tables, SOMEBODY, BAD_TABLES, begun);
+        let relaxed = tried(tables, Call::BeginRelaxed, BAD_TABLES, begun);
+        return five(tables, SOMEBODY, BAD_TABLES, relaxed);
     }
     five(tables, NOBODY, UNKNOWN_TRANSACTION, none)
 }
@@ -75,7 +76,7 @@ fn say_row(rows: Rows) {
 
 // The end of a line that has said what is damaged, or is still good.
 pub fn judge(tables: Tables, bad: bool, rows: Rows, tally: Tally) -> Tally {
-    let calls = if bad { 7 } else { 5 };
+    let calls = if bad { 8 } else { 5 };
     say_row(rows);
     say::say(b": expected ");
     say::number(calls);

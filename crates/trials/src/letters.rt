@@ -1,4 +1,5 @@
-// How a trial's text calls the calls: by their first letters.
+// How a trial's text calls the calls: by their first letters; of the two that begin
+// with the same one, that of the relaxed query is a capital.
 use names::Call;
 
 // What a letter says, with the numbers behind it.
@@ -20,6 +21,7 @@ pub fn lettered(letter: u8, number: u64, item: u64, value: u64) -> Meant {
         b'c' => Meant::Call(Call::Commit { number }),
         b'a' => Meant::Call(Call::Abort { number }),
         b's' => Meant::Call(Call::Settle { number }),
+        b'R' => Meant::Call(Call::BeginRelaxed),
         _ => Meant::Other,
     }
 }

@@ -58,21 +58,21 @@ update: 8 0 0 0
 query: 8 0 0 0
 trial N: a transaction table of one word less, one more, and the right size
 update: 0 0 1 0
-lend 257 192 4160
+lend 321 192 6208
 update: 10 0 0 0
 query: 10 0 0 0
 read 1 0: 10 0 0 0
 write 1 0 5: 10 0 0 0
 commit 1: 10 0 0 0
 abort 1: 10 0 0 0
-lend 259 192 4160
+lend 323 192 6208
 update: 10 0 0 0
 query: 10 0 0 0
 read 1 0: 10 0 0 0
 write 1 0 5: 10 0 0 0
 commit 1: 10 0 0 0
 abort 1: 10 0 0 0
-lend 258 192 4160
+lend 322 192 6208
 update: 0 0 2 0
 read 1 0: 0 0 0 1
 write 1 0 5: 0 0 0 0

@@ -1,4 +1,4 @@
-// The trials of document 01, all of them, and those of requests E2 and E4 to E8, on the keeper as it is
+// The trials of document 01, all of them, and those of requests E2, E4 to E8 and E11, on the keeper as it is
 // compiled; then every kind of damage to good tables, one by one.
 //
 // A line for each step says what was expected and what was found, and ends in DIFFERS where the two
@@ -7,6 +7,7 @@
 mod bad_heads;
 mod bad_items;
 mod bad_reads;
+mod bad_relaxed;
 mod bad_settled;
 mod bad_slots;
 mod damage;
@@ -18,6 +19,7 @@ mod locks;
 mod play;
 mod quota;
 mod reading;
+mod relaxed;
 mod sample;
 mod say;
 mod set;
@@ -35,7 +37,8 @@ fn trials(tally: Tally) -> Tally {
     t = limits::p(limits::o(limits::m_and_n(t)));
     t = waiters::w(waiters::s_to_v(quota::r(quota::q(t))));
     t = empty::aa(settling::z(settling::x_and_y(t)));
-    reading::ac(reading::ab(t))
+    t = reading::ac(reading::ab(t));
+    relaxed::ah_and_ai(relaxed::ag(t))
 }
 
 fn damages(tally: Tally) -> Tally {
@@ -43,6 +46,7 @@ fn damages(tally: Tally) -> Tally {
     t = quota::held(31, quota::held(15, quota::held(0, t)));
     t = bad_settled::settled(31, bad_settled::settled(15, bad_settled::settled(0, t)));
     t = bad_reads::reads(31, bad_reads::reads(15, bad_reads::reads(0, t)));
+    t = bad_relaxed::relaxed(31, bad_relaxed::relaxed(15, bad_relaxed::relaxed(0, t)));
     bad_items::items(t)
 }
 

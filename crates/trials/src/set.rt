@@ -3,7 +3,7 @@
 //     put head 0 1: 7           a word, by its table, its row and its place in the row, set
 //     bit locks 2 0: 1          in such a word the bit of a slot set
 //     holder locks 1 1: 1       such a word set to a slot as the exclusive holder
-//     lend 257 192 4160          so many words of each table are lent from now on
+//     lend 321 192 6208          so many words of each table are lent from now on
 //     fresh                     the tables are fresh again
 use crate::line::Line;
 use crate::state::HEAD;

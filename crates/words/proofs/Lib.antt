@@ -2,3 +2,4 @@
 pub mod Turns
 pub mod ZeroWords
 pub mod SlotWords
+pub mod Slots

@@ -1,5 +1,4 @@
 -- A call for each kind; the last for any other.
-use native.Mathlib.Omega.{arith}
 use borrow.Author.Tests.{ne-eqb}
 use Rattle.call_words.specs.Calls.{callIn}
 use Rattle.call_words.proofs.call_in.Statement.{statement}
@@ -31,9 +30,14 @@ returns-6 c = rw (c .match .keys6)
 
 returns-7 : tie.Need-returns-7
 unfolding callIn
-returns-7 c =
+returns-7 c = rw (c .match .keys7)
+
+returns-8 : tie.Need-returns-8
+unfolding callIn
+returns-8 c =
     let k = c .before .args .fields .kind in
-    rw (ne-eqb k 1 (λ e. omega arith), ne-eqb k 2 (λ e. omega arith), ne-eqb k 3 (λ e. omega arith), ne-eqb k 4 (λ e. omega arith), ne-eqb k 5 (λ e. omega arith), ne-eqb k 6 (λ e. omega arith))
+    let n = c .match .rest in
+    rw (ne-eqb k 1 (n .0 .0 .0 .0 .0 .0 .1), ne-eqb k 2 (n .0 .0 .0 .0 .0 .1), ne-eqb k 3 (n .0 .0 .0 .0 .1), ne-eqb k 4 (n .0 .0 .0 .1), ne-eqb k 5 (n .0 .0 .1), ne-eqb k 6 (n .0 .1), ne-eqb k 7 (n .1))
 
 pub call-in-spec : {M : Type 1} → statement M
-call-in-spec = tie.close (tie.spec returns returns-2 returns-3 returns-4 returns-5 returns-6 returns-7)
+call-in-spec = tie.close (tie.spec returns returns-2 returns-3 returns-4 returns-5 returns-6 returns-7 returns-8)

@@ -46,6 +46,12 @@ enum-known-call-5 c = search needs
 words-requires-7 : tie.Need-words-requires-7
 words-requires-7 c κs = search needs
 
+enum-told-3 : tie.Need-enum-told-3
+enum-told-3 c = search needs
+
+words-requires-8 : tie.Need-words-requires-8
+words-requires-8 c κs = search needs
+
 returns : tie.Need-returns
 unfolding fieldsOf
 returns c = rw (c .before .enum-told .given .1) (c .words .ensures)
@@ -74,6 +80,10 @@ returns-7 : tie.Need-returns-7
 unfolding fieldsOf
 returns-7 c = rw (c .before .before .call5 .given .1) (c .words7 .ensures)
 
+returns-8 : tie.Need-returns-8
+unfolding fieldsOf
+returns-8 c = rw (c .before .enum-told3 .given .1) (c .words8 .ensures)
+
 pub fields-of-spec : {M : Type 1} → statement M
 fields-of-spec =
     tie.close
@@ -92,10 +102,13 @@ fields-of-spec =
     words-requires-6
     enum-known-call-5
     words-requires-7
+    enum-told-3
+    words-requires-8
     returns
     returns-2
     returns-3
     returns-4
     returns-5
     returns-6
-    returns-7)
+    returns-7
+    returns-8)

@@ -7,7 +7,7 @@ use native.Mathlib.Numerals.{add-one}
 use lib.ListN.{getD}
 use Rattle.names.specs.Sizes.{base}
 use Rattle.rules.specs.Words.{row}
-use Rattle.rules.specs.Tables.{versionRow}
+use Rattle.rules.specs.Tables.{versionRow, upTo}
 use Rattle.rules.specs.Versions.{noVersion, versionsIn, versionsOf, place, choice}
 use Rattle.choices.specs.Choosable.{ChoosableIn}
 use Rattle.choices.proofs.Lent.{lent}
@@ -36,13 +36,13 @@ part-place-in-end c = omega arith
 place-in-requires : tie.Need-place-in-requires
 place-in-requires c κs =
     let a = c .before .before .args in
-    subst (λ (r : List ℕ). ChoosableIn r (a .start .0)) (sym (lent (a .item .0) (a .versions .now))) (found-in (a .versions .now) (a .item .0) (a .start .0) (c .before .before .pre))
+    subst (λ (r : List ℕ). ChoosableIn r (upTo (a .start .0))) (sym (lent (a .item .0) (a .versions .now))) (found-in (a .versions .now) (a .item .0) (upTo (a .start .0)) (c .before .before .pre))
 
-is-place : (c : tie.After-place-in) → c .place-in .result ≡ place (c .before .before .before .args .start .0) (versionsOf base (c .before .before .before .args .versions .now) (c .before .before .before .args .item .0))
+is-place : (c : tie.After-place-in) → c .place-in .result ≡ place (upTo (c .before .before .before .args .start .0)) (versionsOf base (c .before .before .before .args .versions .now) (c .before .before .before .args .item .0))
 unfolding versionsOf
 is-place c =
     let a = c .before .before .before .args in
-    c .place-in .ensures ∙ ap (λ (r : List ℕ). place (a .start .0) (versionsIn r)) (lent (a .item .0) (a .versions .now))
+    c .place-in .ensures ∙ ap (λ (r : List ℕ). place (upTo (a .start .0)) (versionsIn base r)) (lent (a .item .0) (a .versions .now))
 
 counted : (c : tie.After-place-in) → c .place-in .result < getD (row (versionRow base) (c .before .before .before .args .item .0) (c .before .before .before .args .versions .now)) 0 0
 unfolding versionsOf
@@ -51,7 +51,7 @@ counted c =
     let v = a .versions .now in
     let x = a .item .0 in
     let e = is-place c in
-    omega (arith, within (row (versionRow base) x v) (a .start .0) (found-in v x (a .start .0) (c .before .before .before .pre)))
+    omega (arith, within (row (versionRow base) x v) (upTo (a .start .0)) (found-in v x (upTo (a .start .0)) (c .before .before .before .pre)))
 
 room : (c : tie.After-place-in) → c .place-in .result < base .places
 room c = let m = c .before .before .before .pre .sound .most in omega (arith, counted c)

@@ -5,8 +5,8 @@ use Rattle.names.specs.Sizes.{base}
 use Rattle.rules.specs.Tables.{tables, aQuery}
 use Rattle.rules.specs.Answers.{Call}
 use Rattle.rules.specs.Step.{judged, beginBy, commitUpdate, commitBy, abortBy, settleBy}
-use Rattle.judged.specs.Searched.{ofTxns}
-use Rattle.judged.proofs.Exits.{searchable}
+use Rattle.callers.specs.Searchable.{ofTxns}
+use Rattle.callers.proofs.Named.{searchable}
 use borrow.Author.Needs.{needs}
 use Rattle.judged.proofs.judged.Statement.{statement}
 use Rattle.judged.proofs.judged.Tie as tie
@@ -60,6 +60,13 @@ enum-known-call-5 c = search needs
 settle-by-requires : tie.Need-settle-by-requires
 settle-by-requires c κs = searchable (tables (c .before .before .before .before .before .before .args .txns .now) (c .before .before .before .before .before .before .args .locks .now) (c .before .before .before .before .before .before .args .versions .now)) (c .before .before .before .before .before .before .pre)
 
+enum-told-3 : tie.Need-enum-told-3
+enum-told-3 c = search needs
+
+begin-by-requires-3 : tie.Need-begin-by-requires-3
+begin-by-requires-3 c κs =
+    searchable (tables (c .before .before .before .before .before .args .txns .now) (c .before .before .before .before .before .args .locks .now) (c .before .before .before .before .before .args .versions .now)) (c .before .before .before .before .before .pre)
+
 returns : tie.Need-returns
 unfolding judged beginBy
 returns c =
@@ -95,6 +102,11 @@ unfolding judged settleBy
 returns-7 c =
     c .settle-by .ensures ∙ ap (λ (m : Call). judged base m (tables (c .before .before .before .before .before .before .before .args .txns .now) (c .before .before .before .before .before .before .before .args .locks .now) (c .before .before .before .before .before .before .before .args .versions .now))) (sym (c .before .before .call5 .given .1))
 
+returns-8 : tie.Need-returns-8
+unfolding judged beginBy
+returns-8 c =
+    c .begin-by3 .ensures ∙ ap (λ (m : Call). judged base m (tables (c .before .before .before .before .before .before .args .txns .now) (c .before .before .before .before .before .before .args .locks .now) (c .before .before .before .before .before .before .args .versions .now))) (sym (c .before .enum-told3 .given .1))
+
 pub judged-spec : {M : Type 1} → statement M
 judged-spec =
     tie.close
@@ -114,10 +126,13 @@ judged-spec =
     abort-by-requires
     enum-known-call-5
     settle-by-requires
+    enum-told-3
+    begin-by-requires-3
     returns
     returns-2
     returns-3
     returns-4
     returns-5
     returns-6
-    returns-7)
+    returns-7
+    returns-8)

@@ -1,7 +1,5 @@
--- The row stays where its newest was read, or one of the neighbours reads the version; else that version is taken out.
+-- The row stays where its newest was read, or another reads the version; else that version is taken out.
 use borrow.Author.Needs.{needs}
-use Rattle.packing.proofs.forget.Statement.{statement}
-use Rattle.packing.proofs.forget.Tie as tie
 use mathlib.Core.Path.{sym, ap, _∙_}
 use native.Mathlib.Omega.{arith}
 use Prim.Native.Nat.{ℕ, _≤_, _<_}
@@ -11,6 +9,8 @@ use Rattle.rules.specs.Versions.{rowOf}
 use Rattle.choices.specs.Pairs.{countIn}
 use Rattle.packing.proofs.Words.{row-same}
 use Rattle.packing.proofs.Test.{newest-stays, inside, behind, all-stay, one-goes}
+use Rattle.packing.proofs.forget.Statement.{statement}
+use Rattle.packing.proofs.forget.Tie as tie
 
 -- where the version is found: the row, and what is known of the place
 abbrev row : tie.After-place-in → List ℕ
@@ -45,6 +45,9 @@ mul-at c = omega (arith, place-of c, most c)
 add-at : tie.Need-add-at
 add-at c = omega (arith, place-of c, most c)
 
+add-mask : tie.Need-add-mask
+add-mask c = omega (arith, place-of c, most c)
+
 mul-if2 : tie.Need-mul-if2
 mul-if2 c = omega (arith, place-of c, most c)
 
@@ -60,12 +63,27 @@ mul-if2-2 c = omega (arith, place-of (c .before), most (c .before))
 slice-read-if2-2 : tie.Need-slice-read-if2-2
 slice-read-if2-2 c = omega (arith, place-of (c .before .before), most (c .before .before), c .before .before .before .before .before .before .before .pre .0 .size)
 
+sub-if2-2 : tie.Need-sub-if2-2
+sub-if2-2 c = search needs
+
+mul-if2-3 : tie.Need-mul-if2-3
+mul-if2-3 c = omega (arith, place-of (c .before .before), most (c .before .before))
+
+slice-read-if2-3 : tie.Need-slice-read-if2-3
+slice-read-if2-3 c = omega (arith, place-of (c .before .before .before), most (c .before .before .before), c .before .before .before .before .before .before .before .before .pre .0 .size)
+
+mul-if2-4 : tie.Need-mul-if2-4
+mul-if2-4 c = omega (arith, place-of (c .before .before .before), most (c .before .before .before))
+
+slice-read-if2-4 : tie.Need-slice-read-if2-4
+slice-read-if2-4 c = omega (arith, place-of (c .before .before .before .before), most (c .before .before .before .before), c .before .before .before .before .before .before .before .before .before .pre .0 .size)
+
 same-length : tie.Need-same-length
 same-length c = search needs
 
 returns-2 : tie.Need-returns-2
 returns-2 c =
-    let at = c .before .before .before in
+    let at = c .before .before .before .before .before in
     let a = at .before .before .before .before .before .args in
     let p = at .before .before .before .before .before .pre in
     row-same (row at) (p .0)
@@ -73,7 +91,7 @@ returns-2 c =
 
 close-gap-requires : tie.Need-close-gap-requires
 close-gap-requires c κs =
-    let at = c .before .before .before .before in
+    let at = c .before .before .before .before .before .before in
     (at .before .before .before .before .before .pre .0, place-of at .1)
 
 same-length-2 : tie.Need-same-length-2
@@ -81,7 +99,7 @@ same-length-2 c = search needs
 
 returns-3 : tie.Need-returns-3
 returns-3 c =
-    let at = c .before .before .before .before .before .before .before in
+    let at = c .before .before .before .before .before .before .before .before .before in
     let a = at .before .before .before .before .before .args in
     let p = at .before .before .before .before .before .pre in
     c .before .before .close-gap .ensures
@@ -96,11 +114,17 @@ forget-spec =
     place-in-requires
     mul-at
     add-at
+    add-mask
     mul-if2
     slice-read-if2
     sub-if2
     mul-if2-2
     slice-read-if2-2
+    sub-if2-2
+    mul-if2-3
+    slice-read-if2-3
+    mul-if2-4
+    slice-read-if2-4
     same-length
     returns-2
     close-gap-requires

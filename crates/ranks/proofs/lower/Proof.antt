@@ -6,10 +6,10 @@ use native.Mathlib.Omega.{arith}
 use lib.ListN.{length, set}
 use Rattle.names.specs.Sizes.{base}
 use Rattle.names.specs.Layout.{txnRankAt}
-use Rattle.rules.specs.Tables.{Txn, txnAt, txn, reranked}
+use Rattle.rules.specs.Tables.{Txn, txnAt, txn, reworded, reranked}
 use Rattle.rules.specs.Waits.{lowered}
-use Rattle.rules.proofs.Views.{length-reranked}
-use Rattle.ranks.proofs.Ranks.{reranked-more}
+use Rattle.rules.proofs.Views.{length-reworded}
+use Rattle.rows.proofs.Rewords.{reworded-more}
 use Rattle.ranks.proofs.lower.Statement.{statement}
 use Rattle.ranks.proofs.lower.Tie as tie
 
@@ -20,7 +20,7 @@ abbrev μ-loop : tie.MeasureT-loop
 μ-loop txns₀ item behind slot₀ txns slot = base .slots - slot
 
 loop-holds : tie.Need-loop-holds Inv-loop μ-loop
-unfolding reranked
+unfolding reworded
 loop-holds c = (omega arith, refl)
 
 lower-row-requires : tie.Need-lower-row-requires Inv-loop μ-loop
@@ -28,7 +28,7 @@ lower-row-requires c κs = let l = c .before .before .loop in
     let a = c .before .before .before .before .args in
     let p = c .before .before .before .before .pre in
     let f : (Txn → ℕ) = lowered (a .item .0) (a .behind) in
-    (ap length (l .inv .1) ∙ length-reranked (l .slot) f (a .txns .now) ∙ p, omega arith)
+    (ap length (l .inv .1) ∙ length-reworded txnRankAt (omega arith) (l .slot) f (a .txns .now) ∙ p, omega arith)
 
 add-slot : tie.Need-add-slot Inv-loop μ-loop
 add-slot c = omega arith
@@ -44,13 +44,13 @@ loop-again c = let l = c .before .before .before .before .before .loop in
       omega arith,
       e
           ∙ ap (λ (u : List ℕ). set u (txnAt (l .slot) + txnRankAt) (f (txn u (l .slot)))) (l .inv .1)
-          ∙ reranked-more (l .slot) f (a .txns .now),
+          ∙ reworded-more txnRankAt (omega arith) (l .slot) f (a .txns .now),
     )
 
 same-length : tie.Need-same-length Inv-loop μ-loop
 same-length c = let l = c .before .loop in
     let a = c .before .before .before .args in
-    ap length (l .inv .1) ∙ length-reranked (l .slot) (lowered (a .item .0) (a .behind)) (a .txns .now)
+    ap length (l .inv .1) ∙ length-reworded txnRankAt (omega arith) (l .slot) (lowered (a .item .0) (a .behind)) (a .txns .now)
 
 returns : tie.Need-returns Inv-loop μ-loop
 returns c = let l = c .before .loop in

@@ -6,10 +6,10 @@ use native.Mathlib.Omega.{arith}
 use lib.ListN.{length, set}
 use Rattle.names.specs.Sizes.{base}
 use Rattle.names.specs.Layout.{txnRankAt}
-use Rattle.rules.specs.Tables.{Txn, txnAt, txn, reranked}
+use Rattle.rules.specs.Tables.{Txn, txnAt, txn, reworded, reranked}
 use Rattle.rules.specs.Waits.{raised}
-use Rattle.rules.proofs.Views.{length-reranked, txn-reranked-out}
-use Rattle.ranks.proofs.Ranks.{reranked-more}
+use Rattle.rules.proofs.Views.{length-reworded, txn-reworded-out}
+use Rattle.rows.proofs.Rewords.{reworded-more}
 use Rattle.ranks.proofs.raise.Statement.{statement}
 use Rattle.ranks.proofs.raise.Tie as tie
 
@@ -20,7 +20,7 @@ abbrev μ-loop : tie.MeasureT-loop
 μ-loop txns₀ item from slot₀ txns slot = base .slots - slot
 
 loop-holds : tie.Need-loop-holds Inv-loop μ-loop
-unfolding reranked
+unfolding reworded
 loop-holds c = (omega arith, refl)
 
 raise-row-requires : tie.Need-raise-row-requires Inv-loop μ-loop
@@ -28,7 +28,7 @@ raise-row-requires c κs = let l = c .before .before .loop in
     let a = c .before .before .before .before .args in
     let p = c .before .before .before .before .pre in
     let f : (Txn → ℕ) = raised (a .item .0) (a .from) in
-    (ap length (l .inv .1) ∙ length-reranked (l .slot) f (a .txns .now) ∙ p .0, omega arith, subst (λ (r : Txn). r .rank ≤ base .slots) (sym (ap (λ (u : List ℕ). txn u (l .slot)) (l .inv .1) ∙ txn-reranked-out (l .slot) f (a .txns .now) (l .slot) (omega arith))) (p .1 .at (l .slot) (omega arith)))
+    (ap length (l .inv .1) ∙ length-reworded txnRankAt (omega arith) (l .slot) f (a .txns .now) ∙ p .0, omega arith, subst (λ (r : Txn). r .rank ≤ base .slots) (sym (ap (λ (u : List ℕ). txn u (l .slot)) (l .inv .1) ∙ txn-reworded-out txnRankAt (omega arith) (l .slot) f (a .txns .now) (l .slot) (omega arith))) (p .1 .at (l .slot) (omega arith)))
 
 add-slot : tie.Need-add-slot Inv-loop μ-loop
 add-slot c = omega arith
@@ -44,13 +44,13 @@ loop-again c = let l = c .before .before .before .before .before .loop in
       omega arith,
       e
           ∙ ap (λ (u : List ℕ). set u (txnAt (l .slot) + txnRankAt) (f (txn u (l .slot)))) (l .inv .1)
-          ∙ reranked-more (l .slot) f (a .txns .now),
+          ∙ reworded-more txnRankAt (omega arith) (l .slot) f (a .txns .now),
     )
 
 same-length : tie.Need-same-length Inv-loop μ-loop
 same-length c = let l = c .before .loop in
     let a = c .before .before .before .args in
-    ap length (l .inv .1) ∙ length-reranked (l .slot) (raised (a .item .0) (a .from)) (a .txns .now)
+    ap length (l .inv .1) ∙ length-reworded txnRankAt (omega arith) (l .slot) (raised (a .item .0) (a .from)) (a .txns .now)
 
 returns : tie.Need-returns Inv-loop μ-loop
 returns c = let l = c .before .loop in

@@ -1,7 +1,7 @@
 -- The rows passed are rewritten, with the working value in front where the slot holds the item exclusively.
 use Rattle.rewrites.proofs.commit_all.Statement.{statement}
 use Rattle.rewrites.proofs.commit_all.Tie as tie
-use Prim.Native.Nat.{_≤_, _+_, _-_, _*_}
+use Prim.Native.Nat.{ℕ, _≤_, _+_, _-_, _*_}
 use native.Mathlib.Omega.{arith}
 use mathlib.Core.Path.{_≡_, sym, _∙_}
 use mathlib.Core.Bool.{true}
@@ -15,25 +15,25 @@ use Rattle.packing.specs.Changed.{Frontable}
 use Rattle.rewrites.proofs.Committed.{Committed, none-committed, committed-size, next-frontable, one-committed, all-committed}
 
 abbrev Inv-loop : tie.InvT-loop
-Inv-loop versions₀ locks below owner stamp i₀ versions i = (i ≤ base .items) × Committed versions₀ locks owner stamp below versions i
+Inv-loop versions₀ locks hidden below owner stamp i₀ versions i = (i ≤ base .items) × Committed versions₀ locks owner stamp hidden below versions i
 
 abbrev μ-loop : tie.MeasureT-loop
-μ-loop versions₀ locks below owner stamp i₀ versions i = base .items - i
+μ-loop versions₀ locks hidden below owner stamp i₀ versions i = base .items - i
 
 -- in the loop: the table is whole, and the next row has room for a version in front
 size : (c : tie.At-loop Inv-loop μ-loop) → length (c .loop .versions) ≡ versionWords base
 size c =
     let a = c .before .before .before .before .args in
-    committed-size (a .versions .now) (a .locks .now) (a .slot .0) (a .stamp .0) (a .below) (c .before .before .before .before .pre) (c .loop .versions) (c .loop .i) (c .loop .inv .1) (c .loop .inv .0)
+    committed-size (a .versions .now) (a .locks .now) (a .slot .0) (a .stamp .0) (a .hidden) (a .below) (c .before .before .before .before .pre) (c .loop .versions) (c .loop .i) (c .loop .inv .1) (c .loop .inv .0)
 
 frontable :
     (c : tie.In-loop Inv-loop μ-loop)
     → eqb (getD (c .before .before .before .before .before .args .locks .now) (lockRow * c .before .loop .i + lockExclusiveAt) 0) (c .before .before .before .before .before .args .slot .0 + 1) ≡ true
-    → Frontable (row (versionRow base) (c .before .loop .i) (c .before .loop .versions)) (c .before .before .before .before .before .args .below)
+    → (value : ℕ) → Frontable (row (versionRow base) (c .before .loop .i) (c .before .loop .versions)) (c .before .before .before .before .before .args .below) (c .before .before .before .before .before .args .stamp .0) value (c .before .before .before .before .before .args .hidden)
 frontable c e =
     let a = c .before .before .before .before .before .args in
     let l = c .before .loop in
-    next-frontable (a .versions .now) (a .locks .now) (a .slot .0) (a .stamp .0) (a .below) (c .before .before .before .before .before .pre) (l .versions) (l .i) (l .inv .1) (c .loop-test .taken) e
+    next-frontable (a .versions .now) (a .locks .now) (a .slot .0) (a .stamp .0) (a .hidden) (a .below) (c .before .before .before .before .before .pre) (l .versions) (l .i) (l .inv .1) (c .loop-test .taken) e
 
 add-owner : tie.Need-add-owner Inv-loop μ-loop
 add-owner c = omega arith
@@ -41,7 +41,7 @@ add-owner c = omega arith
 loop-holds : tie.Need-loop-holds Inv-loop μ-loop
 loop-holds c =
     let a = c .before .before .before .args in
-    (omega arith, none-committed (a .versions .now) (a .locks .now) (a .slot .0 + 1) (a .stamp .0) (a .below))
+    (omega arith, none-committed (a .versions .now) (a .locks .now) (a .slot .0 + 1) (a .stamp .0) (a .hidden) (a .below))
 
 mul-new : tie.Need-mul-new Inv-loop μ-loop
 mul-new c = omega arith
@@ -70,7 +70,7 @@ shared-slice-read-commit-item c = omega arith
 commit-item-requires : tie.Need-commit-item-requires Inv-loop μ-loop
 commit-item-requires c κs =
     let in-loop = c .before .before .before in
-    (size (in-loop .before), in-loop .loop-test .taken, frontable in-loop)
+    (size (in-loop .before), in-loop .loop-test .taken, λ e. frontable in-loop e _)
 
 add-i : tie.Need-add-i Inv-loop μ-loop
 add-i c = omega arith
@@ -83,7 +83,7 @@ loop-again c =
     let a = c .before .before .before .before .before .before .before .before .before .before .before .args in
     let p = c .before .before .before .before .before .before .before .before .before .before .before .pre in
     let l = c .before .before .before .before .before .before .before .loop in
-    (omega arith, one-committed (a .versions .now) (a .locks .now) (a .slot .0) (a .stamp .0) (a .below) p (l .versions) (l .i) (l .inv .1) (c .before .before .before .before .before .before .loop-test .taken) (c .before .before .commit-item .ensures))
+    (omega arith, one-committed (a .versions .now) (a .locks .now) (a .slot .0) (a .stamp .0) (a .hidden) (a .below) p (l .versions) (l .i) (l .inv .1) (c .before .before .before .before .before .before .loop-test .taken) (c .before .before .commit-item .ensures))
 
 same-length : tie.Need-same-length Inv-loop μ-loop
 same-length c = size (c .before) ∙ sym (c .before .before .before .before .before .pre .tidy .size)
@@ -92,7 +92,7 @@ returns : tie.Need-returns Inv-loop μ-loop
 returns c =
     let a = c .before .before .before .before .before .args in
     let l = c .before .loop in
-    all-committed (a .versions .now) (a .locks .now) (a .slot .0) (a .stamp .0) (a .below) (c .before .before .before .before .before .pre) (l .versions) (l .i) (l .inv .1) (l .inv .0) (c .loop-test .left)
+    all-committed (a .versions .now) (a .locks .now) (a .slot .0) (a .stamp .0) (a .hidden) (a .below) (c .before .before .before .before .before .pre) (l .versions) (l .i) (l .inv .1) (l .inv .0) (c .loop-test .left)
 
 pub commit-all-spec : {M : Type 1} → statement M
 commit-all-spec =

@@ -36,7 +36,7 @@ part-put-front-end c = search needs
 put-front-requires : tie.Need-put-front-requires
 put-front-requires c κs =
     let a = c .before .before .before .args in
-    subst (λ (r : List ℕ). Frontable r (a .below)) (sym (lent (a .x) (a .versions .now))) (c .before .before .before .pre .2 (c .before .if1 .taken))
+    subst (λ (r : List ℕ). Frontable r (a .below) (a .stamp) (a .value) (a .hidden)) (sym (lent (a .x) (a .versions .now))) (c .before .before .before .pre .2 (c .before .if1 .taken))
 
 same-length : tie.Need-same-length
 same-length c = search needs
@@ -46,7 +46,7 @@ returns c =
     let a = c .before .before .before .before .before .before .args in
     let v = a .versions .now in
     let w = versionRow base * a .x in
-    let words : List ℕ → List ℕ = λ r. rowOf base (fronted (a .below) (record { stamp = a .stamp; value = a .value }) (versionsIn r)) in
+    let words : List ℕ → List ℕ = λ r. rowOf base (fronted (a .below) (record { stamp = a .stamp; value = a .value; hidden = a .hidden }) (versionsIn base r)) in
     ap₂ (λ (ys : List ℕ) (n : ℕ). take w v ++ (ys ++ drop n (drop w v))) (c .before .before .put-front .ensures ∙ ap words (lent (a .x) v)) (wide (a .x))
     ∙ ap (λ (b : Bool). cond b (withRow (a .x) (words (row (versionRow base) (a .x) v)) v) v) (sym (c .before .before .before .before .if1 .taken))
 

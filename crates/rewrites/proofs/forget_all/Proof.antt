@@ -8,7 +8,7 @@ use native.Mathlib.Omega.{arith}
 use lib.ListN.{length}
 use Rattle.names.specs.Sizes.{base}
 use Rattle.rules.specs.Words.{row}
-use Rattle.rules.specs.Tables.{versionRow, versionWords}
+use Rattle.rules.specs.Tables.{versionRow, versionWords, upTo}
 use Rattle.rules.specs.Versions.{versionsIn, place}
 use Rattle.packing.specs.Changed.{TidyRow}
 use Rattle.rewrites.proofs.Forgotten.{Forgotten, none-forgotten, forgotten-size, next-tidy, next-found, one-forgotten, all-forgotten, none-goes}
@@ -34,7 +34,7 @@ tidy c =
     let l = c .before .loop in
     next-tidy (a .versions .now) (a .start .0) (a .beside .below) (a .beside .next) (c .before .before .before .before .pre) (l .versions) (l .i) (l .inv .1) (c .loop-test .taken)
 
-found : (c : tie.In-loop Inv-loop μ-loop) → place (c .before .before .before .before .args .start .0) (versionsIn (next-row c)) < length (versionsIn (next-row c))
+found : (c : tie.In-loop Inv-loop μ-loop) → place (upTo (c .before .before .before .before .args .start .0)) (versionsIn base (next-row c)) < length (versionsIn base (next-row c))
 found c =
     let a = c .before .before .before .before .args in
     let l = c .before .loop in

@@ -7,7 +7,7 @@ use Prim.Native.Nat.{ℕ, _*_, _<_}
 use mathlib.Core.List.{List, _++_}
 use lib.ListN.{length, take, drop}
 use Rattle.names.specs.Sizes.{base}
-use Rattle.rules.specs.Tables.{versionRow}
+use Rattle.rules.specs.Tables.{versionRow, upTo}
 use Rattle.rules.specs.Versions.{versionsIn, rowOf, place}
 use Rattle.packing.specs.Changed.{TidyRow, leftBy}
 use Rattle.choices.proofs.Lent.{wide, lent}
@@ -34,7 +34,7 @@ forget-requires : tie.Need-forget-requires
 forget-requires c κs =
     let a = c .before .before .args in
     let p = c .before .before .pre in
-    subst (λ (r : List ℕ). TidyRow r × (place (a .start) (versionsIn r) < length (versionsIn r))) (sym (lent (a .x) (a .versions .now))) (p .2, p .3)
+    subst (λ (r : List ℕ). TidyRow r × (place (upTo (a .start)) (versionsIn base r) < length (versionsIn base r))) (sym (lent (a .x) (a .versions .now))) (p .2, p .3)
 
 same-length : tie.Need-same-length
 same-length c = search needs
@@ -45,7 +45,7 @@ returns c =
     let v = a .versions .now in
     let w = versionRow base * a .x in
     ap₂ (λ (ys : List ℕ) (n : ℕ). take w v ++ (ys ++ drop n (drop w v)))
-    (c .before .before .forget .ensures ∙ ap (λ (r : List ℕ). rowOf base (leftBy (a .start) (a .below) (a .next) (versionsIn r))) (lent (a .x) v))
+    (c .before .before .forget .ensures ∙ ap (λ (r : List ℕ). rowOf base (leftBy (a .start) (a .below) (a .next) (versionsIn base r))) (lent (a .x) v))
     (wide (a .x))
 
 pub forget-item-spec : {M : Type 1} → statement M

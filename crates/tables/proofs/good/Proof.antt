@@ -1,6 +1,6 @@
--- The test of all tables: each part that fails makes them bad, and where all others pass the versions decide.
+-- The test of all tables: each part that fails makes them bad, and where all others pass those past their writing decide.
 use Prim.Native.Nat.{ℕ, _^_, _<_}
-use mathlib.Core.Path.{sym, ap, _∙_, subst}
+use mathlib.Core.Path.{_≡_, sym, ap, _∙_, subst}
 use mathlib.Core.Logic.{⊎-elim}
 use mathlib.Core.Bool.{_&&_}
 use mathlib.Core.List.{List}
@@ -8,19 +8,20 @@ use lib.Dec.{T}
 use borrow.Author.Tests.{not-true, not-false}
 use borrow.Author.Needs.{needs}
 use Rattle.names.specs.Sizes.{base}
-use Rattle.rules.specs.Tables.{tables, starts}
-use Rattle.rules.specs.Tested.{distinct, ranksGood, settledGood}
+use Rattle.rules.specs.Tables.{tables}
+use Rattle.rules.specs.Tested.{distinct, ranksGood, settledGood, setsGood}
 use Rattle.rules.specs.Waits.{noCircle}
 use Rattle.rules.proofs.Tests.{and-left, and-right, and-both, is-true, true-is, false-is}
 use Rattle.shapes.specs.declared.Seen.{Seen}
 use Rattle.shapes.specs.Shape.{rowsGood, settledIn}
 use Rattle.holdings.specs.Holding.{locksGood, quotasGood}
 use Rattle.waiting.specs.Waiting.{Readable, Awaiting, awaitersGood}
+use Rattle.sets.specs.Joined.{setsTest}
 use Rattle.holdings.proofs.Holders.{updates-lt, settled-lt}
 use Rattle.stamps.proofs.Stamps.{none-stamped}
 use Rattle.tables.proofs.Reading.{awaiting, readable}
 use Rattle.waiting.proofs.Rounds.{none-awaits, none-ranked, none-circles}
-use Rattle.tables.proofs.Whole.{Parts, versionsTest, fails, decides, each-has}
+use Rattle.tables.proofs.Whole.{Parts, versionsTest, holdersTest, fails, decides, versions-are, each-has, sets-are}
 use Rattle.tables.proofs.good.Statement.{statement}
 use Rattle.tables.proofs.good.Tie as tie
 
@@ -113,7 +114,10 @@ all-good-requires c κs = (c .before .before .before .before .before .before .be
 returns-8 : tie.Need-returns-8
 returns-8 c =
     let t = txns (c .before .before .before .before .before .before .before .before .before .before .before .before) in
-    fails _ _ _ (λ p. false-is (sym (c .before .all-good .ensures (starts base t) (c .before .before .before .before .starts-in-order .ensures)) ∙ not-true _ (c .if9 .taken)) (p .versions))
+    let e = ap (λ (s : Seen). s .relaxed) (c .before .before .before .before .before .before .before .before .before .before .before .rows .ensures) in
+    fails _ _ _
+    (λ p.
+    false-is (sym (versions-are t _ _ e (c .before .before .before .before .starts-in-order .ensures) (c .before .all-good .ensures)) ∙ not-true _ (c .if9 .taken)) (p .versions))
 
 -- and the versions
 abbrev rows-there : tie.Else9 → tie.Else3
@@ -124,16 +128,59 @@ versions c = (rows-there c) .before .before .before .before .before .before .arg
 
 versions-passed : (c : tie.Else9) → T (versionsTest (txns (rows-there c)) (versions c))
 versions-passed c =
-    true-is (sym (c .before .all-good .ensures (starts base (txns (rows-there c))) (c .before .before .before .before .starts-in-order .ensures)) ∙ not-false _ (c .if9 .left))
+    let e = ap (λ (s : Seen). s .relaxed) (c .before .before .before .before .before .before .before .before .before .before .before .rows .ensures) in
+    true-is
+    (sym (versions-are (txns (rows-there c)) _ _ e (c .before .before .before .before .starts-in-order .ensures) (c .before .all-good .ensures)) ∙ not-false _ (c .if9 .left))
+
+-- the rows, where the versions passed too
+rows-still : (c : tie.Else9) → T (rowsGood base (txns (rows-there c)))
+rows-still c = rows-passed (c .before .before .before .before .before .before .before .before .before .before)
+
+sets-pass-requires : tie.Need-sets-pass-requires
+sets-pass-requires c κs =
+    let rows = rows-there c in
+    let seen = c .before .before .before .before .before .before .before .before .before .before .before .rows .ensures in (
+      rows .before .before .if1 .left,
+      rows .before .if2 .left,
+      rows .if3 .left,
+      ap (λ (s : Seen). s .settled) seen,
+      ap (λ (s : Seen). s .relaxed) seen,
+      ap (λ (s : Seen). s .later) seen,
+    )
+
+-- the test of the sets is that of the rules
+sets-here :
+    (c : tie.Else9)
+    → setsTest base (txns (rows-there c)) (locks (rows-there c)) (versions c)
+    ≡ (setsGood base (txns (rows-there c)) && holdersTest (txns (rows-there c)) (locks (rows-there c)) (versions c))
+sets-here c = sets-are (txns (rows-there c)) (locks (rows-there c)) (versions c) (rows-still c) (versions-passed c)
+
+returns-9 : tie.Need-returns-9
+returns-9 c =
+    fails _ _ _
+    (λ p.
+    false-is (sym (c .before .sets-pass .ensures ∙ sets-here (c .before .before)) ∙ not-true _ (c .if10 .taken))
+    (and-both (setsGood base _) _ (p .sets) (p .holders)))
+
+-- and the sets
+abbrev versions-there : tie.Else10 → tie.Else9
+versions-there c = c .before .before
+
+sets-passed :
+    (c : tie.Else10)
+    → T (setsGood base (txns (rows-there (versions-there c))) && holdersTest (txns (rows-there (versions-there c))) (locks (rows-there (versions-there c))) (versions (versions-there c)))
+sets-passed c = true-is (sym (c .before .sets-pass .ensures ∙ sets-here (versions-there c)) ∙ not-false _ (c .if10 .left))
 
 -- so those past their writing decide
 parts-here :
-    (c : tie.Else9) → T (settledGood base (tables (txns (rows-there c)) (locks (rows-there c)) (versions c)))
-    → Parts (txns (rows-there c)) (locks (rows-there c)) (versions c)
-parts-here c x =
+    (d : tie.Else10)
+    → T (settledGood base (tables (txns (rows-there (versions-there d))) (locks (rows-there (versions-there d))) (versions (versions-there d))))
+    → Parts (txns (rows-there (versions-there d))) (locks (rows-there (versions-there d))) (versions (versions-there d))
+parts-here d x =
+    let c = versions-there d in
     let t = txns (c .before .before .before .before .before .before .before .before .before .before .before .before) in
     let l = locks (c .before .before .before .before .before .before .before .before .before .before .before .before) in
-    let rows = rows-passed (c .before .before .before .before .before .before .before .before .before .before) in
+    let rows = rows-still c in
     let held = held-passed (c .before .before .before .before .before .before .before .before) in
     let can = readable-here (c .before .before .before .before .before .before .before .before) in
     let e = ap (λ (s : Seen). s .waiting) (c .before .before .before .before .before .before .before .before .before .before .before .rows .ensures) in
@@ -156,31 +203,35 @@ parts-here c x =
       ranks = and-left (ranksGood base t l) _ (and-right (awaitersGood base t l) _ waits);
       free = and-right (ranksGood base t l) _ (and-right (awaitersGood base t l) _ waits);
       settled = x;
+      sets = and-left (setsGood base t) _ (sets-passed d);
+      holders = and-right (setsGood base t) _ (sets-passed d);
       versions = versions-passed c;
     }
 
-returns-9 : tie.Need-returns-9
-returns-9 c =
-    let G = tables (txns (rows-there (c .before))) (locks (rows-there (c .before))) (versions (c .before)) in
-    let x = none-stamped G (sym (ap (λ (s : Seen). s .settled) (c .before .before .before .before .before .before .before .before .before .before .before .before .rows .ensures)) ∙ c .if10 .taken) in
+returns-10 : tie.Need-returns-10
+returns-10 c =
+    let d = versions-there (c .before) in
+    let G = tables (txns (rows-there d)) (locks (rows-there d)) (versions d) in
+    let x = none-stamped G (sym (ap (λ (s : Seen). s .settled) (d .before .before .before .before .before .before .before .before .before .before .before .rows .ensures)) ∙ c .if11 .taken) in
     decides _ _ _ (sym (is-true (settledGood base G) x)) (parts-here (c .before))
 
 stamps-pass-requires : tie.Need-stamps-pass-requires
 stamps-pass-requires c κs =
-    let rows = rows-there (c .before) in (
+    let d = versions-there (c .before) in
+    let rows = rows-there d in (
       record {
         txnsExact = rows .before .before .if1 .left;
-        seen = ap (λ (s : Seen). s .settled) (c .before .before .before .before .before .before .before .before .before .before .before .before .rows .ensures);
+        seen = ap (λ (s : Seen). s .settled) (d .before .before .before .before .before .before .before .before .before .before .before .rows .ensures);
       },
       record {
         locksExact = rows .before .if2 .left;
         versionsExact = rows .if3 .left;
-        some = each-has (txns rows) (versions (c .before)) (versions-passed (c .before));
+        some = each-has (txns rows) (versions d) (versions-passed d);
       },
     )
 
-returns-10 : tie.Need-returns-10
-returns-10 c = decides _ _ _ (c .stamps-pass .ensures) (parts-here (c .before .before))
+returns-11 : tie.Need-returns-11
+returns-11 c = decides _ _ _ (c .stamps-pass .ensures) (parts-here (c .before .before))
 
 pub good-spec : {M : Type 1} → statement M
 good-spec =
@@ -202,6 +253,8 @@ good-spec =
     slice-aggregate-all-good
     all-good-requires
     returns-8
+    sets-pass-requires
     returns-9
+    returns-10
     stamps-pass-requires
-    returns-10)
+    returns-11)

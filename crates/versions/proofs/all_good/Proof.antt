@@ -1,4 +1,4 @@
--- Every row passes the test, which is the rules' own for each list of starts that is in order.
+-- Every row passes the test, which is the rules' own for whichever readers have the starts in order and are, if relaxed, in the slots.
 use mathlib.Core.Path.{_≡_, refl, sym, ap, ap₂, _∙_}
 use Prim.Native.Nat.{ℕ, _≤_, _-_}
 use mathlib.Core.Bool.{_&&_}
@@ -15,10 +15,10 @@ use Rattle.versions.proofs.all_good.Statement.{statement}
 use Rattle.versions.proofs.all_good.Tie as tie
 
 abbrev Inv-loop : tie.InvT-loop
-Inv-loop versions clock starts ok₀ i₀ ok i = (i ≤ base .items) × (ok ≡ everyBelow i (λ (j : ℕ). rowOk clock starts (row (versionRow base) j versions)))
+Inv-loop versions clock starts relaxed ok₀ i₀ ok i = (i ≤ base .items) × (ok ≡ everyBelow i (λ (j : ℕ). rowOk clock starts relaxed (row (versionRow base) j versions)))
 
 abbrev μ-loop : tie.MeasureT-loop
-μ-loop versions clock starts ok₀ i₀ ok i = base .items - i
+μ-loop versions clock starts relaxed ok₀ i₀ ok i = base .items - i
 
 loop-holds : tie.Need-loop-holds Inv-loop μ-loop
 unfolding everyBelow
@@ -60,7 +60,7 @@ loop-again c =
     let i = c .before .before .before .loop .i in (
       omega arith,
       ap₂ _&&_
-          (c .row-ok .ensures ∙ ap (λ (r : List ℕ). rowOk (a .clock) (a .starts .now) r) (lent i (a .versions .now)))
+          (c .row-ok .ensures ∙ ap (λ (r : List ℕ). rowOk (a .clock) (a .starts .now) (a .relaxed) r) (lent i (a .versions .now)))
           (c .before .before .before .loop .inv .1)
           ∙ sym (every-more _ _),
     )
@@ -71,10 +71,10 @@ returns c =
     let a = c .before .before .before .before .args in
     let e : c .before .loop .i ≡ base .items = omega arith in
     let f = c .before .before .before .before .fits .clock .fits in
-    λ qs h.
+    λ qs us h s.
     c .before .loop .inv .1
-    ∙ ap (λ (n : ℕ). everyBelow n (λ (j : ℕ). rowOk (a .clock) (a .starts .now) (row (versionRow base) j (a .versions .now)))) e
-    ∙ rows-same (a .clock) qs (a .starts .now) (a .versions .now) (omega arith) (c .before .before .before .before .pre .0) h
+    ∙ ap (λ (n : ℕ). everyBelow n (λ (j : ℕ). rowOk (a .clock) (a .starts .now) (a .relaxed) (row (versionRow base) j (a .versions .now)))) e
+    ∙ rows-same (a .clock) qs us (a .starts .now) (a .relaxed) (a .versions .now) (omega arith) (c .before .before .before .before .pre .0) h s
 
 pub all-good-spec : {M : Type 1} → statement M
 all-good-spec =

@@ -1,5 +1,5 @@
--- An exclusive lock taken.
-use mathlib.Core.Path.{ap, _∙_}
+-- An exclusive lock taken, and the sets that its taker joins.
+use mathlib.Core.Path.{refl, ap, _∙_}
 use Rattle.rules.specs.Tables.{Lock}
 use Rattle.rules.specs.Step.{taken}
 use Rattle.deeds.proofs.Deeds.{taken-done}
@@ -10,14 +10,20 @@ use Rattle.deeds.proofs.grants.takes_exclusive.Tie as tie
 lock-at-requires : tie.Need-lock-at-requires
 lock-at-requires c κs = search needs
 
+have-read-requires : tie.Need-have-read-requires
+have-read-requires c κs = search needs
+
+hidden-now-requires : tie.Need-hidden-now-requires
+hidden-now-requires c κs = search needs
+
 taken-requires : tie.Need-taken-requires
 taken-requires c κs = search needs
 
+granted-anew-requires : tie.Need-granted-anew-requires
+granted-anew-requires c κs = search needs
+
 granted-requires : tie.Need-granted-requires
 granted-requires c κs = search needs
-
-granted-requires-2 : tie.Need-granted-requires-2
-granted-requires-2 c κs = search needs
 
 same-length : tie.Need-same-length
 same-length c = search needs
@@ -27,16 +33,22 @@ same-length-2 c = search needs
 
 returns : tie.Need-returns
 returns c =
-    λ v. taken-done (c .before .before .before .before .before .before .before .before .before .before .before .before .before .args .txns .now) (c .before .before .before .before .before .before .before .before .before .before .before .before .before .args .locks .now) v _ _ (c .before .before .before .before .before .granted .ensures) _ (c .before .before .before .before .before .before .taken .ensures ∙ ap (λ (h : Lock). taken h (c .before .before .before .before .before .before .before .before .before .before .before .before .before .args .slot .0) (c .before .before .before .before .before .before .before .before .before .before .before .before .before .args .value)) (c .before .before .before .before .before .before .before .before .before .lock-at .ensures)) (c .granted2 .ensures)
+    let d = c .before .before .before .before .before .before .before .before .before in
+    let a = d .before .before .before .before .before .before .before .before .args in
+    taken-done (a .txns .now) (a .locks .now) (a .versions .now) (a .slot) (a .item) (c .before .before .before .before .before .granted-anew .ensures) (a .value)
+    (c .before .before .before .before .before .before .taken .ensures ∙ ap (λ (h : Lock). taken h (a .slot .0) (a .value)) (d .before .before .before .lock-at .ensures))
+    refl (d .before .have-read .ensures) (d .hidden-now .ensures) (c .granted .ensures)
 
 pub takes-exclusive-spec : {M : Type 1} → statement M
 takes-exclusive-spec =
     tie.close
     (tie.spec
     lock-at-requires
+    have-read-requires
+    hidden-now-requires
     taken-requires
+    granted-anew-requires
     granted-requires
-    granted-requires-2
     same-length
     same-length-2
     returns)

@@ -1,4 +1,4 @@
--- A lock shared too.
+-- A lock shared too, and the sets that its taker joins.
 use mathlib.Core.Path.{ap, _∙_}
 use Rattle.rules.specs.Tables.{Lock}
 use Rattle.rules.specs.Step.{sharedToo}
@@ -10,11 +10,14 @@ use Rattle.deeds.proofs.grants.takes_shared.Tie as tie
 lock-at-requires : tie.Need-lock-at-requires
 lock-at-requires c κs = search needs
 
+hidden-now-requires : tie.Need-hidden-now-requires
+hidden-now-requires c κs = search needs
+
 shared-too-requires : tie.Need-shared-too-requires
 shared-too-requires c κs = search needs
 
-granted-requires : tie.Need-granted-requires
-granted-requires c κs = search needs
+granted-anew-requires : tie.Need-granted-anew-requires
+granted-anew-requires c κs = search needs
 
 newest-requires : tie.Need-newest-requires
 newest-requires c κs = search needs
@@ -30,15 +33,19 @@ same-length-2 c = search needs
 
 returns : tie.Need-returns
 returns c =
-    shared-done (c .before .before .before .before .before .before .before .before .before .before .before .before .before .before .before .args .txns .now) (c .before .before .before .before .before .before .before .before .before .before .before .before .before .before .before .args .locks .now) (c .before .before .before .before .before .before .before .before .before .before .before .before .before .before .before .args .versions .now) _ _ (c .before .before .before .before .before .before .granted .ensures) (c .before .before .before .before .before .before .before .shared-too .ensures ∙ ap (λ (h : Lock). sharedToo h (c .before .before .before .before .before .before .before .before .before .before .before .before .before .before .before .args .slot .0)) (c .before .before .before .before .before .before .before .before .before .before .lock-at .ensures)) (c .before .newest .ensures) (c .found .ensures)
+    let a = c .before .before .before .before .before .before .before .before .before .before .before .before .before .before .before .before .args in
+    shared-done (a .txns .now) (a .locks .now) (a .versions .now) (a .slot) (a .item) (c .before .before .before .before .before .before .granted-anew .ensures)
+    (c .before .before .before .before .before .before .before .shared-too .ensures ∙ ap (λ (h : Lock). sharedToo h (a .slot .0)) (c .before .before .before .before .before .before .before .before .before .before .before .lock-at .ensures))
+    (c .before .before .before .before .before .before .before .before .before .before .hidden-now .ensures) (c .before .newest .ensures) (c .found .ensures)
 
 pub takes-shared-spec : {M : Type 1} → statement M
 takes-shared-spec =
     tie.close
     (tie.spec
     lock-at-requires
+    hidden-now-requires
     shared-too-requires
-    granted-requires
+    granted-anew-requires
     newest-requires
     found-requires
     same-length

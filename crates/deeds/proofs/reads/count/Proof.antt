@@ -2,7 +2,7 @@
 use Prim.Native.Nat.{ℕ, _+_}
 use mathlib.Core.Path.{sym, ap, ap₂, _∙_}
 use Rattle.names.specs.Words.{heldAtLast}
-use Rattle.rules.specs.Tables.{setReads}
+use Rattle.rules.specs.Tables.{queryKind, setReads}
 use Rattle.rules.proofs.Counting.{counted-query, counted-none}
 use borrow.Author.Needs.{needs}
 use Rattle.deeds.proofs.reads.count.Statement.{statement}
@@ -30,21 +30,23 @@ same-length : tie.Need-same-length
 same-length c = search needs
 
 returns : tie.Need-returns
+unfolding queryKind
 returns c =
     let a = c .before .before .before .before .before .before .before .before .before .before .before .before .before .before .args in
     c .before .before .set-reads .ensures
     ∙ ap₂ (setReads (a .txns .now) (a .slot .0))
     (c .before .before .before .before .before .before .before .held-sum .ensures ∙ ap (λ (n : ℕ). heldAtLast (n + 1)) (c .before .before .before .before .before .before .before .before .read-count .ensures))
     (c .before .before .before .before .held-sum2 .ensures ∙ ap (λ (n : ℕ). heldAtLast (n + a .looked)) (c .before .before .before .before .before .weight-sum .ensures))
-    ∙ sym (counted-query (a .txns .now) (a .slot .0) (a .looked) (sym (c .before .before .before .before .before .before .before .before .before .before .before .kind .ensures) ∙ c .before .before .before .before .before .before .before .before .before .before .if1 .taken))
+    ∙ sym (counted-query (a .txns .now) (a .slot .0) (a .looked) (ap queryKind (sym (c .before .before .before .before .before .before .before .before .before .before .before .kind .ensures)) ∙ c .before .before .before .before .before .before .before .before .before .before .if1 .taken))
 
 same-length-2 : tie.Need-same-length-2
 same-length-2 c = search needs
 
 returns-2 : tie.Need-returns-2
+unfolding queryKind
 returns-2 c =
     let a = c .before .before .before .before .args in
-    sym (counted-none (a .txns .now) (a .slot .0) (a .looked) (λ e. c .if1 .left (c .before .kind .ensures ∙ e)))
+    sym (counted-none (a .txns .now) (a .slot .0) (a .looked) (ap queryKind (sym (c .before .kind .ensures)) ∙ c .if1 .left))
 
 pub count-spec : {M : Type 1} → statement M
 count-spec =

@@ -1,4 +1,4 @@
--- The free slot, and whether a number is left.
+-- The free slot, whether a number is left, and whether one who begins must be kept apart.
 use mathlib.Core.Path.{_≡_, sym, _∙_}
 use Prim.Native.Nat.{ℕ}
 use mathlib.Core.List.{List}
@@ -7,7 +7,7 @@ use Rattle.names.specs.declared.Slot.{Slot}
 use Rattle.rules.specs.Tables.{freeSlot}
 use Rattle.rows.specs.Founds.{foundAt}
 use Rattle.rows.specs.declared.txns.Found.the-variants.{At}
-use Rattle.judged.proofs.Exits.{begin-full, begin-spent, begin-begins}
+use Rattle.judged.proofs.Exits.{begin-full, begin-spent, begin-apart, begin-begins}
 use borrow.Author.Needs.{needs}
 use Rattle.judged.proofs.begins.begin_by.Statement.{statement}
 use Rattle.judged.proofs.begins.begin_by.Tie as tie
@@ -42,9 +42,18 @@ returns-2 : tie.Need-returns-2
 returns-2 c =
     begin-spent (txns (c .before .before)) _ _ (slot (c .before .before)) (found (c .before .before)) (sym (c .before .last-number .ensures) ∙ c .if1 .taken)
 
+meets-settled-requires : tie.Need-meets-settled-requires
+meets-settled-requires c κs = search needs
+
 returns-3 : tie.Need-returns-3
 returns-3 c =
-    begin-begins (txns (c .before .before)) _ _ (slot (c .before .before)) (found (c .before .before)) (λ e. c .if1 .left (c .before .last-number .ensures ∙ e))
+    let at = c .before .before .before .before in
+    begin-apart (txns at) _ _ (slot at) (found at) (λ e. c .before .before .if1 .left (c .before .before .before .last-number .ensures ∙ e)) _ (c .before .meets-settled .ensures) (c .if2 .taken)
+
+returns-4 : tie.Need-returns-4
+returns-4 c =
+    let at = c .before .before .before .before in
+    begin-begins (txns at) _ _ (slot at) (found at) (λ e. c .before .before .if1 .left (c .before .before .before .last-number .ensures ∙ e)) _ (c .before .meets-settled .ensures) (c .if2 .left)
 
 pub begin-by-spec : {M : Type 1} → statement M
 begin-by-spec =
@@ -56,4 +65,6 @@ begin-by-spec =
     returns
     last-number-requires
     returns-2
-    returns-3)
+    meets-settled-requires
+    returns-3
+    returns-4)

@@ -7,7 +7,8 @@ use Rattle.names.specs.declared.Slot.{Slot}
 use Rattle.rules.specs.Tables.{slotOf}
 use Rattle.rows.specs.Founds.{foundAt}
 use Rattle.rows.specs.declared.txns.Found.the-variants.{At}
-use Rattle.judged.proofs.Exits.{caller-inside, abort-unknown, abort-ends, abort-settled, abort-aborts}
+use Rattle.callers.proofs.Named.{caller-inside}
+use Rattle.judged.proofs.Exits.{abort-unknown, abort-ends, abort-settled, abort-aborts}
 use borrow.Author.Needs.{needs}
 use Rattle.judged.proofs.ends.abort_by.Statement.{statement}
 use Rattle.judged.proofs.ends.abort_by.Tie as tie
@@ -38,23 +39,37 @@ returns : tie.Need-returns
 returns c =
     abort-unknown (c .before .before .before .before .args .txns .now) (c .before .before .before .before .args .number) (sym (c .before .before .find .ensures) ∙ c .enum-told .given .1)
 
-kind-requires : tie.Need-kind-requires
-kind-requires c κs =
-    (c .before .before .before .before .before .pre .size, caller-inside (txns c) (number c) (slot c) (found c))
+is-query-requires : tie.Need-is-query-requires
+is-query-requires c κs = (c .before .before .before .before .before .pre, caller-inside (txns c) (number c) (slot c) (found c))
 
 returns-2 : tie.Need-returns-2
 returns-2 c =
-    abort-ends (txns (c .before .before)) (number (c .before .before)) (slot (c .before .before)) (found (c .before .before)) _ (c .before .kind .ensures) (c .if1 .taken)
+    let at = c .before .before in
+    abort-ends (txns at) (number at) (slot at) (found at) _ (c .before .is-query .ensures) (c .if1 .taken)
+
+kind-requires : tie.Need-kind-requires
+kind-requires c κs = let at = c .before .before in (at .before .before .before .before .before .pre .size, caller-inside (txns at) (number at) (slot at) (found at))
 
 returns-3 : tie.Need-returns-3
 returns-3 c =
-    abort-settled (txns (c .before .before .before)) (number (c .before .before .before)) (slot (c .before .before .before)) (found (c .before .before .before)) _ (c .before .before .kind .ensures) (c .before .if1 .left) (c .if2 .taken)
+    let at = c .before .before .before .before in
+    abort-settled (txns at) (number at) (slot at) (found at) _ (c .before .before .before .is-query .ensures) (c .before .before .if1 .left) _ (c .before .kind .ensures) (c .if2 .taken)
 
 returns-4 : tie.Need-returns-4
 returns-4 c =
-    abort-aborts (txns (c .before .before .before)) (number (c .before .before .before)) (slot (c .before .before .before)) (found (c .before .before .before)) _ (c .before .before .kind .ensures) (c .before .if1 .left) (c .if2 .left)
+    let at = c .before .before .before .before in
+    abort-aborts (txns at) (number at) (slot at) (found at) _ (c .before .before .before .is-query .ensures) (c .before .before .if1 .left) _ (c .before .kind .ensures) (c .if2 .left)
 
 pub abort-by-spec : {M : Type 1} → statement M
 abort-by-spec =
     tie.close
-    (tie.spec find-requires enum-known-found enum-told returns kind-requires returns-2 returns-3 returns-4)
+    (tie.spec
+    find-requires
+    enum-known-found
+    enum-told
+    returns
+    is-query-requires
+    returns-2
+    kind-requires
+    returns-3
+    returns-4)

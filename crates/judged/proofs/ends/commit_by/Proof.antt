@@ -7,7 +7,8 @@ use Rattle.names.specs.declared.Slot.{Slot}
 use Rattle.rules.specs.Tables.{slotOf}
 use Rattle.rows.specs.Founds.{foundAt}
 use Rattle.rows.specs.declared.txns.Found.the-variants.{At}
-use Rattle.judged.proofs.Exits.{caller-inside, commit-unknown, commit-waits, commit-ends, commit-settled, commit-updates}
+use Rattle.callers.proofs.Named.{caller-inside}
+use Rattle.judged.proofs.Exits.{commit-unknown, commit-waits, commit-ends, commit-settled, commit-updates}
 use borrow.Author.Needs.{needs}
 use Rattle.judged.proofs.ends.commit_by.Statement.{statement}
 use Rattle.judged.proofs.ends.commit_by.Tie as tie
@@ -49,25 +50,32 @@ returns-2 : tie.Need-returns-2
 returns-2 c =
     commit-waits (txns (c .before .before)) (number (c .before .before)) (locks (c .before .before)) (slot (c .before .before)) (found (c .before .before)) _ (c .before .awaited-lock .ensures) (c .if1 .taken)
 
-kind-requires : tie.Need-kind-requires
-kind-requires c κs =
-    (c .before .before .before .before .before .before .before .before .pre .0 .size, caller-inside (txns (c .before .before)) (number (c .before .before)) (slot (c .before .before)) (found (c .before .before)))
+is-query-requires : tie.Need-is-query-requires
+is-query-requires c κs = let at = c .before .before in (at .before .before .before .before .before .before .pre .0, caller-inside (txns at) (number at) (slot at) (found at))
 
 returns-3 : tie.Need-returns-3
 returns-3 c =
-    commit-ends (txns (c .before .before .before .before)) (number (c .before .before .before .before)) (locks (c .before .before .before .before)) (slot (c .before .before .before .before)) (found (c .before .before .before .before)) _ (c .before .before .before .awaited-lock .ensures) (c .before .before .if1 .left) _ (c .before .kind .ensures) (c .if2 .taken)
+    let at = c .before .before .before .before in
+    commit-ends (txns at) (number at) (locks at) (slot at) (found at) _ (c .before .before .before .awaited-lock .ensures) (c .before .before .if1 .left) _ (c .before .is-query .ensures) (c .if2 .taken)
+
+kind-requires : tie.Need-kind-requires
+kind-requires c κs = let at = c .before .before .before .before in (at .before .before .before .before .before .before .pre .0 .size, caller-inside (txns at) (number at) (slot at) (found at))
 
 returns-4 : tie.Need-returns-4
 returns-4 c =
-    commit-settled (txns (c .before .before .before .before .before)) (number (c .before .before .before .before .before)) (locks (c .before .before .before .before .before)) (slot (c .before .before .before .before .before)) (found (c .before .before .before .before .before)) _ (c .before .before .before .before .awaited-lock .ensures) (c .before .before .before .if1 .left) _ (c .before .before .kind .ensures) (c .before .if2 .left) (c .if3 .taken)
+    let at = c .before .before .before .before .before .before in
+    commit-settled (txns at) (number at) (locks at) (slot at) (found at) _ (c .before .before .before .before .before .awaited-lock .ensures) (c .before .before .before .before .if1 .left) _ (c .before .before .before .is-query .ensures) (c .before .before .if2 .left) _ (c .before .kind .ensures) (c .if3 .taken)
 
 commit-update-requires : tie.Need-commit-update-requires
 commit-update-requires c κs =
-    (c .before .before .before .before .before .before .before .before .before .before .before .pre .0, c .before .before .before .before .before .before .before .before .before .before .before .pre .1, caller-inside (txns (c .before .before .before .before .before)) (number (c .before .before .before .before .before)) (slot (c .before .before .before .before .before)) (found (c .before .before .before .before .before)))
+    let at = c .before .before .before .before .before .before in
+    let p = at .before .before .before .before .before .before .pre in
+    (p .0, p .1, caller-inside (txns at) (number at) (slot at) (found at))
 
 returns-5 : tie.Need-returns-5
 returns-5 c =
-    c .commit-update .ensures ∙ commit-updates (txns (c .before .before .before .before .before .before)) (number (c .before .before .before .before .before .before)) (locks (c .before .before .before .before .before .before)) (slot (c .before .before .before .before .before .before)) (found (c .before .before .before .before .before .before)) _ (c .before .before .before .before .before .awaited-lock .ensures) (c .before .before .before .before .if1 .left) _ (c .before .before .before .kind .ensures) (c .before .before .if2 .left) (c .before .if3 .left)
+    let at = c .before .before .before .before .before .before .before in
+    c .commit-update .ensures ∙ commit-updates (txns at) (number at) (locks at) (slot at) (found at) _ (c .before .before .before .before .before .before .awaited-lock .ensures) (c .before .before .before .before .before .if1 .left) _ (c .before .before .before .before .is-query .ensures) (c .before .before .before .if2 .left) _ (c .before .before .kind .ensures) (c .before .if3 .left)
 
 pub commit-by-spec : {M : Type 1} → statement M
 commit-by-spec =
@@ -79,8 +87,9 @@ commit-by-spec =
     returns
     awaited-lock-requires
     returns-2
-    kind-requires
+    is-query-requires
     returns-3
+    kind-requires
     returns-4
     commit-update-requires
     returns-5)

@@ -1,4 +1,5 @@
--- Who settles: nobody, a query, one past its writing, one who waits, or an update with a stamp left or none.
+-- Who settles: nobody, a query, one past its writing, one who waits, or an update with a stamp left or none, beside a relaxed query
+-- or beside none.
 use mathlib.Core.Path.{_≡_, sym, _∙_}
 use Prim.Native.Nat.{ℕ}
 use mathlib.Core.List.{List}
@@ -7,7 +8,8 @@ use Rattle.names.specs.declared.Slot.{Slot}
 use Rattle.rules.specs.Tables.{slotOf}
 use Rattle.rows.specs.Founds.{foundAt}
 use Rattle.rows.specs.declared.txns.Found.the-variants.{At}
-use Rattle.judged.proofs.Exits.{caller-inside, settle-unknown, settle-query, settle-past, settle-waits, settle-spent, settle-settles}
+use Rattle.callers.proofs.Named.{caller-inside}
+use Rattle.judged.proofs.Exits.{settle-unknown, settle-query, settle-past, settle-waits, settle-spent, settle-apart, settle-settles}
 use borrow.Author.Needs.{needs}
 use Rattle.judged.proofs.ends.settle_by.Statement.{statement}
 use Rattle.judged.proofs.ends.settle_by.Tie as tie
@@ -38,21 +40,34 @@ returns : tie.Need-returns
 returns c =
     settle-unknown (c .before .before .before .before .args .txns .now) (c .before .before .before .before .args .number) (sym (c .before .before .find .ensures) ∙ c .enum-told .given .1)
 
-kind-requires : tie.Need-kind-requires
-kind-requires c κs = (c .before .before .before .before .before .pre .size, caller-inside (txns c) (number c) (slot c) (found c))
+is-query-requires : tie.Need-is-query-requires
+is-query-requires c κs = (c .before .before .before .before .before .pre, caller-inside (txns c) (number c) (slot c) (found c))
 
 returns-2 : tie.Need-returns-2
-returns-2 c = settle-query (txns (c .before .before)) (number (c .before .before)) (slot (c .before .before)) (found (c .before .before)) _ (c .before .kind .ensures) (c .if1 .taken)
+returns-2 c =
+    let at = c .before .before in
+    settle-query (txns at) (number at) (slot at) (found at) _ (c .before .is-query .ensures) (c .if1 .taken)
+
+kind-requires : tie.Need-kind-requires
+kind-requires c κs = let at = c .before .before in (at .before .before .before .before .before .pre .size, caller-inside (txns at) (number at) (slot at) (found at))
 
 returns-3 : tie.Need-returns-3
-returns-3 c = settle-past (txns (c .before .before .before)) (number (c .before .before .before)) (slot (c .before .before .before)) (found (c .before .before .before)) _ (c .before .before .kind .ensures) (c .before .if1 .left) (c .if2 .taken)
+returns-3 c =
+    let at = c .before .before .before .before in
+    settle-past (txns at) (number at) (slot at) (found at) _ (c .before .before .before .is-query .ensures) (c .before .before .if1 .left) _ (c .before .kind .ensures) (c .if2 .taken)
 
 awaited-lock-requires : tie.Need-awaited-lock-requires
-awaited-lock-requires c κs = let at = c .before .before .before in (at .before .before .before .before .before .pre .size, caller-inside (txns at) (number at) (slot at) (found at))
+awaited-lock-requires c κs = let at = c .before .before .before .before in (at .before .before .before .before .before .pre .size, caller-inside (txns at) (number at) (slot at) (found at))
+
+-- where its own tests are passed
+abbrev who : tie.Else2 → tie.After-known-told
+who c = c .before .before .before .before
 
 returns-4 : tie.Need-returns-4
 returns-4 c =
-    settle-waits (txns (c .before .before .before .before .before)) (number (c .before .before .before .before .before)) (slot (c .before .before .before .before .before)) (found (c .before .before .before .before .before)) _ (c .before .before .before .before .kind .ensures) (c .before .before .before .if1 .left) (c .before .before .if2 .left) _ (c .before .awaited-lock .ensures) (c .if3 .taken)
+    let b = c .before .before in
+    let at = who b in
+    settle-waits (txns at) (number at) (slot at) (found at) _ (b .before .before .before .is-query .ensures) (b .before .before .if1 .left) _ (b .before .kind .ensures) (b .if2 .left) _ (c .before .awaited-lock .ensures) (c .if3 .taken)
 
 clock-requires : tie.Need-clock-requires
 clock-requires c κs = search needs
@@ -68,11 +83,26 @@ enum-told-3 c = search needs
 
 returns-5 : tie.Need-returns-5
 returns-5 c =
-    settle-spent (txns (c .before .before .before .before .before .before .before .before .before)) (number (c .before .before .before .before .before .before .before .before .before)) (slot (c .before .before .before .before .before .before .before .before .before)) (found (c .before .before .before .before .before .before .before .before .before)) _ (c .before .before .before .before .before .before .before .before .kind .ensures) (c .before .before .before .before .before .before .before .if1 .left) (c .before .before .before .before .before .before .if2 .left) _ (c .before .before .before .before .before .awaited-lock .ensures) (c .before .before .before .before .if3 .left) _ (c .before .before .before .clock .ensures) (c .before .before .before .before .before .before .before .before .before .before .before .before .before .before .pre) (sym (c .before .before .next .ensures) ∙ c .enum-told3 .given .1)
+    let b = c .before .before .before .before .before .before in
+    let at = who b in
+    settle-spent (txns at) (number at) (slot at) (found at) _ (b .before .before .before .is-query .ensures) (b .before .before .if1 .left) _ (b .before .kind .ensures) (b .if2 .left) _ (c .before .before .before .before .before .awaited-lock .ensures) (c .before .before .before .before .if3 .left) _ (c .before .before .before .clock .ensures) (at .before .before .before .before .before .pre) (sym (c .before .before .next .ensures) ∙ c .enum-told3 .given .1)
+
+some-relaxed-requires : tie.Need-some-relaxed-requires
+some-relaxed-requires c κs = who (c .before .before .before .before .before .before) .before .before .before .before .before .pre .size
 
 returns-6 : tie.Need-returns-6
 returns-6 c =
-    settle-settles (txns (c .before .before .before .before .before .before .before .before .before)) (number (c .before .before .before .before .before .before .before .before .before)) (slot (c .before .before .before .before .before .before .before .before .before)) (found (c .before .before .before .before .before .before .before .before .before)) _ (c .before .before .before .before .before .before .before .before .kind .ensures) (c .before .before .before .before .before .before .before .if1 .left) (c .before .before .before .before .before .before .if2 .left) _ (c .before .before .before .before .before .awaited-lock .ensures) (c .before .before .before .before .if3 .left) _ (c .before .before .before .clock .ensures) _ (sym (c .before .before .next .ensures) ∙ c .enum-told2 .given .1)
+    let d = c .before .before in
+    let b = d .before .before .before .before .before .before in
+    let at = who b in
+    settle-apart (txns at) (number at) (slot at) (found at) _ (b .before .before .before .is-query .ensures) (b .before .before .if1 .left) _ (b .before .kind .ensures) (b .if2 .left) _ (d .before .before .before .before .before .awaited-lock .ensures) (d .before .before .before .before .if3 .left) _ (d .before .before .before .clock .ensures) _ (sym (d .before .before .next .ensures) ∙ d .enum-told2 .given .1) _ (c .before .some-relaxed .ensures) (c .if4 .taken)
+
+returns-7 : tie.Need-returns-7
+returns-7 c =
+    let d = c .before .before in
+    let b = d .before .before .before .before .before .before in
+    let at = who b in
+    settle-settles (txns at) (number at) (slot at) (found at) _ (b .before .before .before .is-query .ensures) (b .before .before .if1 .left) _ (b .before .kind .ensures) (b .if2 .left) _ (d .before .before .before .before .before .awaited-lock .ensures) (d .before .before .before .before .if3 .left) _ (d .before .before .before .clock .ensures) _ (sym (d .before .before .next .ensures) ∙ d .enum-told2 .given .1) _ (c .before .some-relaxed .ensures) (c .if4 .left)
 
 pub settle-by-spec : {M : Type 1} → statement M
 settle-by-spec =
@@ -82,8 +112,9 @@ settle-by-spec =
     enum-known-found
     enum-told
     returns
-    kind-requires
+    is-query-requires
     returns-2
+    kind-requires
     returns-3
     awaited-lock-requires
     returns-4
@@ -92,4 +123,6 @@ settle-by-spec =
     enum-told-2
     enum-told-3
     returns-5
-    returns-6)
+    some-relaxed-requires
+    returns-6
+    returns-7)

@@ -1,4 +1,4 @@
--- `spoken` asks for the seven words in turn: past each, what is left of the list of words decides.
+-- `spoken` asks for the eight words in turn: past each, what is left of the list of words decides.
 use mathlib.Core.Path.{_≡_, sym, _∙_}
 use mathlib.Core.List.{List}
 use Prim.Native.Nat.{ℕ}
@@ -35,6 +35,9 @@ past-6 c = past-5 (c .before .before .before) ∙ first-passed _ _ _ (sym (c .be
 
 past-7 : (c : tie.Else7) → spoken (line (c .before .before .before .before .before .before .before .before .before .before .before .before .before .before .before .before .before .before .before .before .before)) ≡ firstOf (drop 7 spelled) (line (c .before .before .before .before .before .before .before .before .before .before .before .before .before .before .before .before .before .before .before .before .before))
 past-7 c = past-6 (c .before .before .before) ∙ first-passed _ _ _ (sym (c .before .starts-with7 .ensures) ∙ c .if7 .left)
+
+past-8 : (c : tie.Else8) → spoken (line (c .before .before .before .before .before .before .before .before .before .before .before .before .before .before .before .before .before .before .before .before .before .before .before .before)) ≡ firstOf (drop 8 spelled) (line (c .before .before .before .before .before .before .before .before .before .before .before .before .before .before .before .before .before .before .before .before .before .before .before .before))
+past-8 c = past-7 (c .before .before .before) ∙ first-passed _ _ _ (sym (c .before .starts-with8 .ensures) ∙ c .if8 .left)
 
 slice-aggregate-starts-with : tie.Need-slice-aggregate-starts-with
 slice-aggregate-starts-with c = search needs
@@ -127,9 +130,22 @@ returns-7 : tie.Need-returns-7
 unfolding callIn
 returns-7 c = c .one3 .ensures ∙ sym (past-6 (c .before .before .before .before) ∙ first-taken _ _ _ (sym (c .before .before .starts-with7 .ensures) ∙ c .before .if7 .taken))
 
+slice-aggregate-starts-with-8 : tie.Need-slice-aggregate-starts-with-8
+slice-aggregate-starts-with-8 c = search needs
+
+starts-with-requires-8 : tie.Need-starts-with-requires-8
+starts-with-requires-8 c κs = search needs
+
+none-requires-3 : tie.Need-none-requires-3
+none-requires-3 c κs = search needs
+
 returns-8 : tie.Need-returns-8
+unfolding callIn
+returns-8 c = c .none3 .ensures ∙ sym (past-7 (c .before .before .before .before) ∙ first-taken _ _ _ (sym (c .before .before .starts-with8 .ensures) ∙ c .before .if8 .taken))
+
+returns-9 : tie.Need-returns-9
 unfolding firstOf
-returns-8 c = sym (past-7 c)
+returns-9 c = sym (past-8 c)
 
 pub spoken-spec : {M : Type 1} → statement M
 spoken-spec =
@@ -163,4 +179,8 @@ spoken-spec =
     starts-with-requires-7
     one-requires-3
     returns-7
-    returns-8)
+    slice-aggregate-starts-with-8
+    starts-with-requires-8
+    none-requires-3
+    returns-8
+    returns-9)

@@ -1,14 +1,16 @@
-use Rattle.starts.proofs.sides.beside.Statement.{statement}
-use Rattle.starts.proofs.sides.beside.Tie as tie
+-- The neighbours among the starts of the slots passed.
 use mathlib.Core.Path.{_≡_, subst}
 use mathlib.Core.Logic.{⊎-elim}
 use Prim.Native.Nat.{ℕ, _≤_, _-_}
 use native.Mathlib.Omega.{arith}
 use Rattle.names.specs.Sizes.{base}
-use Rattle.rules.specs.Tables.{starts, startsFrom, txn, byStart, live}
+use Rattle.rules.specs.Tables.{txn, live}
+use Rattle.starts.specs.Starts.{readsByStart, startsFrom, starts}
 use Rattle.starts.specs.Beside.{Beside}
 use Rattle.starts.proofs.Tells.{none-beside}
 use Rattle.starts.proofs.Fill.{starts-yes, starts-no}
+use Rattle.starts.proofs.sides.beside.Statement.{statement}
+use Rattle.starts.proofs.sides.beside.Tie as tie
 
 abbrev Inv-loop : tie.InvT-loop
 Inv-loop txns stamp known₀ i₀ known i = (i ≤ base .slots) × Beside (startsFrom txns 0 i) stamp (known .below) (known .next)
@@ -26,20 +28,20 @@ mul-at c = omega arith
 add-at : tie.Need-add-at Inv-loop μ-loop
 add-at c = omega arith
 
+add-kind : tie.Need-add-kind Inv-loop μ-loop
+add-kind c = omega arith
+
+mul-kind : tie.Need-mul-kind Inv-loop μ-loop
+mul-kind c = omega arith
+
+shared-slice-read-kind : tie.Need-shared-slice-read-kind Inv-loop μ-loop
+shared-slice-read-kind c = omega arith
+
 mul-if1 : tie.Need-mul-if1 Inv-loop μ-loop
 mul-if1 c = omega arith
 
 shared-slice-read-if1 : tie.Need-shared-slice-read-if1 Inv-loop μ-loop
 shared-slice-read-if1 c = omega arith
-
-add-if1 : tie.Need-add-if1 Inv-loop μ-loop
-add-if1 c = omega arith
-
-mul-if1-2 : tie.Need-mul-if1-2 Inv-loop μ-loop
-mul-if1-2 c = omega arith
-
-shared-slice-read-if1-2 : tie.Need-shared-slice-read-if1-2 Inv-loop μ-loop
-shared-slice-read-if1-2 c = omega arith
 
 add-met : tie.Need-add-met Inv-loop μ-loop
 add-met c = omega arith
@@ -60,7 +62,7 @@ loop-less : tie.Need-loop-less Inv-loop μ-loop
 loop-less c = omega arith
 
 loop-again : tie.Need-loop-again Inv-loop μ-loop
-unfolding byStart live txn
+unfolding readsByStart live txn
 loop-again c =
     let a = c .before .before .before .before .before .before .args in
     let l = c .before .before .before .before .loop in
@@ -89,11 +91,11 @@ beside-spec =
     loop-holds
     mul-at
     add-at
+    add-kind
+    mul-kind
+    shared-slice-read-kind
     mul-if1
     shared-slice-read-if1
-    add-if1
-    mul-if1-2
-    shared-slice-read-if1-2
     add-met
     mul-met
     shared-slice-read-met

@@ -34,6 +34,9 @@ enum-told-4 c = search needs
 enum-told-5 : tie.Need-enum-told-5
 enum-told-5 c = search needs
 
+enum-told-6 : tie.Need-enum-told-6
+enum-told-6 c = search needs
+
 same-length : tie.Need-same-length
 same-length c = search needs
 
@@ -76,6 +79,10 @@ returns-7 : tie.Need-returns-7
 unfolding waitedIn
 returns-7 c = ap (λ (m : Call). waitedIn m (c .before .before .before .before .args .txns .now) (c .before .before .before .before .args .locks .now)) (sym (c .enum-told5 .given .1))
 
+returns-8 : tie.Need-returns-8
+unfolding waitedIn
+returns-8 c = ap (λ (m : Call). waitedIn m (c .before .before .before .before .args .txns .now) (c .before .before .before .before .args .locks .now)) (sym (c .enum-told6 .given .1))
+
 pub note-in-spec : {M : Type 1} → statement M
 note-in-spec =
     tie.close
@@ -89,6 +96,7 @@ note-in-spec =
     enum-told-3
     enum-told-4
     enum-told-5
+    enum-told-6
     same-length
     returns
     same-length-2
@@ -97,4 +105,5 @@ note-in-spec =
     returns-4
     returns-5
     returns-6
-    returns-7)
+    returns-7
+    returns-8)

@@ -1,0 +1,4 @@
+-- Laws of a read and of a write.
+pub mod Copies
+pub mod Conflicts
+pub mod Exits

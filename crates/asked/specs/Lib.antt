@@ -1,0 +1,2 @@
+-- What is asked of the tables for a wait.
+pub mod Asks

@@ -1,0 +1,4 @@
+-- Laws of the endings.
+pub mod Endings
+pub mod Queries
+pub mod Settled

@@ -1,2 +1,0 @@
--- What the judging asks of the tables that it reads.
-pub mod Searched

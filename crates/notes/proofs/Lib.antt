@@ -1,0 +1,2 @@
+-- Laws of the words of relaxed queries.
+pub mod Words

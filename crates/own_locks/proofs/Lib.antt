@@ -1,0 +1,2 @@
+-- Laws for the loops over all items.
+pub mod Releases

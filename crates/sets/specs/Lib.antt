@@ -1,0 +1,2 @@
+-- What the test of the sets is proved against, besides the rules.
+pub mod Joined

@@ -1,0 +1,2 @@
+-- The trials of request E11.
+pub mod Relaxed
