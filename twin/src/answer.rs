@@ -15,9 +15,10 @@ pub mod code {
     pub const BAD_TABLES: u64 = 10;
     pub const QUOTA_SPENT: u64 = 11;
     pub const PAST_WRITING: u64 = 12;
+    pub const NOT_BESIDE: u64 = 13;
 
     /// The codes in words, by number.
-    pub const NAMES: [&str; 13] = [
+    pub const NAMES: [&str; 14] = [
         "granted",
         "wait",
         "deadlock",
@@ -31,6 +32,7 @@ pub mod code {
         "bad tables",
         "quota spent",
         "past its writing",
+        "not beside the other kind",
     ];
 }
 

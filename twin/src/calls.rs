@@ -1,4 +1,4 @@
-//! The seven calls. Each works on any three slices: tables that are not good are
+//! The eight calls. Each works on any three slices: tables that are not good are
 //! answered 10 and left alone.
 
 use crate::answer::{code, Answer};
@@ -30,6 +30,11 @@ pub fn begin_update(txns: &mut [u64], locks: &mut [u64], versions: &mut [u64]) -
 /// Begins a query; what it reads is fixed now.
 pub fn begin_query(txns: &mut [u64], locks: &mut [u64], versions: &mut [u64]) -> Answer {
     on_good(txns, locks, versions, |mut view| view.begin(QUERY))
+}
+
+/// Begins a relaxed query; what it reads is as new as its earlier reads allow.
+pub fn begin_relaxed(txns: &mut [u64], locks: &mut [u64], versions: &mut [u64]) -> Answer {
+    on_good(txns, locks, versions, |mut view| view.begin(RELAXED))
 }
 
 /// Reads an item.
@@ -110,6 +115,14 @@ impl View<'_> {
         if self.txns[LAST_NUMBER] >= LAST {
             return Answer::bare(code::NUMBERS_SPENT);
         }
+        if kind == RELAXED && self.has_any(SETTLED) {
+            return Answer::bare(code::NOT_BESIDE);
+        }
+        self.take_slot(slot, kind)
+    }
+
+    /// A free slot gets the next number.
+    pub(crate) fn take_slot(&mut self, slot: Slot, kind: u64) -> Answer {
         self.txns[LAST_NUMBER] += 1;
         let number = self.txns[LAST_NUMBER];
         let start = if kind == QUERY {
@@ -135,8 +148,9 @@ impl View<'_> {
         };
         match (self.txn(slot)[KIND], access) {
             (UPDATE, _) => self.access_by_update(slot, item, access),
+            (RELAXED, Access::Read) => self.read_relaxed(slot, item),
             (_, Access::Read) => self.read_by_start(slot, item),
-            (QUERY, Access::Write(_)) => Answer::bare(code::QUERY_MAY_NOT_WRITE),
+            (QUERY | RELAXED, Access::Write(_)) => Answer::bare(code::QUERY_MAY_NOT_WRITE),
             (_, Access::Write(value)) => self.write_by_settled(slot, item, value),
         }
     }
@@ -185,6 +199,13 @@ impl View<'_> {
     pub(crate) fn grant(&mut self, slot: Slot, item: Item, access: Access) -> Answer {
         let holders = Holders::of(self.lock(item));
         self.step_out(slot);
+        if let Access::Write(_) = access {
+            self.join_readers(slot, item);
+        }
+        // What it holds exclusively it reads, or overwrites, as its own.
+        if holders.held_by(slot) != Some(Lock::Exclusive) {
+            self.join_followers(slot, item);
+        }
         match (access, holders.held_by(slot)) {
             (Access::Read, Some(Lock::Exclusive)) => Answer::found(self.lock(item)[WORKING], 0),
             (Access::Read, Some(Lock::Shared)) => Answer::found(row::newest(self.row(item)), 1),
@@ -220,6 +241,9 @@ impl View<'_> {
             }
             return Answer::bare(code::DEADLOCK);
         }
+        if lock == Lock::Exclusive {
+            self.join_readers(slot, item);
+        }
         Answer::bare(code::WAIT)
     }
 
@@ -231,7 +255,7 @@ impl View<'_> {
         if self.awaited(slot).is_some() {
             return Answer::bare(code::STILL_WAITING);
         }
-        if self.is_query(slot) {
+        if self.is_query(slot) || self.is_relaxed(slot) {
             return self.end_query(slot);
         }
         if self.is_settled(slot) {
@@ -269,12 +293,13 @@ impl View<'_> {
     /// reader of all the other rows too.
     fn put(&mut self, slot: Slot, stamp: Stamp) -> Answer {
         let was_reader = self.is_settled(slot);
+        let later_for = SlotSet::of_bits(self.txn(slot)[LATER_FOR]);
         self.txn_mut(slot).fill(0);
         let starts = self.starts();
         let rows = self.versions.chunks_exact_mut(VERSION_ROW).map(as_row_mut);
         for (lock, versions) in self.locks.chunks_exact_mut(LOCK_ROW).zip(rows) {
             if lock[EXCLUSIVE] == slot.as_holder() {
-                row::push(versions, stamp, lock[WORKING], &starts);
+                row::push(versions, stamp, lock[WORKING], later_for, &starts);
             } else if was_reader {
                 row::forget(versions, stamp, &starts);
             }
@@ -288,7 +313,7 @@ impl View<'_> {
             Some(slot) => slot,
             None => return Answer::bare(code::UNKNOWN_TRANSACTION),
         };
-        if self.is_query(slot) {
+        if self.is_query(slot) || self.is_relaxed(slot) {
             return self.end_query(slot);
         }
         self.step_out(slot);
@@ -304,7 +329,10 @@ impl View<'_> {
     /// A query ends, one way or the other, and tells how old what it read was.
     fn end_query(&mut self, slot: Slot) -> Answer {
         let (reads, weight) = (self.txn(slot)[READS], self.txn(slot)[WEIGHT]);
-        self.end_reader(slot);
+        match self.is_relaxed(slot) {
+            true => self.end_relaxed(slot),
+            false => self.end_reader(slot),
+        }
         Answer::found(weight, reads)
     }
 

@@ -4,10 +4,8 @@
 //! table breaks, for tests, for the fuzzer's counts, and to check the fast test.
 
 pub use crate::clause::Clause;
+use crate::plain::{is_update, newest_at, Tables, MOST};
 use crate::sizes::*;
-
-/// The most versions that a row has.
-const MOST: u64 = PLACES as u64;
 
 /// The clauses that these tables break, each once. With wrong sizes the others
 /// say nothing.
@@ -28,14 +26,6 @@ pub fn broken(txns: &[u64], locks: &[u64], versions: &[u64]) -> Vec<Clause> {
         .collect()
 }
 
-struct Tables<'a> {
-    last: u64,
-    clock: u64,
-    txns: Vec<&'a [u64]>,
-    locks: Vec<&'a [u64]>,
-    versions: Vec<&'a [u64]>,
-}
-
 impl Tables<'_> {
     fn keep(&self, clause: Clause) -> bool {
         match clause {
@@ -48,7 +38,7 @@ impl Tables<'_> {
                 self.txns.iter().filter(same).count() == 1
             }),
             Clause::NumberGiven => self.live(|row| row[NUMBER] <= self.last),
-            Clause::Kind => self.live(|row| [UPDATE, QUERY, SETTLED].contains(&row[KIND])),
+            Clause::Kind => self.live(|row| row[KIND] <= RELAXED),
             Clause::AwaitedLock => self.live(|row| row[AWAITED_LOCK] <= AWAITS_EXCLUSIVE),
             Clause::UpdateStart => self.live(|row| row[KIND] != UPDATE || row[START] == 0),
             Clause::QueryStart => self.live(|row| row[KIND] != QUERY || row[START] <= self.clock),
@@ -144,14 +134,61 @@ impl Tables<'_> {
             // and both 0 for every update."
             Clause::UpdateReads => self.live(|row| !is_update(row) || row[READS] == 0),
             Clause::UpdateWeight => self.live(|row| !is_update(row) || row[WEIGHT] == 0),
+            // "Kind 3, start 0";
+            Clause::RelaxedStart => self.live(|row| row[KIND] != RELAXED || row[START] == 0),
+            // it never waits.
+            Clause::RelaxedAwaits => {
+                self.live(|row| row[KIND] != RELAXED || row[AWAITED_LOCK] == AWAITS_NONE)
+            }
+            // Code 13 keeps these two apart.
+            Clause::RelaxedBesideSettled => {
+                !self.has_any(SETTLED) || (0..SLOTS).all(|slot| !self.is_relaxed(slot))
+            }
+            // What the sets need is kept where it is needed, and nowhere else:
+            Clause::ItemsRead => self.live(|row| row[KIND] == RELAXED || row[ITEMS_READ] == 0),
+            Clause::LaterFor => self.live(|row| row[KIND] == UPDATE || row[LATER_FOR] == 0),
+            // sets are those of live relaxed queries.
+            Clause::LaterForOthers => self.live(|row| self.are_relaxed(row[LATER_FOR])),
+            // "An update joins when .. it reads .. a version whose creator is in the set",
+            Clause::SharerLater => self.holders(|slot, item| {
+                !self.holds_shared(slot, item) || self.has_joined(slot, self.hidden(item, 0))
+            }),
+            // "or overwrites" it,
+            Clause::HolderLater => self.holders(|slot, item| {
+                !self.holds_exclusive(slot, item) || self.has_joined(slot, self.hidden(item, 0))
+            }),
+            // and "when it asks to write what the query has read", or "the query reads what
+            // it holds exclusively".
+            Clause::HolderLaterRead => self.holders(|slot, item| {
+                let has_read = |query: &usize| self.has_read(*query, item);
+                let readers = (0..SLOTS).filter(has_read);
+                let seen = readers.fold(0, |seen, query| seen | 1 << query);
+                !self.holds_exclusive(slot, item) || self.has_joined(slot, seen)
+            }),
             Clause::Count => self
                 .versions
                 .iter()
                 .all(|row| (1..=MOST).contains(&row[COUNT])),
             Clause::UnusedPairs => self.versions.iter().all(|row| match row[COUNT] {
-                count @ 0..=MOST => row[1 + 2 * count as usize..].iter().all(|&w| w == 0),
+                count @ 0..=MOST => {
+                    let unused = &row[pair(count as usize)..pair(PLACES)];
+                    unused.iter().all(|&w| w == 0)
+                }
                 _ => true,
             }),
+            Clause::UnusedHidden => self.versions.iter().all(|row| match row[COUNT] {
+                count @ 0..=MOST => row[hidden(count as usize)..].iter().all(|&w| w == 0),
+                _ => true,
+            }),
+            Clause::HiddenOthers => {
+                self.hiddens(|hiddens| hiddens.iter().all(|&from| self.are_relaxed(from)))
+            }
+            // Who overwrites what is hidden joins too, so all that is newer is hidden.
+            Clause::HiddenNested => {
+                self.hiddens(|hiddens| hiddens.windows(2).all(|pair| pair[1] & !pair[0] == 0))
+            }
+            // Everyone has something to read.
+            Clause::HiddenLast => self.hiddens(|hiddens| hiddens[hiddens.len() - 1] == 0),
             Clause::StampsFall => {
                 self.stamps(|stamps| stamps.windows(2).all(|pair| pair[0] > pair[1]))
             }
@@ -165,12 +202,15 @@ impl Tables<'_> {
             }
             Clause::UnreadVersion => {
                 let starts = self.starts();
-                self.stamps(|stamps| {
-                    let is_read = |stamp: &u64| {
-                        let reads = |&start: &u64| newest_at(stamps, start) == Some(*stamp);
+                (0..ITEMS).all(|item| {
+                    let stamps = self.stamps_of(item);
+                    let is_read = |place: usize| {
+                        let reads = |&start: &u64| newest_at(&stamps, start) == Some(stamps[place]);
+                        let by_set = |query: usize| self.newest_outside(query, item) == Some(place);
                         starts.iter().any(reads)
+                            || (0..SLOTS).any(|slot| self.is_relaxed(slot) && by_set(slot))
                     };
-                    stamps[1..].iter().all(is_read)
+                    (1..stamps.len()).all(is_read)
                 })
             }
             Clause::Circle => {
@@ -179,143 +219,4 @@ impl Tables<'_> {
             }
         }
     }
-
-    fn rows(&self, holds: impl Fn(&[u64]) -> bool) -> bool {
-        self.txns.iter().all(|row| holds(row))
-    }
-
-    fn live(&self, holds: impl Fn(&[u64]) -> bool) -> bool {
-        self.rows(|row| row[NUMBER] == 0 || holds(row))
-    }
-
-    /// Asks something of the stamps of every row with a count as it may be.
-    fn stamps(&self, holds: impl Fn(&[u64]) -> bool) -> bool {
-        (0..ITEMS).all(|item| {
-            let stamps = self.stamps_of(item);
-            stamps.is_empty() || holds(&stamps)
-        })
-    }
-
-    /// The stamps of an item's row; none where its count is not as it may be.
-    fn stamps_of(&self, item: usize) -> Vec<u64> {
-        let row = self.versions[item];
-        match row[COUNT] {
-            count @ 1..=MOST => {
-                let pairs = row[1..].chunks(2).take(count as usize);
-                pairs.map(|pair| pair[0]).collect()
-            }
-            _ => Vec::new(),
-        }
-    }
-
-    /// Asks something of the slot and the stamp of everyone past its writing.
-    fn settled(&self, holds: impl Fn(usize, u64) -> bool) -> bool {
-        (0..SLOTS).all(|slot| match self.txns[slot] {
-            row if row[NUMBER] != 0 && row[KIND] == SETTLED => holds(slot, row[START]),
-            _ => true,
-        })
-    }
-
-    fn updates(&self, holds: impl Fn(usize) -> bool) -> bool {
-        let mut updates = (0..SLOTS).filter(|&slot| self.is_live_update(slot));
-        updates.all(holds)
-    }
-
-    /// Asks something of everyone who awaits an item, and of the item's line.
-    fn in_line(&self, holds: impl Fn(usize, &[usize]) -> bool) -> bool {
-        (0..SLOTS).all(|slot| match self.awaited(slot) {
-            Some((_, item)) => {
-                let awaits = |other: &usize| {
-                    matches!(self.awaited(*other), Some((_, awaited)) if awaited == item)
-                };
-                let line: Vec<usize> = (0..SLOTS).filter(awaits).collect();
-                holds(slot, &line)
-            }
-            None => true,
-        })
-    }
-
-    fn rank(&self, slot: usize) -> u64 {
-        self.txns[slot][RANK]
-    }
-
-    /// The starts of all who read by them, queries and those past their writing.
-    fn starts(&self) -> Vec<u64> {
-        let rows = self.txns.iter().filter(|row| row[NUMBER] != 0);
-        let readers = rows.filter(|row| row[KIND] == QUERY || row[KIND] == SETTLED);
-        readers.map(|row| row[START]).collect()
-    }
-
-    /// Past its writing or not.
-    fn is_live_update(&self, slot: usize) -> bool {
-        slot < SLOTS && self.txns[slot][NUMBER] != 0 && is_update(self.txns[slot])
-    }
-
-    /// The awaited lock and item of a live slot, where they are as listed.
-    fn awaited(&self, slot: usize) -> Option<(u64, usize)> {
-        let row = self.txns[slot];
-        let listed = row[NUMBER] != 0
-            && (AWAITS_SHARED..=AWAITS_EXCLUSIVE).contains(&row[AWAITED_LOCK])
-            && row[AWAITED_ITEM] < ITEMS as u64;
-        if listed {
-            Some((row[AWAITED_LOCK], row[AWAITED_ITEM] as usize))
-        } else {
-            None
-        }
-    }
-
-    fn holds_shared(&self, slot: usize, item: usize) -> bool {
-        self.locks[item][SHARED] >> slot & 1 != 0
-    }
-
-    fn holds_exclusive(&self, slot: usize, item: usize) -> bool {
-        self.locks[item][EXCLUSIVE] == slot as u64 + 1
-    }
-
-    /// How many items a slot holds exclusively.
-    fn exclusives(&self, slot: usize) -> usize {
-        let is_held = |item: &usize| self.holds_exclusive(slot, *item);
-        (0..ITEMS).filter(is_held).count()
-    }
-
-    fn waits_for(&self, slot: usize, other: usize) -> bool {
-        let (lock, item) = match self.awaited(slot) {
-            Some(awaited) if other != slot => awaited,
-            _ => return false,
-        };
-        let is_ahead = match self.awaited(other) {
-            Some((wanted, awaited)) => {
-                let conflicts = lock == AWAITS_EXCLUSIVE || wanted == AWAITS_EXCLUSIVE;
-                awaited == item && self.rank(other) < self.rank(slot) && conflicts
-            }
-            None => false,
-        };
-        let shares = lock == AWAITS_EXCLUSIVE && self.holds_shared(other, item);
-        is_ahead || shares || self.holds_exclusive(other, item)
-    }
-
-    /// Whether a walk leads from a slot back to it.
-    fn on_circle(&self, slot: usize) -> bool {
-        let mut reached = [false; SLOTS];
-        loop {
-            let before = reached;
-            for next in (0..SLOTS).filter(|&next| !before[next]) {
-                let from = |at: usize| (at == slot || before[at]) && self.waits_for(at, next);
-                reached[next] = (0..SLOTS).any(from);
-            }
-            if reached == before {
-                return reached[slot];
-            }
-        }
-    }
-}
-
-/// Past its writing or not.
-fn is_update(row: &[u64]) -> bool {
-    row[KIND] == UPDATE || row[KIND] == SETTLED
-}
-
-/// The largest of these stamps that is at most the start.
-fn newest_at(stamps: &[u64], start: u64) -> Option<u64> {
-    stamps.iter().copied().filter(|&stamp| stamp <= start).max()
 }

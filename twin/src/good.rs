@@ -27,7 +27,8 @@ pub(crate) fn holds(
                 && crowd.stamps_are_ahead(locks, versions)
                 && crowd.quotas_are_kept(locks)
                 && crowd.waits_are_good(locks)
-                && versions_are_good(versions, txns[CLOCK], &crowd.starts)
+                && versions_are_good(versions, txns[CLOCK], &crowd.starts, crowd.relaxed)
+                && crowd.holders_have_joined(txns, locks, versions)
         }
         None => false,
     }
@@ -40,6 +41,8 @@ struct Crowd {
     settled: SlotSet,
     stamps: [u64; SLOTS],
     starts: Starts,
+    /// Relaxed queries, and all that updates are later for.
+    relaxed: SlotSet,
     waiting: SlotSet,
     /// What each waiting slot awaits.
     awaited: [(Lock, usize); SLOTS],
@@ -59,18 +62,22 @@ impl Crowd {
             settled: SlotSet::EMPTY,
             stamps: [0; SLOTS],
             starts: Starts::none(),
+            relaxed: SlotSet::EMPTY,
             waiting: SlotSet::EMPTY,
             awaited: [(Lock::Shared, 0); SLOTS],
             ranks: [0; SLOTS],
         };
+        let mut later_for = SlotSet::EMPTY;
         let mut numbers = [0; SLOTS];
         let mut live = 0;
         for (slot, row) in Slot::all().zip(txns[TXN_HEAD..].chunks_exact(TXN_ROW)) {
             let (kind, start) = (row[KIND], row[START]);
             let (lock, item, rank) = (row[AWAITED_LOCK], row[AWAITED_ITEM], row[RANK]);
             let (reads, weight) = (row[READS], row[WEIGHT]);
+            let (items_read, later) = (row[ITEMS_READ], row[LATER_FOR]);
             if row[NUMBER] == 0 {
-                if kind | start | lock | item | rank | reads | weight != 0 {
+                let all = kind | start | lock | item | rank | reads | weight | items_read | later;
+                if all != 0 {
                     return None;
                 }
                 continue;
@@ -82,14 +89,25 @@ impl Crowd {
             numbers[live] = number;
             live += 1;
             // Only a query counts what it reads, and no further than to the last number.
-            let most = if kind == QUERY { LAST } else { 0 };
+            let most = match kind {
+                QUERY | RELAXED => LAST,
+                _ => 0,
+            };
             if reads > most || weight > most {
                 return None;
             }
+            // Only a relaxed query has items read, and only an update that writes joins.
+            if kind != RELAXED && items_read != 0 || kind != UPDATE && later != 0 {
+                return None;
+            }
+            later_for = later_for.and(SlotSet::of_bits(later));
             match kind {
                 UPDATE if start == 0 => crowd.updates = crowd.updates.with(slot),
                 QUERY if start <= clock && lock == AWAITS_NONE => {
                     crowd.starts.insert(Stamp::of(start));
+                }
+                RELAXED if start == 0 && lock == AWAITS_NONE => {
+                    crowd.relaxed = crowd.relaxed.with(slot);
                 }
                 SETTLED if (1..=clock).contains(&start) && lock == AWAITS_NONE => {
                     if crowd.stamps.contains(&start) {
@@ -111,7 +129,38 @@ impl Crowd {
                 None => return None,
             }
         }
-        Some(crowd)
+        // Those past their writing and relaxed queries never meet.
+        let is_apart = crowd.settled.is_empty() || crowd.relaxed.is_empty();
+        match is_apart && later_for.is_within(crowd.relaxed) {
+            true => Some(crowd),
+            false => None,
+        }
+    }
+
+    /// Who holds an item has joined the sets in which the creator of its newest version
+    /// is, and who holds it exclusively those of all who have read it.
+    fn holders_have_joined(
+        &self,
+        txns: &[u64; TXN_WORDS],
+        locks: &[u64; LOCK_WORDS],
+        versions: &[u64; VERSION_WORDS],
+    ) -> bool {
+        let word = |slot: Slot, place: usize| txns[TXN_HEAD + slot.index() * TXN_ROW + place];
+        let has_joined =
+            |slot: Slot, those: SlotSet| those.is_within(SlotSet::of_bits(word(slot, LATER_FOR)));
+        let rows = versions.chunks_exact(VERSION_ROW).map(as_row);
+        let mut held = locks.chunks_exact(LOCK_ROW).zip(rows).enumerate();
+        held.all(|(item, (lock, row))| {
+            let Holders { shared, exclusive } = Holders::of(lock);
+            let hidden = row::hidden_from(row, 0);
+            let has_read = |slot: &Slot| word(*slot, ITEMS_READ) >> item & 1 != 0;
+            let readers = || self.relaxed.into_iter().filter(has_read);
+            let seen = |slot: Slot| has_joined(slot, readers().fold(SlotSet::EMPTY, SlotSet::with));
+            shared.into_iter().all(|slot| has_joined(slot, hidden))
+                && exclusive
+                    .into_iter()
+                    .all(|slot| has_joined(slot, hidden) && seen(slot))
+        })
     }
 
     /// Nobody holds more than 32 items exclusively, and who holds 32 awaits no
@@ -226,8 +275,13 @@ fn locks_are_good(locks: &[u64; LOCK_WORDS], updates: SlotSet, settled: SlotSet)
     })
 }
 
-fn versions_are_good(versions: &[u64; VERSION_WORDS], clock: u64, starts: &Starts) -> bool {
+fn versions_are_good(
+    versions: &[u64; VERSION_WORDS],
+    clock: u64,
+    starts: &Starts,
+    relaxed: SlotSet,
+) -> bool {
     versions
         .chunks_exact(VERSION_ROW)
-        .all(|words| row::is_good(as_row(words), clock, starts))
+        .all(|words| row::is_good(as_row(words), clock, starts, relaxed))
 }

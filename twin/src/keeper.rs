@@ -4,7 +4,7 @@ use crate::answer::Answer;
 use crate::calls;
 use crate::sizes::*;
 
-/// One of the seven calls with its numbers.
+/// One of the eight calls with its numbers.
 #[derive(Clone, Copy, Debug, PartialEq, Eq)]
 pub enum Call {
     Update,
@@ -14,6 +14,7 @@ pub enum Call {
     Commit { number: u64 },
     Abort { number: u64 },
     Settle { number: u64 },
+    Relaxed,
 }
 
 impl Call {
@@ -31,13 +32,14 @@ impl Call {
             Call::Commit { number } => calls::commit(txns, locks, versions, number),
             Call::Abort { number } => calls::abort(txns, locks, versions, number),
             Call::Settle { number } => calls::settle(txns, locks, versions, number),
+            Call::Relaxed => calls::begin_relaxed(txns, locks, versions),
         }
     }
 
     /// The number of the transaction that calls; none for a begin.
     pub fn number(self) -> Option<u64> {
         match self {
-            Call::Update | Call::Query => None,
+            Call::Update | Call::Query | Call::Relaxed => None,
             Call::Read { number, .. }
             | Call::Write { number, .. }
             | Call::Commit { number }
@@ -60,6 +62,7 @@ impl Call {
             Call::Commit { number } => [5, number, 0, 0],
             Call::Abort { number } => [6, number, 0, 0],
             Call::Settle { number } => [7, number, 0, 0],
+            Call::Relaxed => [8, 0, 0, 0],
         }
     }
 
@@ -70,8 +73,8 @@ impl Call {
         Call::each(number, item, value).get(at).copied()
     }
 
-    /// Each of the seven calls with these numbers, in the order of their kinds.
-    pub fn each(number: u64, item: u64, value: u64) -> [Call; 7] {
+    /// Each of the eight calls with these numbers, in the order of their kinds.
+    pub fn each(number: u64, item: u64, value: u64) -> [Call; 8] {
         [
             Call::Update,
             Call::Query,
@@ -84,13 +87,14 @@ impl Call {
             Call::Commit { number },
             Call::Abort { number },
             Call::Settle { number },
+            Call::Relaxed,
         ]
     }
 
     /// The same call by another transaction; a begin stays as it is.
     pub fn with_number(self, number: u64) -> Call {
         match self {
-            Call::Update | Call::Query => self,
+            Call::Update | Call::Query | Call::Relaxed => self,
             Call::Read { item, .. } => Call::Read { number, item },
             Call::Write { item, value, .. } => Call::Write {
                 number,

@@ -101,7 +101,7 @@ impl View<'_> {
     pub fn step_out(&mut self, slot: Slot) {
         if let Some((_, item)) = self.awaited(slot) {
             let place = self.rank(slot);
-            self.txn_mut(slot)[AWAITED_LOCK..].fill(0);
+            self.txn_mut(slot)[AWAITED_LOCK..=RANK].fill(0);
             for other in self.line(item) {
                 if self.rank(other) > place {
                     self.txn_mut(other)[RANK] -= 1;

@@ -1,6 +1,6 @@
 //! Calls on tables set beforehand, one case a line.
 //!
-//! In: call kind 1 to 7, number, item, value, the three lengths, then the words
+//! In: call kind 1 to 8, number, item, value, the three lengths, then the words
 //! of the three tables. Out: the four numbers of the answer, the three lengths,
 //! then all words as the call left them. Single spaces, decimal numbers. A line
 //! that is no case is answered `bad`.

@@ -23,6 +23,7 @@ pub fn parse(line: &[u8]) -> Option<Call> {
     let call = match word {
         b"update" => Call::Update,
         b"query" => Call::Query,
+        b"relaxed" => Call::Relaxed,
         b"read" => Call::Read {
             number: number()?,
             item: number()?,
@@ -48,6 +49,7 @@ pub fn push_call(out: &mut Vec<u8>, call: Call) {
     match call {
         Call::Update => push_words(out, b"update", &[]),
         Call::Query => push_words(out, b"query", &[]),
+        Call::Relaxed => push_words(out, b"relaxed", &[]),
         Call::Read { number, item } => push_words(out, b"read", &[number, item]),
         Call::Write {
             number,

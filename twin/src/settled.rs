@@ -15,7 +15,7 @@ impl View<'_> {
             Some(slot) => slot,
             None => return Answer::bare(code::UNKNOWN_TRANSACTION),
         };
-        if self.is_query(slot) {
+        if self.is_query(slot) || self.is_relaxed(slot) {
             return Answer::bare(code::QUERY_MAY_NOT_WRITE);
         }
         if self.is_settled(slot) {
@@ -28,6 +28,9 @@ impl View<'_> {
             Some(stamp) => stamp,
             None => return Answer::bare(code::CLOCK_SPENT),
         };
+        if self.has_any(RELAXED) {
+            return Answer::bare(code::NOT_BESIDE);
+        }
         self.txns[CLOCK] = stamp.word();
         let row = self.txn_mut(slot);
         row[KIND] = SETTLED;
@@ -57,7 +60,7 @@ impl View<'_> {
     }
 
     /// One read more, of the version at this place: both sums stop at the last number.
-    fn weigh(&mut self, slot: Slot, place: u64) {
+    pub(crate) fn weigh(&mut self, slot: Slot, place: u64) {
         let row = self.txn_mut(slot);
         row[READS] = LAST.min(row[READS] + 1);
         row[WEIGHT] = LAST.min(row[WEIGHT] + place);

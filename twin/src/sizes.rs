@@ -18,18 +18,20 @@ pub const LAST: u64 = 4_294_967_295;
 /// Words of the transaction table before its rows: last number given, clock.
 pub const TXN_HEAD: usize = 2;
 /// Words of one transaction row: number, kind, start, awaited lock, awaited item,
-/// rank (request E4), read count and weight sum (request E8).
-pub const TXN_ROW: usize = 8;
+/// rank (request E4), read count and weight sum (request E8), items read and later for
+/// (request E11).
+pub const TXN_ROW: usize = 10;
 /// Words of one lock row: shared holders, exclusive holder, working value.
 pub const LOCK_ROW: usize = 3;
-/// Words of one version row: a count, then pairs of stamp and value.
-pub const VERSION_ROW: usize = 1 + 2 * PLACES;
+/// Words of one version row: a count, then pairs of stamp and value, then for each pair
+/// the relaxed queries that it is hidden from (request E11).
+pub const VERSION_ROW: usize = 1 + 2 * PLACES + PLACES;
 
-/// Words of the transaction table: 258.
+/// Words of the transaction table: 322.
 pub const TXN_WORDS: usize = TXN_HEAD + SLOTS * TXN_ROW;
 /// Words of the lock table: 192.
 pub const LOCK_WORDS: usize = ITEMS * LOCK_ROW;
-/// Words of the version table: 4,160.
+/// Words of the version table: 6,208.
 pub const VERSION_WORDS: usize = ITEMS * VERSION_ROW;
 
 /// Place of the last number given in the transaction table.
@@ -46,12 +48,18 @@ pub const AWAITED_ITEM: usize = 4;
 pub const RANK: usize = 5;
 pub const READS: usize = 6;
 pub const WEIGHT: usize = 7;
+/// Of a relaxed query: bit x for an item x that it has read.
+pub const ITEMS_READ: usize = 8;
+/// Of an update that is writing: bit q for a relaxed query in slot q that it is later for.
+pub const LATER_FOR: usize = 9;
 
 /// Kinds of transaction. One that is settled is an update past its writing
 /// (request E6); its start is its stamp.
 pub const UPDATE: u64 = 0;
 pub const QUERY: u64 = 1;
 pub const SETTLED: u64 = 2;
+/// A relaxed query (request E11); its start is 0.
+pub const RELAXED: u64 = 3;
 
 /// Awaited locks.
 pub const AWAITS_NONE: u64 = 0;
@@ -66,5 +74,15 @@ pub const WORKING: usize = 2;
 /// Place of the count in a version row; the pairs follow.
 pub const COUNT: usize = 0;
 
-const _: () = assert!(TXN_WORDS == 258 && LOCK_WORDS == 192 && VERSION_WORDS == 4160);
+/// Where pair `place` (from 0) begins in its row.
+pub const fn pair(place: usize) -> usize {
+    1 + 2 * place
+}
+
+/// Where in its row stands whom the version of a pair is hidden from.
+pub const fn hidden(place: usize) -> usize {
+    pair(PLACES) + place
+}
+
+const _: () = assert!(TXN_WORDS == 322 && LOCK_WORDS == 192 && VERSION_WORDS == 6208);
 const _: () = assert!(SLOTS <= PLACES && SLOTS < 64);

@@ -45,7 +45,7 @@ fn smallest(report: &str) -> usize {
 /// The rounds of `./keeper test` for a program: seed 1, and so many.
 const SEED: u64 = 1;
 const OF_SCRIPTS: u64 = 250;
-const OF_TABLES: u64 = 50;
+const OF_TABLES: u64 = 80;
 const OF_JOURNALS: u64 = 60;
 const OF_CUTS: u64 = 30;
 
@@ -105,9 +105,9 @@ fn wrong_runners_are_caught() {
 fn is_small(name: &str, report: &str) {
     assert!(report.contains("first differing line: "), "{}", name);
     // A row of all versions takes four lines for each, or five where one past its
-    // writing reads it.
+    // writing reads it; a circle of all slots three for each.
     let is_size = WrongSize::ALL.iter().any(|(size, _)| *size == name);
-    let needs_many = is_size || name == "age-at-most-16";
+    let needs_many = is_size || ["age-at-most-16", "circles-of-two"].contains(&name);
     let most = if needs_many { 5 * 32 + 10 } else { 40 };
     let lines = smallest(report);
     assert!(lines <= most, "{}: {} lines are many", name, lines);
@@ -131,7 +131,9 @@ fn wrong_tables_are_caught() {
             let report = batch.held_against(&tables).expect("it can be started");
             if let Some(report) = &report {
                 println!("{}: round {}", name, round);
-                assert!(report.contains("smallest case found"), "{}", name);
+                let is_told =
+                    report.contains("smallest case found") || report.contains("odd line: ");
+                assert!(is_told, "{}: {}", name, report);
             }
             report.is_none()
         });
@@ -160,6 +162,7 @@ fn the_fuzzer_itself_tells() {
         "settled-no-wait",
         "empty-new-stamp",
         "age-waits",
+        "relaxed-follows-no-write",
         "slots-16",
     ] {
         let report = report_of("--runner", RUNNER, kind, OF_SCRIPTS);
@@ -171,6 +174,7 @@ fn the_fuzzer_itself_tells() {
         "settle-clock-first",
         "empty-spent",
         "age-sum-wraps",
+        "relaxed-waits-outside",
         "places-31",
     ] {
         let report = report_of("--tables", TABLES, kind, OF_TABLES);

@@ -66,7 +66,7 @@ fn numbers() {
 
 #[test]
 fn kinds_and_starts() {
-    breaks(Clause::Kind, |k| *txn(k, LIVE_UPDATE, KIND) = 3);
+    breaks(Clause::Kind, |k| *txn(k, LIVE_UPDATE, KIND) = 4);
     breaks(Clause::Kind, |k| *txn(k, LIVE_UPDATE, KIND) = u64::MAX);
     breaks(Clause::UpdateStart, |k| *txn(k, LIVE_UPDATE, START) = 1);
     breaks(Clause::QueryStart, |k| *txn(k, NEW_QUERY, START) = 11);
@@ -342,16 +342,19 @@ fn counts_and_unused_pairs() {
     for count in [0, 33, 34, 65, 1 << 63, u64::MAX, (1 << 32) + 1] {
         breaks(Clause::Count, |k| k.versions[COUNT] = count);
     }
-    for place in 3..VERSION_ROW {
+    for place in 3..pair(PLACES) {
         breaks(Clause::UnusedPairs, |k| k.versions[place] = 1);
         breaks(Clause::UnusedPairs, |k| {
             k.versions[63 * VERSION_ROW + place] = 1 << 63
         });
     }
-    for place in 5..VERSION_ROW {
+    for place in 5..pair(PLACES) {
         breaks(Clause::UnusedPairs, |k| {
             k.versions[OLD_ITEM * VERSION_ROW + place] = 1
         });
+    }
+    for place in hidden(1)..VERSION_ROW {
+        breaks(Clause::UnusedHidden, |k| k.versions[place] = 1);
     }
     // A pair of zeros beyond the newest is used, and nobody reads it.
     breaks(Clause::UnreadVersion, |k| {

@@ -65,7 +65,7 @@ fn calls() {
 
 #[test]
 fn bad_lines() {
-    let lines: [&[u8]; 57] = [
+    let lines: [&[u8]; 59] = [
         b"",
         b" ",
         b"\t",
@@ -122,7 +122,9 @@ fn bad_lines() {
         b"settle 1 2",
         b"settled 1",
         b"Settle 1",
-        b"relaxed",
+        b"relaxed ",
+        b"relaxed 1",
+        b"Relaxed",
     ];
     for line in lines {
         assert_eq!(script::parse(line), None, "{}", line.escape_ascii());

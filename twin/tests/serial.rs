@@ -1,7 +1,8 @@
 //! Demand 3 with those past their writing (request E6) and commits of nothing (E7):
 //! updates in the order of their stamps, each query behind the stamps up to its
 //! start, each commit of nothing behind the stamps up to its number; and what others
-//! do does not alter what a query is granted.
+//! do does not alter what a query is granted. And of relaxed queries (request E11): the
+//! updates outside the set of each, run alone, give what it read.
 
 use std::collections::{BTreeMap, BTreeSet};
 
@@ -30,6 +31,7 @@ struct Run {
     /// What was answered to each commit of nothing.
     empty: BTreeMap<u64, u64>,
     settled: BTreeSet<u64>,
+    relaxed: BTreeSet<u64>,
     out_of_order: u64,
     behind_empty: u64,
 }
@@ -44,6 +46,10 @@ impl Run {
         let mut add = |number: u64, deed: Deed| self.logs.entry(number).or_default().push(deed);
         match call {
             Call::Query => drop(self.queries.insert(answer.number, clock)),
+            Call::Relaxed => drop(self.relaxed.insert(answer.number)),
+            // What these read the other test tells.
+            Call::Read { number, .. } | Call::Commit { number } | Call::Abort { number }
+                if self.relaxed.contains(&number) => {}
             Call::Settle { number } => drop(self.settled.insert(number)),
             Call::Read { number, item } => add(number, Deed::Read(item as usize, answer.value)),
             Call::Write {

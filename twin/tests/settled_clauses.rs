@@ -62,7 +62,7 @@ fn the_samples_are_good() {
 
 #[test]
 fn kinds() {
-    for kind in [3, 4, 16, 1 << 32, (1 << 32) + 2, u64::MAX] {
+    for kind in [4, 5, 16, 1 << 32, (1 << 32) + 2, u64::MAX] {
         past_breaks(Clause::Kind, |k| {
             set_lock(k, 20, [0, 0, 0]);
             set_versions(k, 20, &[(0, 0)]);

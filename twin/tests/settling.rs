@@ -42,7 +42,7 @@ fn it_changes_the_clock_the_row_and_the_shared_bits() {
         expected.locks[item * LOCK_ROW + SHARED] &= !1;
     }
     assert_eq!(t.0, expected);
-    assert_eq!(t.row(0), [1, 2, 1, 0, 0, 0, 0, 0]);
+    assert_eq!(t.row(0), [1, 2, 1, 0, 0, 0, 0, 0, 0, 0]);
     assert_eq!(t.lock(X), [0, 1, 5]);
     assert_eq!(t.lock(Y), [2, 0, 0]);
     assert_eq!(t.lock(0), [0, 0, 0]);
@@ -68,7 +68,7 @@ fn the_order_of_its_tests() {
     }
     assert_eq!(t.call(Call::Update), [0, 0, 4, 0]);
     assert_eq!(t.settle(4), CLOCK_SPENT);
-    assert_eq!(t.row(3), [4, 0, 0, 0, 0, 0, 0, 0]);
+    assert_eq!(t.row(3), [4, 0, 0, 0, 0, 0, 0, 0, 0, 0]);
     t.0.txns[CLOCK] = LAST - 1;
     assert_eq!(t.settle(4), [0, 0, LAST, 0]);
     t.0.versions[0] = 0;

@@ -79,7 +79,7 @@ impl Counts {
     pub fn see(&mut self, call: Call, txn: &Txn, answer: Answer) {
         let is_granted = answer.code == code::GRANTED;
         match call {
-            Call::Read { .. } if txn.is_query => {
+            Call::Read { .. } if txn.is_counted() => {
                 self.event(Event::Waits, answer.code == code::WAIT);
                 if is_granted {
                     self.see_read(txn, answer.looked);
@@ -89,7 +89,7 @@ impl Counts {
                 self.event(Event::SettledReads, is_granted && txn.is_settled);
                 self.event(Event::UpdateReads, is_granted && txn.is_writing());
             }
-            Call::Commit { .. } | Call::Abort { .. } if txn.is_query => {
+            Call::Commit { .. } | Call::Abort { .. } if txn.is_counted() => {
                 let is_bare = txn.reads == 0 && txn.weight == 0;
                 self.event(Event::EndNone, is_bare);
                 self.event(Event::EndNewest, !is_bare && txn.reads == txn.weight);
@@ -128,10 +128,11 @@ impl Counts {
 /// A query reads, an old version by preference, or ends; one whose counts are near the
 /// limit by preference.
 pub fn telling(rng: &mut Rng, scene: &Scene) -> Option<Call> {
-    let is_near = |txn: &Txn| txn.is_query && txn.reads.max(txn.weight) > LAST - 2 * PLACES as u64;
+    let is_near =
+        |txn: &Txn| txn.is_counted() && txn.reads.max(txn.weight) > LAST - 2 * PLACES as u64;
     let query = match scene.pick(rng, is_near) {
         Some(txn) if rng.percent(80) => txn,
-        _ => scene.pick(rng, |txn| txn.is_query)?,
+        _ => scene.pick(rng, Txn::is_counted)?,
     };
     Some(match rng.below(8) {
         0 => commit(query),

@@ -7,10 +7,10 @@ use super::made::made;
 use super::odd_cases::{self, odd_case};
 use super::process::Other;
 use super::scene::Scene;
-use super::settled;
 use super::small_case::{described, report};
 use super::stats::Stats;
-use super::{ages, empty, jobs, monitors, settling, waiters};
+use super::{ages, empty, jobs, monitors, relaxing, settling, waiters};
+use super::{relaxed, settled};
 use crate::answer::{code, Answer};
 use crate::clauses::{self, Clause};
 use crate::keeper::{Call, Keeper};
@@ -179,10 +179,14 @@ fn prepare(rng: &mut Rng, samples: &[Keeper], director: &mut Director) -> Prepar
 
 /// Where an update has as many items as it may, or one less, where there are
 /// waiters, where some are past their writing, where some wrote nothing or
-/// little, and where queries have read much: often a call that shows it.
+/// little, where queries have read much, and where some are relaxed: often a call that
+/// shows it.
 fn telling_call(rng: &mut Rng, tables: &Tables) -> Option<Call> {
     let keeper = tables.as_keeper().filter(Keeper::is_good)?;
     let scene = Scene::of(&keeper);
+    if scene.count(|txn| txn.is_relaxed) > 0 && rng.percent(50) {
+        return relaxing::telling(rng, &scene);
+    }
     // A spent clock hinders few calls; commits are among them.
     let chances = if scene.clock() == LAST { 20 } else { 14 };
     match rng.below(chances) {
@@ -240,11 +244,16 @@ fn count(stats: &mut Stats, prepared: &Prepared) -> Result<(), String> {
 }
 
 /// Counts what a case on good tables has to do with those past their writing, with
-/// commits of nothing, and with what queries have read.
+/// commits of nothing, with what queries have read, and with relaxed ones.
 fn see_caller(stats: &mut Stats, case: &Case, answer: Answer, after: &Tables) {
     if let (Some(before), Some(after)) = (case.tables.as_keeper(), after.as_keeper()) {
         let scene = Scene::of(&before);
         let caller = case.call.number().and_then(|number| scene.find(number));
+        if let Some(standing) = relaxed::Standing::of(&scene, caller.as_ref(), case.call) {
+            let caller = caller.as_ref();
+            let counts = &mut stats.case_relaxed;
+            counts.see(case.call, caller, &standing, answer, &after);
+        }
         if let Some(txn) = caller {
             let standing = settled::Standing::of(&scene, &txn, case.call);
             stats.case_settled.begin_anew();
@@ -266,7 +275,7 @@ mod tests {
     fn every_clause_alone_and_all_that_is_counted() {
         let (mut stats, mut director) = (Stats::new(), Director::new());
         let mut rng = Rng::new(1);
-        for _ in 0..15_000 {
+        for _ in 0..24_000 {
             let prepared = prepare(&mut rng, &[], &mut director);
             assert_eq!(count(&mut stats, &prepared), Ok(()));
         }
@@ -278,6 +287,9 @@ mod tests {
         counted.extend(stats.case_ages.in_cases());
         for (name, count) in counted {
             assert!(count > 5, "{}: {}", name, count);
+        }
+        for (name, count) in stats.case_relaxed.each() {
+            assert!(count > 2, "{}: {}", name, count);
         }
     }
 }

@@ -2,10 +2,10 @@
 //! actions that lead to waits, long lines, circles, full slots, full rows, full
 //! jobs and updates past their writing.
 
-use super::moods::Action::{self, *};
+use super::actions::Action::{self, *};
 use super::moods::{Mood, MIXED, MOODS};
 use super::scene::{Held, Scene, Txn};
-use super::{jobs, monitors, rings, settling, waiters};
+use super::{jobs, monitors, relaxing, rings, settling, waiters};
 use crate::keeper::{Call, Keeper};
 use crate::rng::Rng;
 use crate::sizes::*;
@@ -80,9 +80,10 @@ impl Director {
         let item = self.item(rng);
         match action {
             // Full slots are worth a try, but not every time.
-            Update | Query if scene.live().len() == SLOTS && rng.percent(75) => None,
+            Update | Query | Relaxed if scene.live().len() == SLOTS && rng.percent(75) => None,
             Update => Some(Call::Update),
             Query => Some(Call::Query),
+            Relaxed => Some(Call::Relaxed),
             Read => Some(read(scene.pick(rng, Txn::is_idle)?, item)),
             Write => {
                 let txn = scene.pick(rng, Txn::is_idle)?;
@@ -128,6 +129,13 @@ impl Director {
             MonitorEnds => monitors::end(rng, scene),
             InItsWay => monitors::in_its_way(rng, scene),
             GoesOn => monitors::goes_on(rng, scene),
+            RelaxedReads => relaxing::reads(rng, scene, item),
+            RelaxedEnds => relaxing::end(rng, scene),
+            MetByWrites => relaxing::met_by_writes(rng, scene),
+            Follows => relaxing::follows(rng, scene),
+            Creates => relaxing::creates(rng, scene),
+            RelaxedRefused => relaxing::refused(rng, scene, item),
+            RelaxedRows => relaxing::rows(rng, scene, &self.hot),
             CommitUpdate => Some(commit(scene.pick(rng, Txn::is_idle)?)),
             AbortUpdate => Some(abort(scene.pick(rng, |txn| !txn.is_query)?)),
             QueryRead => Some(read(scene.pick(rng, |txn| txn.is_query)?, item)),

@@ -155,7 +155,7 @@ fn wrapping(rng: &mut Rng, file: &mut Damaged) {
 
 fn unused(rng: &mut Rng, file: &mut Damaged) {
     let is_unused = |words: &[u64; 4], field: usize| match words[0] {
-        1 | 2 => field > 0,
+        1 | 2 | 8 => field > 0,
         3 => field == 3,
         5..=7 => field > 1,
         _ => false,

@@ -3,6 +3,7 @@
 
 use super::line::step_in;
 use super::scene::{Scene, Txn};
+use super::sets;
 use crate::keeper::Keeper;
 use crate::rng::Rng;
 use crate::sizes::*;
@@ -12,11 +13,12 @@ pub fn made(rng: &mut Rng) -> Keeper {
     let mut keeper = Keeper::fresh();
     transactions(rng, &mut keeper);
     starts_at_stamps(rng, &mut keeper);
+    let relaxed = slots(&keeper, RELAXED);
     let settled = slots(&keeper, SETTLED);
     let theirs = rng.one_of(&[0, 10, 40, 90]);
     for item in 0..ITEMS {
         let owner = rng.pick(&settled).filter(|_| rng.percent(theirs));
-        versions(rng, &mut keeper, item, owner);
+        versions(rng, &mut keeper, item, owner, &relaxed);
         if let Some(slot) = owner {
             take(rng, &mut keeper, item, slot);
         }
@@ -52,6 +54,8 @@ pub fn made(rng: &mut Rng) -> Keeper {
             }
         }
     }
+    sets::join_some(rng, &mut keeper.txns);
+    sets::join(&mut keeper.txns, &keeper.locks, &keeper.versions);
     keeper
 }
 
@@ -64,9 +68,7 @@ pub fn shuffled(rng: &mut Rng, mut slots: Vec<usize>) -> Vec<usize> {
 }
 
 fn slots(keeper: &Keeper, kind: u64) -> Vec<usize> {
-    let row = |slot: usize| &keeper.txns[TXN_HEAD + slot * TXN_ROW..][..TXN_ROW];
-    let like = |slot: &usize| row(*slot)[NUMBER] != 0 && row(*slot)[KIND] == kind;
-    (0..SLOTS).filter(like).collect()
+    sets::slots(&keeper.txns, kind)
 }
 
 fn transactions(rng: &mut Rng, keeper: &mut Keeper) {
@@ -89,7 +91,11 @@ fn transactions(rng: &mut Rng, keeper: &mut Keeper) {
     let live = rng.one_of(&[0, 20, 50, 80, 95, 100]);
     let queries = rng.one_of(&[0, 10, 50, 90, 100]);
     let near = rng.one_of(&[0, 3, 20, 200, LAST]);
-    let settled = rng.one_of(&[0, 0, 10, 40, 100]);
+    let settled = rng.one_of(&[0, 0, 0, 0, 10, 40, 100]);
+    let relaxed = match settled {
+        0 => rng.one_of(&[0, 20, 50, 80, 100]),
+        _ => 0,
+    };
     for slot in 0..SLOTS {
         if !rng.percent(live) {
             continue;
@@ -107,7 +113,16 @@ fn transactions(rng: &mut Rng, keeper: &mut Keeper) {
             row[KIND] = QUERY;
             row[START] = clock - rng.within(0, clock.min(near));
             row[READS] = some_sum(rng);
-            row[WEIGHT] = some_sum(rng);
+            row[WEIGHT] = match rng.percent(20) {
+                true => row[READS],
+                false => some_sum(rng),
+            };
+            if rng.percent(relaxed) {
+                row[KIND] = RELAXED;
+                row[START] = 0;
+                row[ITEMS_READ] = rng.one_of(&[0, 1, 1 << 63, u64::MAX]);
+                row[ITEMS_READ] |= rng.odd_word() & rng.odd_word();
+            }
         }
         let stamp = clock - rng.within(0, clock.min(near.max(40)));
         if stamp > 0 && rng.percent(settled) && !is_taken(keeper, stamp) {
@@ -152,7 +167,13 @@ fn is_taken(keeper: &Keeper, stamp: u64) -> bool {
 
 /// Stamps at, before and after the starts, and of these what is to be kept. Where
 /// one past its writing owns the item all are below its stamp.
-fn versions(rng: &mut Rng, keeper: &mut Keeper, item: usize, owner: Option<usize>) {
+fn versions(
+    rng: &mut Rng,
+    keeper: &mut Keeper,
+    item: usize,
+    owner: Option<usize>,
+    relaxed: &[usize],
+) {
     let start = |slot: usize| keeper.txns[TXN_HEAD + slot * TXN_ROW + START];
     let last = owner.map_or(keeper.txns[CLOCK], |slot| start(slot) - 1);
     let readers = [slots(keeper, QUERY), slots(keeper, SETTLED)].concat();
@@ -164,7 +185,8 @@ fn versions(rng: &mut Rng, keeper: &mut Keeper, item: usize, owner: Option<usize
         // each reader has a version of its own
         stamps.extend(starts.iter().filter(|start| **start <= last));
     }
-    for _ in 0..rng.one_of(&[0, 1, 4, 20, 60]) {
+    let most = rng.one_of(&[0, 1, 4, 20, 60]);
+    for _ in 0..most {
         let near = rng.pick(&starts).unwrap_or(last);
         let stamp = match rng.below(4) {
             0 => near,
@@ -178,7 +200,17 @@ fn versions(rng: &mut Rng, keeper: &mut Keeper, item: usize, owner: Option<usize
     stamps.dedup();
     let newest = stamps[0];
     let read_by = |start: u64| stamps.iter().copied().find(|&stamp| stamp <= start);
-    let read: Vec<u64> = starts.iter().filter_map(|&start| read_by(start)).collect();
+    let mut read: Vec<u64> = starts.iter().filter_map(|&start| read_by(start)).collect();
+    // What is newer than the version that a relaxed query reads is hidden from it.
+    let is_newest = rng.one_of(&[0, 20, 50, 95]);
+    let outside: Vec<(usize, u64)> = relaxed
+        .iter()
+        .map(|&query| match rng.percent(is_newest) {
+            true => (query, newest),
+            false => (query, rng.one_of(&stamps)),
+        })
+        .collect();
+    read.extend(outside.iter().map(|(_, stamp)| *stamp));
     let mut kept = stamps.clone();
     kept.retain(|stamp| *stamp == newest || read.contains(stamp));
     if kept.len() > PLACES {
@@ -187,9 +219,12 @@ fn versions(rng: &mut Rng, keeper: &mut Keeper, item: usize, owner: Option<usize
     let row = &mut keeper.versions[item * VERSION_ROW..][..VERSION_ROW];
     row.fill(0);
     row[COUNT] = kept.len() as u64;
-    for (pair, stamp) in row[1..].chunks_mut(2).zip(kept) {
-        pair[0] = stamp;
-        pair[1] = rng.odd_word();
+    for (place, stamp) in kept.into_iter().enumerate() {
+        row[pair(place)] = stamp;
+        row[pair(place) + 1] = rng.odd_word();
+        let is_hidden = |(_, reads): &&(usize, u64)| *reads < stamp;
+        let from = outside.iter().filter(is_hidden);
+        row[hidden(place)] = from.fold(0, |from, (query, _)| from | 1 << query);
     }
 }
 

@@ -2,6 +2,7 @@
 //! tables set beforehand, against programs that write and judge journals, and against
 //! those that judge choppings and make the finest one.
 
+pub mod actions;
 pub mod ages;
 pub mod cases;
 pub mod cuts;
@@ -21,10 +22,13 @@ pub mod monitors;
 pub mod moods;
 pub mod odd_cases;
 pub mod process;
+pub mod relaxed;
+pub mod relaxing;
 pub mod rings;
 pub mod said;
 pub mod scene;
 pub mod scripts;
+pub mod sets;
 pub mod settled;
 pub mod settling;
 pub mod shown;

@@ -1,77 +1,6 @@
 //! The moods of the director: what it does how often.
 
-/// Something to do next.
-#[derive(Clone, Copy, Debug)]
-pub enum Action {
-    Update,
-    Query,
-    /// An update that waits for nothing reads or writes.
-    Read,
-    Write,
-    /// It writes what it holds shared.
-    Upgrade,
-    /// A waiting update makes its awaited call again.
-    Retry,
-    /// It makes another call.
-    Stray,
-    CommitUpdate,
-    AbortUpdate,
-    QueryRead,
-    QueryWrite,
-    EndQuery,
-    HighItem,
-    UnknownNumber,
-    /// An update without locks takes an item that nobody holds.
-    OwnItem,
-    /// An update begins to wait, so that chains of waits grow.
-    Chain,
-    /// The end of a chain asks for what a waiting update holds.
-    Close,
-    /// The next step towards a circle of all slots.
-    Ring,
-    /// The next step towards a full row with many queries.
-    Rows,
-    /// The next step towards updates that hold as many items as they may.
-    Hoard,
-    /// An update that holds so many, or one less, does something.
-    AtLimit,
-    /// Another one does something beside it.
-    BesideFull,
-    /// The next step towards a long line of waiters.
-    QueueUp,
-    /// One in a line, or one that it waits for, does something.
-    InLine,
-    /// The next step towards an exchanger that passes waiters.
-    Pass,
-    /// An update ends its writing.
-    Settle,
-    /// One that may not asks to.
-    SettleRefused,
-    /// One past its writing reads, writes or ends.
-    SettledReads,
-    SettledWrites,
-    SettledEnds,
-    /// A query, or an update, asks for what one past its writing holds.
-    QueryMeets,
-    UpdateMeets,
-    /// A query, or one past its writing, reads what it read not long ago.
-    ReadAgain,
-    /// The next step towards several past their writing, with items of their own.
-    Several,
-    /// The next step towards as many as there are slots.
-    All,
-    /// The next step towards rows with many versions that such readers read.
-    SettledRows,
-    /// An update begins, reads or commits, and never writes.
-    Monitor,
-    /// One that wrote nothing commits.
-    MonitorEnds,
-    /// A writer asks for what one only reads, and asks again when that is gone.
-    InItsWay,
-    GoesOn,
-}
-
-use Action::*;
+use super::actions::Action::{self, *};
 
 /// A mood: how many items are hot at most, and how often each action comes.
 pub type Mood = (u64, &'static [(Action, u64)]);
@@ -101,6 +30,12 @@ pub const MIXED: Mood = (
         (SettledEnds, 2),
         (QueryMeets, 2),
         (MonitorEnds, 3),
+        (Relaxed, 2),
+        (RelaxedReads, 4),
+        (RelaxedEnds, 3),
+        (MetByWrites, 2),
+        (Follows, 2),
+        (Creates, 1),
     ],
 );
 const HOT: Mood = (
@@ -120,12 +55,15 @@ const HOT: Mood = (
         (Settle, 1),
         (SettledReads, 1),
         (SettledEnds, 1),
+        (RelaxedReads, 2),
+        (RelaxedEnds, 1),
         (Close, 4),
     ],
 );
 const CIRCLES: Mood = (
     64,
     &[
+        (RelaxedEnds, 3),
         (Update, 12),
         (OwnItem, 16),
         (Chain, 12),
@@ -141,6 +79,7 @@ const CIRCLES: Mood = (
 const RINGS: Mood = (
     1,
     &[
+        (RelaxedEnds, 3),
         (Ring, 120),
         (Retry, 2),
         (Stray, 1),
@@ -151,6 +90,7 @@ const RINGS: Mood = (
 const ROWS: Mood = (
     3,
     &[
+        (RelaxedEnds, 3),
         (Rows, 60),
         (QueryRead, 12),
         (EndQuery, 1),
@@ -161,6 +101,7 @@ const ROWS: Mood = (
 const JOBS: Mood = (
     6,
     &[
+        (RelaxedEnds, 3),
         (Hoard, 40),
         (AtLimit, 25),
         (BesideFull, 15),
@@ -178,6 +119,7 @@ const JOBS: Mood = (
 const TWO_JOBS: Mood = (
     6,
     &[
+        (RelaxedEnds, 2),
         (Hoard, 90),
         (AtLimit, 4),
         (BesideFull, 2),
@@ -189,6 +131,7 @@ const TWO_JOBS: Mood = (
 const LINES: Mood = (
     2,
     &[
+        (RelaxedEnds, 8),
         (QueueUp, 50),
         (InLine, 20),
         (Retry, 3),
@@ -202,6 +145,7 @@ const LINES: Mood = (
 const PASSES: Mood = (
     1,
     &[
+        (RelaxedEnds, 5),
         (Pass, 60),
         (Update, 10),
         (InLine, 3),
@@ -214,6 +158,7 @@ const PASSES: Mood = (
 const SETTLED: Mood = (
     6,
     &[
+        (RelaxedEnds, 12),
         (Several, 40),
         (SettledReads, 20),
         (SettledWrites, 10),
@@ -235,6 +180,7 @@ const SETTLED: Mood = (
 const ALL_SETTLED: Mood = (
     8,
     &[
+        (RelaxedEnds, 12),
         (All, 60),
         (SettledReads, 8),
         (SettledWrites, 4),
@@ -246,6 +192,7 @@ const ALL_SETTLED: Mood = (
 const SETTLED_ROWS: Mood = (
     3,
     &[
+        (RelaxedEnds, 12),
         (SettledRows, 60),
         (SettledReads, 12),
         (QueryRead, 4),
@@ -258,6 +205,7 @@ const SETTLED_ROWS: Mood = (
 const MONITORS: Mood = (
     8,
     &[
+        (RelaxedEnds, 12),
         (Monitor, 60),
         (InItsWay, 10),
         (GoesOn, 10),
@@ -278,6 +226,7 @@ const MONITORS: Mood = (
 const IDLE: Mood = (
     20,
     &[
+        (RelaxedEnds, 1),
         (Monitor, 60),
         (Query, 4),
         (QueryRead, 4),
@@ -287,9 +236,68 @@ const IDLE: Mood = (
         (AbortUpdate, 1),
     ],
 );
+/// Sets that grow: many reads, and updates that join in every way.
+const RELAXED: Mood = (
+    10,
+    &[
+        (Relaxed, 5),
+        (RelaxedReads, 30),
+        (RelaxedEnds, 4),
+        (MetByWrites, 12),
+        (Follows, 14),
+        (Creates, 16),
+        (RelaxedRefused, 2),
+        (Update, 8),
+        (Query, 3),
+        (Read, 6),
+        (Write, 8),
+        (Upgrade, 4),
+        (Retry, 6),
+        (Stray, 1),
+        (CommitUpdate, 4),
+        (AbortUpdate, 2),
+        (QueryRead, 3),
+        (EndQuery, 4),
+        (SettledEnds, 20),
+    ],
+);
+/// Few items and many waits beside relaxed queries.
+const RELAXED_HOT: Mood = (
+    3,
+    &[
+        (Relaxed, 3),
+        (RelaxedReads, 16),
+        (RelaxedEnds, 3),
+        (MetByWrites, 10),
+        (Follows, 8),
+        (Update, 8),
+        (Read, 6),
+        (Write, 8),
+        (Upgrade, 6),
+        (Retry, 12),
+        (Close, 4),
+        (CommitUpdate, 8),
+        (AbortUpdate, 2),
+        (EndQuery, 3),
+        (SettledEnds, 20),
+    ],
+);
+const RELAXED_ROWS: Mood = (
+    3,
+    &[
+        (RelaxedRows, 60),
+        (RelaxedReads, 8),
+        (QueryRead, 3),
+        (RelaxedEnds, 1),
+        (EndQuery, 1),
+        (RelaxedRefused, 1),
+    ],
+);
 const CROWD: Mood = (
     6,
     &[
+        (Relaxed, 4),
+        (RelaxedEnds, 2),
         (Update, 12),
         (Query, 12),
         (Read, 4),
@@ -304,6 +312,9 @@ const CROWD: Mood = (
 const REFUSED: Mood = (
     4,
     &[
+        (Relaxed, 1),
+        (RelaxedRefused, 10),
+        (RelaxedEnds, 2),
         (Update, 4),
         (Query, 4),
         (Write, 6),
@@ -324,6 +335,7 @@ const REFUSED: Mood = (
 const DRAIN: Mood = (
     8,
     &[
+        (RelaxedEnds, 8),
         (Retry, 8),
         (CommitUpdate, 12),
         (AbortUpdate, 6),
@@ -335,7 +347,7 @@ const DRAIN: Mood = (
 );
 
 /// Some moods are more fruitful than others.
-pub const MOODS: [Mood; 24] = [
+pub const MOODS: [Mood; 28] = [
     MIXED,
     MIXED,
     HOT,
@@ -357,6 +369,10 @@ pub const MOODS: [Mood; 24] = [
     MONITORS,
     MONITORS,
     IDLE,
+    RELAXED,
+    RELAXED,
+    RELAXED_HOT,
+    RELAXED_ROWS,
     CROWD,
     REFUSED,
     DRAIN,

@@ -12,6 +12,7 @@ pub struct Txn {
     pub is_query: bool,
     /// Whether it is an update past its writing.
     pub is_settled: bool,
+    pub is_relaxed: bool,
     pub start: u64,
     /// Whether an exclusive lock is awaited, and on which item.
     pub awaits: Option<(bool, u64)>,
@@ -20,17 +21,26 @@ pub struct Txn {
     /// How many versions it has read, and the sum of their places.
     pub reads: u64,
     pub weight: u64,
+    /// Of a relaxed query, what it has read: bit x for item x.
+    pub items_read: u64,
+    /// Of an update, the relaxed queries that it is later for: bit q for slot q.
+    pub later_for: u64,
 }
 
 impl Txn {
     /// An update that has not ended its writing.
     pub fn is_writing(&self) -> bool {
-        !self.is_query && !self.is_settled
+        !self.is_query && !self.is_settled && !self.is_relaxed
     }
 
     /// Such an update that may make any call.
     pub fn is_idle(&self) -> bool {
         self.is_writing() && self.awaits.is_none()
+    }
+
+    /// A query of either kind: its reads are counted.
+    pub fn is_counted(&self) -> bool {
+        self.is_query || self.is_relaxed
     }
 
     pub fn bit(&self) -> u64 {
@@ -59,11 +69,14 @@ impl<'a> Scene<'a> {
             number: 0,
             is_query: false,
             is_settled: false,
+            is_relaxed: false,
             start: 0,
             awaits: None,
             rank: 0,
             reads: 0,
             weight: 0,
+            items_read: 0,
+            later_for: 0,
         };
         let mut scene = Scene {
             keeper,
@@ -77,6 +90,7 @@ impl<'a> Scene<'a> {
                 number: row[NUMBER],
                 is_query: row[KIND] == QUERY,
                 is_settled: row[KIND] == SETTLED,
+                is_relaxed: row[KIND] == RELAXED,
                 start: row[START],
                 awaits: match row[AWAITED_LOCK] {
                     AWAITS_NONE => None,
@@ -85,6 +99,8 @@ impl<'a> Scene<'a> {
                 rank: row[RANK],
                 reads: row[READS],
                 weight: row[WEIGHT],
+                items_read: row[ITEMS_READ],
+                later_for: row[LATER_FOR],
             };
             scene.len += 1;
         }
@@ -171,6 +187,11 @@ impl<'a> Scene<'a> {
         let (_, exclusive) = self.holders(item);
         let holds = |txn: &&Txn| exclusive & txn.bit() != 0;
         self.live().iter().find(holds).copied()
+    }
+
+    /// The relaxed queries that an item's newest version is hidden from.
+    pub fn hidden(&self, item: u64) -> u64 {
+        self.keeper.versions[item as usize * VERSION_ROW + hidden(0)]
     }
 
     pub fn version_count(&self, item: usize) -> u64 {

@@ -158,7 +158,7 @@ fn of_the_living(lines: &[Line], recent: usize, with_committed: bool) -> Vec<Lin
             granted.insert(owner, at);
             let stays = with_committed && !queries.contains(&owner);
             match call {
-                Call::Query => queries.insert(owner),
+                Call::Query | Call::Relaxed => queries.insert(owner),
                 Call::Commit { .. } if !stays => gone.insert(owner),
                 Call::Abort { .. } => gone.insert(owner),
                 _ => false,
@@ -244,7 +244,7 @@ pub fn report(other: &dyn Other, input: &[u8], run: &Run) -> String {
             let answer = call.map(|call| keeper.call(call));
             let given = match (call, answer) {
                 (
-                    Some(Call::Update | Call::Query),
+                    Some(Call::Update | Call::Query | Call::Relaxed),
                     Some(Answer {
                         code: 0, number, ..
                     }),
@@ -328,7 +328,9 @@ mod tests {
             assert!(script.own_mistake.is_none());
             assert!(answers(&script.input) == script.expected, "seed {}", seed);
         }
-        for code in (0..8).chain([code::QUOTA_SPENT as usize, code::PAST_WRITING as usize]) {
+        for code in (0..8).chain(
+            [code::QUOTA_SPENT, code::PAST_WRITING, code::NOT_BESIDE].map(|code| code as usize),
+        ) {
             assert!(stats.codes[code] > 100, "code {}", code);
         }
         // Every place in a row, every length of a line and of a circle.
@@ -341,10 +343,13 @@ mod tests {
         let mut counted = stats.settled.in_scripts();
         counted.extend(stats.empty.in_scripts());
         counted.extend(stats.ages.in_scripts());
+        counted.extend(stats.relaxed.each());
         for (name, count) in counted {
             assert!(count > 20, "{}: {}", name, count);
         }
         let crowds = stats.settled.crowds();
+        assert!(crowds.iter().all(|(_, count)| *count > 5));
+        let crowds = stats.relaxed.crowds();
         assert!(crowds.iter().all(|(_, count)| *count > 5));
     }
 

@@ -18,8 +18,8 @@ pub fn settle_some(rng: &mut Rng, scene: &Scene) -> Option<Call> {
     let bare = |txn: &Txn| txn.is_idle() && !scene.holds_any(txn);
     let read_only = |txn: &Txn| txn.is_idle() && scene.holds_any(txn) && scene.exclusives(txn) == 0;
     let txn = match rng.below(10) {
-        0 => scene.pick(rng, bare),
-        1..=2 => scene.pick(rng, read_only),
+        0..=1 => scene.pick(rng, bare),
+        2..=3 => scene.pick(rng, read_only),
         _ => scene.pick(rng, wrote),
     };
     Some(settle(txn?))
@@ -154,7 +154,7 @@ pub fn again(rng: &mut Rng, scene: &Scene, asked: &[Call]) -> Option<Call> {
 /// Queries end and updates begin, write an item of their own or none, and end
 /// their writing, until all slots are past it.
 pub fn all(rng: &mut Rng, scene: &Scene) -> Option<Call> {
-    let useless = |txn: &Txn| txn.is_query || txn.awaits.is_some();
+    let useless = |txn: &Txn| txn.is_query || txn.is_relaxed || txn.awaits.is_some();
     if let Some(txn) = scene.pick(rng, useless) {
         return Some(abort(txn));
     }

@@ -38,6 +38,7 @@ impl Stats {
         self.settled.show(out, self.settled.in_scripts())?;
         self.empty.show(out, self.empty.in_scripts())?;
         self.ages.show(out, self.ages.in_scripts())?;
+        self.relaxed.show(out)?;
         writeln!(out, "  new waits by length of the line")?;
         for (length, count) in self.in_line.lengths() {
             show(out, &format!("  {}", length), count)?;
@@ -68,6 +69,7 @@ impl Stats {
         settled.show(out, settled.in_cases())?;
         self.case_empty.show(out, self.case_empty.in_cases())?;
         self.case_ages.show(out, self.case_ages.in_cases())?;
+        self.case_relaxed.show(out)?;
         writeln!(out, "  damages, and those of them answered 10")?;
         for ((name, _), &(count, bad)) in damage::KINDS.iter().zip(&self.damages) {
             writeln!(out, "    {:<40} {:>10} {:>10}", name, count, bad)?;

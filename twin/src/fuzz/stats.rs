@@ -2,7 +2,8 @@
 
 use super::scene::{Held, Scene, Txn};
 use super::{
-    ages, cuts, damage, empty, fines, fullness, in_line, journals, limit, odd_cases, settled, spoil,
+    ages, cuts, damage, empty, fines, fullness, in_line, journals, limit, odd_cases, relaxed,
+    settled, spoil,
 };
 use crate::answer::{code, Answer};
 use crate::clauses::Clause;
@@ -71,6 +72,7 @@ pub struct Before {
     in_line: Option<in_line::Standing>,
     settled: Option<settled::Standing>,
     empty: Option<empty::Standing>,
+    relaxed: Option<relaxed::Standing>,
 }
 
 impl Before {
@@ -89,6 +91,7 @@ impl Before {
             in_line: None,
             settled: caller.map(|txn| settled::Standing::of(&scene, &txn, call)),
             empty: caller.and_then(|txn| empty::Standing::of(&scene, &txn, call)),
+            relaxed: relaxed::Standing::of(&scene, caller.as_ref(), call),
         };
         let item = match call {
             Call::Read { item, .. } | Call::Write { item, .. } => item,
@@ -124,6 +127,7 @@ pub struct Stats {
     pub settled: settled::Counts,
     pub empty: empty::Counts,
     pub ages: ages::Counts,
+    pub relaxed: relaxed::Counts,
     pub looked: [u64; PLACES + 1],
     pub circles: [u64; SLOTS + 1],
     pub(super) full_rows: u64,
@@ -137,6 +141,7 @@ pub struct Stats {
     pub case_settled: settled::Counts,
     pub case_empty: empty::Counts,
     pub case_ages: ages::Counts,
+    pub case_relaxed: relaxed::Counts,
     /// For each kind of odd case line: how many, and how many of them bad.
     pub(super) odd_cases: [(u64, u64); odd_cases::KINDS.len()],
     /// For each kind of damage: how many, and how many of them answered 10.
@@ -162,6 +167,7 @@ impl Stats {
             settled: settled::Counts::default(),
             empty: empty::Counts::default(),
             ages: ages::Counts::default(),
+            relaxed: relaxed::Counts::default(),
             looked: [0; PLACES + 1],
             circles: [0; SLOTS + 1],
             full_rows: 0,
@@ -174,6 +180,7 @@ impl Stats {
             case_settled: settled::Counts::default(),
             case_empty: empty::Counts::default(),
             case_ages: ages::Counts::default(),
+            case_relaxed: relaxed::Counts::default(),
             odd_cases: [(0, 0); odd_cases::KINDS.len()],
             damages: [(0, 0); damage::KINDS.len()],
             clauses: [(0, 0); Clause::ALL.len()],
@@ -214,6 +221,10 @@ impl Stats {
     pub fn see(&mut self, call: Call, before: &Before, answer: Answer, after: &Keeper) {
         self.calls += 1;
         self.codes[answer.code as usize] += 1;
+        if let Some(standing) = &before.relaxed {
+            let caller = before.caller.as_ref();
+            self.relaxed.see(call, caller, standing, answer, after);
+        }
         let txn = match before.caller {
             Some(txn) => txn,
             None => return,
@@ -232,7 +243,7 @@ impl Stats {
         match (call, answer.code) {
             (Call::Read { .. }, code::GRANTED) => self.see_read(&txn, before, answer),
             // Of those past their writing the counts above tell.
-            _ if txn.is_settled => {}
+            _ if txn.is_settled || txn.is_relaxed => {}
             (Call::Write { value, .. }, code::GRANTED) => self.see_write(&txn, before, value),
             (Call::Read { .. }, code::WAIT) if txn.is_query => {}
             (Call::Read { item, .. }, code::WAIT | code::DEADLOCK) => {

@@ -120,10 +120,6 @@ impl WrongAge {
     ];
 
     /// Those that a script from fresh tables shows.
-    pub(super) fn shown(name: &str) -> Option<WrongAge> {
-        super::named(&WrongAge::ALL[HIDDEN..], name)
-    }
-
     pub(super) fn names_shown() -> Vec<&'static str> {
         super::names(&WrongAge::ALL[HIDDEN..])
     }
@@ -165,10 +161,10 @@ impl WrongAge {
                 let age = view.clock().word() - stamp;
                 let sums = self.sums(before, answer.looked, length, age);
                 if let Some(sums) = sums {
-                    view.txn_mut(slot)[READS..].copy_from_slice(&sums);
+                    view.txn_mut(slot)[READS..=WEIGHT].copy_from_slice(&sums);
                 }
                 if self == OtherSlot && slot.index() > 0 {
-                    view.txn_mut(slot)[READS..].copy_from_slice(&before);
+                    view.txn_mut(slot)[READS..=WEIGHT].copy_from_slice(&before);
                     let at = TXN_HEAD + (slot.index() - 1) * TXN_ROW;
                     view.txns[at + READS] += 1;
                     view.txns[at + WEIGHT] += answer.looked;
@@ -226,10 +222,10 @@ impl WrongAge {
                 return Answer { value, ..answer };
             }
             End => return Answer::found(answer.value + 1, answer.looked + 1),
-            LeftBehind => view.txn_mut(slot)[READS..].copy_from_slice(&row),
+            LeftBehind => view.txn_mut(slot)[READS..=WEIGHT].copy_from_slice(&row),
             ClearsAll => {
                 for row in view.txns[TXN_HEAD..].chunks_exact_mut(TXN_ROW) {
-                    row[READS..].fill(0);
+                    row[READS..=WEIGHT].fill(0);
                 }
             }
             _ => {}

@@ -110,10 +110,6 @@ impl WrongEmpty {
     ];
 
     /// Those that a script from fresh tables shows.
-    pub(super) fn shown(name: &str) -> Option<WrongEmpty> {
-        super::named(&WrongEmpty::ALL[SPENT..], name)
-    }
-
     pub(super) fn names_shown() -> Vec<&'static str> {
         super::names(&WrongEmpty::ALL[SPENT..])
     }

@@ -12,6 +12,7 @@ mod fines;
 mod judges;
 mod lines;
 mod quota;
+mod relaxed;
 mod settled;
 mod settled_ends;
 mod sizes;
@@ -27,6 +28,7 @@ pub use fines::WrongFine;
 pub use judges::WrongJudge;
 pub use lines::{run, WrongLine};
 pub use quota::WrongQuota;
+pub use relaxed::WrongRelaxed;
 pub use settled::WrongSettled;
 pub use sizes::WrongSize;
 pub use tables::WrongTables;
@@ -39,7 +41,7 @@ use crate::answer::Answer;
 use crate::calls::Access;
 use crate::keeper::{Call, Keeper};
 use crate::script;
-use crate::sizes::{EXCLUSIVE, LOCK_ROW, QUERY, UPDATE};
+use crate::sizes::{EXCLUSIVE, LOCK_ROW, QUERY, RELAXED, UPDATE};
 use crate::view::View;
 
 /// The one of this name.
@@ -75,6 +77,7 @@ fn right(view: &mut View, call: Call) -> Answer {
         Call::Commit { number } => view.commit(number),
         Call::Abort { number } => view.abort(number),
         Call::Settle { number } => view.settle(number),
+        Call::Relaxed => view.begin(RELAXED),
     }
 }
 
@@ -97,41 +100,93 @@ fn without_locks(view: &mut View, call: Call, is_unseen: impl Fn(u64) -> bool) -
     answer
 }
 
-/// A way for a runner to be wrong.
+/// A wrong rule of one of the requests.
 #[derive(Clone, Copy, Debug, PartialEq, Eq)]
-pub enum WrongRunner {
-    Call(WrongCall),
+pub enum WrongRule {
     Quota(WrongQuota),
     Wait(WrongWait),
     Settled(WrongSettled),
     Empty(WrongEmpty),
     Age(WrongAge),
+    Relaxed(WrongRelaxed),
     Size(WrongSize),
+}
+
+impl WrongRule {
+    pub fn named(name: &str) -> Option<WrongRule> {
+        named(&WrongQuota::ALL, name)
+            .map(WrongRule::Quota)
+            .or_else(|| named(&WrongWait::ALL, name).map(WrongRule::Wait))
+            .or_else(|| named(&WrongSettled::ALL, name).map(WrongRule::Settled))
+            .or_else(|| named(&WrongEmpty::ALL, name).map(WrongRule::Empty))
+            .or_else(|| named(&WrongAge::ALL, name).map(WrongRule::Age))
+            .or_else(|| named(&WrongRelaxed::ALL, name).map(WrongRule::Relaxed))
+            .or_else(|| named(&WrongSize::ALL, name).map(WrongRule::Size))
+    }
+
+    pub fn names() -> Vec<&'static str> {
+        [
+            names(&WrongQuota::ALL),
+            names(&WrongWait::ALL),
+            names(&WrongSettled::ALL),
+            names(&WrongEmpty::ALL),
+            names(&WrongAge::ALL),
+            names(&WrongRelaxed::ALL),
+            names(&WrongSize::ALL),
+        ]
+        .concat()
+    }
+
+    /// Those that a script from fresh tables shows.
+    fn names_shown() -> Vec<&'static str> {
+        [
+            names(&WrongQuota::ALL),
+            names(&WrongWait::ALL),
+            WrongSettled::names_shown(),
+            WrongEmpty::names_shown(),
+            WrongAge::names_shown(),
+            WrongRelaxed::names_shown(),
+            names(&WrongSize::ALL),
+        ]
+        .concat()
+    }
+
+    /// The call with this wrong rule, without the test of the tables.
+    pub(crate) fn call(self, view: &mut View, call: Call) -> Answer {
+        match self {
+            WrongRule::Quota(kind) => kind.call(view, call),
+            WrongRule::Wait(kind) => kind.call(view, call),
+            WrongRule::Settled(kind) => kind.call(view, call),
+            WrongRule::Empty(kind) => kind.call(view, call),
+            WrongRule::Age(kind) => kind.call(view, call),
+            WrongRule::Relaxed(kind) => kind.call(view, call),
+            WrongRule::Size(kind) => kind.call(view, call),
+        }
+    }
+}
+
+/// A way for a runner to be wrong.
+#[derive(Clone, Copy, Debug, PartialEq, Eq)]
+pub enum WrongRunner {
+    Call(WrongCall),
+    Rule(WrongRule),
     Line(WrongLine),
 }
 
 impl WrongRunner {
     pub fn named(name: &str) -> Option<WrongRunner> {
+        let is_shown = |name: &str| WrongRule::names_shown().contains(&name);
+        let rule = Some(name).filter(|name| is_shown(name));
         named(&WrongCall::ALL, name)
             .map(WrongRunner::Call)
-            .or_else(|| named(&WrongQuota::ALL, name).map(WrongRunner::Quota))
-            .or_else(|| named(&WrongWait::ALL, name).map(WrongRunner::Wait))
-            .or_else(|| WrongSettled::shown(name).map(WrongRunner::Settled))
-            .or_else(|| WrongEmpty::shown(name).map(WrongRunner::Empty))
-            .or_else(|| WrongAge::shown(name).map(WrongRunner::Age))
-            .or_else(|| named(&WrongSize::ALL, name).map(WrongRunner::Size))
+            .or_else(|| rule.and_then(WrongRule::named).map(WrongRunner::Rule))
             .or_else(|| named(&WrongLine::ALL, name).map(WrongRunner::Line))
     }
 
     pub fn names() -> Vec<&'static str> {
         [
             names(&WrongCall::ALL),
-            names(&WrongQuota::ALL),
-            names(&WrongWait::ALL),
-            WrongSettled::names_shown(),
-            WrongEmpty::names_shown(),
-            WrongAge::names_shown(),
-            names(&WrongSize::ALL),
+            WrongRule::names_shown(),
             names(&WrongLine::ALL),
         ]
         .concat()
@@ -144,37 +199,7 @@ impl WrongRunner {
                 let mut keeper = WrongKeeper::fresh(kind);
                 script::run(input, output, |call| keeper.call(call))
             }
-            WrongRunner::Quota(kind) => {
-                let mut keeper = Keeper::fresh();
-                script::run(input, output, |call| {
-                    kind.call(&mut view(&mut keeper), call)
-                })
-            }
-            WrongRunner::Wait(kind) => {
-                let mut keeper = Keeper::fresh();
-                script::run(input, output, |call| {
-                    kind.call(&mut view(&mut keeper), call)
-                })
-            }
-            WrongRunner::Settled(kind) => {
-                let mut keeper = Keeper::fresh();
-                script::run(input, output, |call| {
-                    kind.call(&mut view(&mut keeper), call)
-                })
-            }
-            WrongRunner::Empty(kind) => {
-                let mut keeper = Keeper::fresh();
-                script::run(input, output, |call| {
-                    kind.call(&mut view(&mut keeper), call)
-                })
-            }
-            WrongRunner::Age(kind) => {
-                let mut keeper = Keeper::fresh();
-                script::run(input, output, |call| {
-                    kind.call(&mut view(&mut keeper), call)
-                })
-            }
-            WrongRunner::Size(kind) => {
+            WrongRunner::Rule(kind) => {
                 let mut keeper = Keeper::fresh();
                 script::run(input, output, |call| {
                     kind.call(&mut view(&mut keeper), call)

@@ -115,10 +115,6 @@ impl WrongSettled {
     ];
 
     /// Those that a script from fresh tables shows.
-    pub(super) fn shown(name: &str) -> Option<WrongSettled> {
-        super::named(&WrongSettled::ALL[SPENT..], name)
-    }
-
     pub(super) fn names_shown() -> Vec<&'static str> {
         super::names(&WrongSettled::ALL[SPENT..])
     }

@@ -5,7 +5,7 @@ use super::settled::WrongSettled::{self, *};
 use crate::answer::{code, Answer};
 use crate::calls::release;
 use crate::clauses::{broken, Clause};
-use crate::ids::{Slot, Stamp};
+use crate::ids::{Slot, SlotSet, Stamp};
 use crate::keeper::Call;
 use crate::protocol::Tables;
 use crate::row::{self, Starts};
@@ -53,9 +53,9 @@ pub(super) fn end(kind: WrongSettled, view: &mut View, slot: Slot, commits: bool
             if kind == TrimsNone || kind == KeepsBehind && is_behind {
                 let mut reader = Starts::none();
                 reader.insert(first);
-                row::push(versions, stamp, lock[WORKING], &reader);
+                row::push(versions, stamp, lock[WORKING], SlotSet::EMPTY, &reader);
             } else {
-                row::push(versions, stamp, lock[WORKING], &starts);
+                row::push(versions, stamp, lock[WORKING], SlotSet::EMPTY, &starts);
             }
         } else if trims {
             row::forget(versions, start, &starts);

@@ -8,7 +8,7 @@ use crate::sizes::*;
 use crate::view::View;
 
 use super::settled_ends::WrongSettledTest;
-use super::{WrongAge, WrongEmpty, WrongQuota, WrongSettled, WrongSize, WrongTest, WrongWait};
+use super::{WrongRule, WrongTest};
 
 /// A wrong treatment of tables.
 #[derive(Clone, Copy, Debug, PartialEq, Eq)]
@@ -25,20 +25,10 @@ pub enum WrongTables {
     DeadlockWaits,
     /// So does a write of a further item that a full update may not have.
     QuotaWaits,
-    /// A wrong rule of such writes.
-    Quota(WrongQuota),
-    /// A wrong rule of lines.
-    Wait(WrongWait),
-    /// A wrong rule of settling.
-    Settled(WrongSettled),
+    /// A wrong rule.
+    Rule(WrongRule),
     /// A wrong test of those past their writing.
     SettledTest(WrongSettledTest),
-    /// A wrong rule of commits with nothing written.
-    Empty(WrongEmpty),
-    /// A wrong rule of read counts and weight sums.
-    Age(WrongAge),
-    /// A wrong size.
-    Size(WrongSize),
     /// A test of the tables for fewer slots or versions.
     Test(WrongTest),
     /// The last slot's bit among the shared holders brings all bits above it.
@@ -82,13 +72,8 @@ impl WrongTables {
     pub fn named(name: &str) -> Option<WrongTables> {
         super::named(&WrongTables::OTHERS, name)
             .or_else(|| Clause::named(name).map(WrongTables::Blind))
-            .or_else(|| super::named(&WrongQuota::ALL, name).map(WrongTables::Quota))
-            .or_else(|| super::named(&WrongWait::ALL, name).map(WrongTables::Wait))
-            .or_else(|| super::named(&WrongSettled::ALL, name).map(WrongTables::Settled))
+            .or_else(|| WrongRule::named(name).map(WrongTables::Rule))
             .or_else(|| super::named(&WrongSettledTest::ALL, name).map(WrongTables::SettledTest))
-            .or_else(|| super::named(&WrongEmpty::ALL, name).map(WrongTables::Empty))
-            .or_else(|| super::named(&WrongAge::ALL, name).map(WrongTables::Age))
-            .or_else(|| super::named(&WrongSize::ALL, name).map(WrongTables::Size))
             .or_else(|| super::named(&WrongTest::ALL, name).map(WrongTables::Test))
     }
 
@@ -96,13 +81,8 @@ impl WrongTables {
         [
             Clause::ALL.iter().map(|clause| clause.name()).collect(),
             super::names(&WrongTables::OTHERS),
-            super::names(&WrongQuota::ALL),
-            super::names(&WrongWait::ALL),
-            super::names(&WrongSettled::ALL),
+            WrongRule::names(),
             super::names(&WrongSettledTest::ALL),
-            super::names(&WrongEmpty::ALL),
-            super::names(&WrongAge::ALL),
-            super::names(&WrongSize::ALL),
             super::names(&WrongTest::ALL),
         ]
         .concat()
@@ -127,27 +107,7 @@ impl WrongTables {
                     }
                 }
             }
-            (WrongTables::Quota(kind), code) if code != code::BAD_TABLES => {
-                *tables = before;
-                return on_view(tables, |view| kind.call(view, call));
-            }
-            (WrongTables::Wait(kind), code) if code != code::BAD_TABLES => {
-                *tables = before;
-                return on_view(tables, |view| kind.call(view, call));
-            }
-            (WrongTables::Settled(kind), code) if code != code::BAD_TABLES => {
-                *tables = before;
-                return on_view(tables, |view| kind.call(view, call));
-            }
-            (WrongTables::Empty(kind), code) if code != code::BAD_TABLES => {
-                *tables = before;
-                return on_view(tables, |view| kind.call(view, call));
-            }
-            (WrongTables::Age(kind), code) if code != code::BAD_TABLES => {
-                *tables = before;
-                return on_view(tables, |view| kind.call(view, call));
-            }
-            (WrongTables::Size(kind), code) if code != code::BAD_TABLES => {
+            (WrongTables::Rule(kind), code) if code != code::BAD_TABLES => {
                 *tables = before;
                 return on_view(tables, |view| kind.call(view, call));
             }

@@ -90,7 +90,7 @@ impl Trial {
         assert_eq!(self.0, before, "the wait of {} is noted", number);
     }
 
-    /// The eight words of a slot.
+    /// The ten words of a slot.
     pub fn row(&self, slot: usize) -> &[u64] {
         &self.0.txns[TXN_HEAD + slot * TXN_ROW..][..TXN_ROW]
     }

@@ -4,12 +4,14 @@ mod locks;
 mod quota;
 mod ranks;
 mod reads;
+mod relaxed;
 mod settled;
 mod txns;
 mod versions;
 mod written;
 
 use crate::fuzz::line::{step_in, step_out};
+use crate::fuzz::sets;
 use crate::protocol::Tables;
 use crate::rng::Rng;
 use crate::sizes::*;
@@ -18,6 +20,7 @@ use locks::*;
 use quota::*;
 use ranks::*;
 use reads::*;
+use relaxed::*;
 use settled::*;
 use txns::*;
 use versions::*;
@@ -27,7 +30,7 @@ use written::*;
 pub type Damage = fn(&mut Rng, &mut Tables) -> bool;
 
 /// The kinds of damage by name. The first ones leave good tables good.
-pub const KINDS: [(&str, Damage); 73] = [
+pub const KINDS: [(&str, Damage); 86] = [
     ("none", |_, _| true),
     ("numbers or clock nearly spent", nearly_spent),
     ("32 held exclusively", |rng, t| holds(rng, t, QUOTA)),
@@ -62,8 +65,8 @@ pub const KINDS: [(&str, Damage); 73] = [
     ("free row not zero", free_row),
     ("equal live numbers", equal_numbers),
     ("number above the last given", number_above_last),
-    ("kind 3", |rng, t| {
-        on_txn(rng, t, live, KIND, |rng, _| rng.odd_word().max(3))
+    ("kind 4", |rng, t| {
+        on_txn(rng, t, live, KIND, |rng, _| rng.odd_word().max(4))
     }),
     ("another kind", another_kind),
     ("awaited lock 3", |rng, t| {
@@ -148,6 +151,23 @@ pub const KINDS: [(&str, Damage); 73] = [
     ("an update with a weight sum", |rng, t| {
         update_has(rng, t, WEIGHT)
     }),
+    ("relaxed, start not 0", |rng, t| {
+        on_txn(rng, t, txns::relaxed, START, |rng, clock| {
+            rng.one_of(&[1, clock.max(1), u64::MAX])
+        })
+    }),
+    ("relaxed, awaits", relaxed_awaits),
+    ("relaxed beside one past its writing", beside_settled),
+    ("items read, and not relaxed", items_read),
+    ("later for, and no update", later_for),
+    ("later for what is not relaxed", later_for_others),
+    ("shares, and has not joined", sharer_leaves),
+    ("holds, and has not joined", holder_leaves),
+    ("holds what was read, not joined", holder_leaves_reader),
+    ("hidden behind the versions", unused_hidden),
+    ("hidden from what is not relaxed", hidden_others),
+    ("hidden, and a newer one not", not_nested),
+    ("the last version hidden", last_hidden),
     ("count 0", |rng, t| count(rng, t, |_| 0)),
     ("count 33 and above", |rng, t| {
         count(rng, t, |rng| rng.odd_word().max(PLACES as u64 + 1))
@@ -178,10 +198,16 @@ fn set(word: &mut u64, value: u64) -> bool {
     true
 }
 
+/// All updates join the sets of relaxed queries that they must be in.
+fn join(t: &mut Tables) {
+    sets::join(&mut t.txns, &t.locks, &t.versions);
+}
+
 /// Lets a slot await a lock on an item, and nothing else.
 fn waits(t: &mut Tables, slot: usize, lock: u64, item: usize) -> bool {
     step_out(&mut t.txns, slot);
     step_in(&mut t.txns, &t.locks, slot, lock, item);
+    join(t);
     true
 }
 

@@ -1,6 +1,7 @@
 //! Damage to what an update may hold exclusively, and beside it what is still
 //! good.
 
+use super::join;
 use super::txns::{pick_slot, update};
 use crate::fuzz::line::step_out;
 use crate::fuzz::made::may_wait;
@@ -63,6 +64,7 @@ fn held_by(rng: &mut Rng, t: &mut Tables, count: usize) -> Option<usize> {
             held += 1;
         }
     }
+    join(t);
     Some(slot)
 }
 

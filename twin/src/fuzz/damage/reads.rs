@@ -1,6 +1,6 @@
 //! Read counts and weight sums: near the limit, above it, and where there are none.
 
-use super::txns::{pick_slot, query, settled, update};
+use super::txns::{pick_slot, query, relaxed, settled, update};
 use super::{above_limit, set};
 use crate::fuzz::line::row_of;
 use crate::fuzz::made::some_sum;
@@ -8,10 +8,15 @@ use crate::protocol::Tables;
 use crate::rng::Rng;
 use crate::sizes::*;
 
+/// A query of either kind.
+fn counted(row: &[u64]) -> bool {
+    query(row) || relaxed(row)
+}
+
 /// A query has read so often, or so old versions, that a few reads more come to the
 /// limit. Good.
 pub fn nearly_held(rng: &mut Rng, t: &mut Tables) -> bool {
-    let slot = match pick_slot(rng, t, query) {
+    let slot = match pick_slot(rng, t, counted) {
         Some(slot) => slot,
         None => return false,
     };
@@ -26,7 +31,7 @@ pub fn nearly_held(rng: &mut Rng, t: &mut Tables) -> bool {
 
 /// One of the two sums of a query is above the limit.
 pub fn sum_above(rng: &mut Rng, t: &mut Tables, place: usize) -> bool {
-    match pick_slot(rng, t, query) {
+    match pick_slot(rng, t, counted) {
         Some(slot) => set(&mut row_of(&mut t.txns, slot)[place], above_limit(rng)),
         None => false,
     }

@@ -1,7 +1,7 @@
 //! Damage to those past their writing, and beside it what is still good.
 
 use super::ranks::without_line;
-use super::txns::{pick_slot, query, settled, update};
+use super::txns::{pick_slot, query, relaxed, settled, update};
 use super::{set, waits};
 use crate::fuzz::line::{row_of, step_out};
 use crate::protocol::Tables;
@@ -11,6 +11,9 @@ use crate::sizes::*;
 /// An update ends its writing, under a stamp that may be long gone; what it holds
 /// and what would be too new for that goes. Which slot.
 pub fn made_settled(rng: &mut Rng, t: &mut Tables) -> Option<usize> {
+    if pick_slot(rng, t, relaxed).is_some() {
+        return None;
+    }
     let slot = pick_slot(rng, t, update)?;
     let clock = t.txns[CLOCK];
     let rows = || t.versions.chunks(VERSION_ROW);
@@ -47,7 +50,7 @@ fn some_settled(rng: &mut Rng, t: &mut Tables) -> Option<usize> {
 }
 
 /// Each row keeps its newest version and those that some reader reads.
-fn trim(t: &mut Tables) {
+pub fn trim(t: &mut Tables) {
     let rows = t.txns[TXN_HEAD..].chunks(TXN_ROW);
     let readers = rows.filter(|row| query(row) || settled(row));
     let starts: Vec<u64> = readers.map(|row| row[START]).collect();
@@ -228,7 +231,7 @@ pub fn another_kind(rng: &mut Rng, t: &mut Tables) -> bool {
     match pick_slot(rng, t, |row| row[NUMBER] != 0) {
         Some(slot) => {
             let row = row_of(&mut t.txns, slot);
-            let kind = (row[KIND] + rng.within(1, 2)) % 3;
+            let kind = (row[KIND] + rng.within(1, 3)) % 4;
             if rng.percent(70) {
                 row[READS..].fill(0); // else these tell it
             }

@@ -25,6 +25,10 @@ pub fn settled(row: &[u64]) -> bool {
     live(row) && row[KIND] == SETTLED
 }
 
+pub fn relaxed(row: &[u64]) -> bool {
+    live(row) && row[KIND] == RELAXED
+}
+
 pub fn waiting(row: &[u64]) -> bool {
     live(row) && row[AWAITED_LOCK] != AWAITS_NONE
 }
@@ -70,7 +74,7 @@ pub fn above_clock(rng: &mut Rng, clock: u64) -> u64 {
 }
 
 pub fn free_row(rng: &mut Rng, t: &mut Tables) -> bool {
-    let place = rng.one_of(&[KIND, START, AWAITED_LOCK, AWAITED_ITEM, RANK, READS, WEIGHT]);
+    let place = rng.within(KIND as u64, LATER_FOR as u64) as usize;
     on_txn(rng, t, free, place, |rng, _| rng.odd_word().max(1))
 }
 

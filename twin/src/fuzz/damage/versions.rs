@@ -51,8 +51,8 @@ pub fn unused_pair(rng: &mut Rng, t: &mut Tables) -> bool {
             let first = 1 + 2 * row[COUNT] as usize;
             let at = match rng.below(3) {
                 0 => first,
-                1 => VERSION_ROW - 1,
-                _ => first + rng.index(VERSION_ROW - first),
+                1 => pair(PLACES) - 1,
+                _ => first + rng.index(pair(PLACES) - first),
             };
             set(&mut row[at], rng.odd_word().max(1))
         }
@@ -124,7 +124,14 @@ pub fn unread_version(rng: &mut Rng, t: &mut Tables) -> bool {
                 false => 1 + count / 2,
             };
             let at = 1 + 2 * rng.within(first.min(count) as u64, count as u64) as usize;
-            row.copy_within(at..1 + 2 * count, at + 2);
+            row.copy_within(at..pair(count), at + 2);
+            // It is hidden from whom the next newer one is hidden from.
+            let place = at / 2;
+            row.copy_within(hidden(place)..hidden(count), hidden(place + 1));
+            row[hidden(place)] = match place == count {
+                true => 0,
+                false => row[hidden(place - 1)],
+            };
             row[at] = row[at - 2] - 1;
             row[at + 1] = rng.odd_word();
             row[COUNT] += 1;

@@ -1,5 +1,6 @@
 //! Good tables for commits of nothing and of one item alone.
 
+use super::join;
 use super::txns::{pick_slot, update};
 use crate::fuzz::line::step_out;
 use crate::protocol::Tables;
@@ -35,6 +36,7 @@ pub fn little_written(rng: &mut Rng, t: &mut Tables) -> bool {
         let value = rng.one_of(&[0, newest, value]);
         t.locks[item * LOCK_ROW..][..LOCK_ROW].copy_from_slice(&[0, holder, value]);
     }
+    join(t);
     true
 }
 
