@@ -13,14 +13,43 @@
  *
  * The sizes of the tables are those of the header alone, and no line that is timed names one: so this
  * can be built for libraries of other sizes too, each with its own header, and its lines compared. */
-/* It is read around single calls too, so reading it must cost little. */
-#define TIMED_BY CLOCK_MONOTONIC
-#include "timed.h"
+#define _POSIX_C_SOURCE 199309L
+#include "keeper.h"
+
+#include <stdio.h>
+#include <stdlib.h>
+#include <string.h>
+#include <time.h>
 
 #define RUNS 7
 #define CALLS 20000
 #define SHORT_RUNS 200
 #define SHORT_CALLS 200
+
+/* So many queries or waiters fit into the tables of every header: the same load for all. */
+#define SOME 15
+
+static uint64_t txns[KEEPER_TXN_WORDS];
+static uint64_t locks[KEEPER_LOCK_WORDS];
+static uint64_t versions[KEEPER_VERSION_WORDS];
+
+#define TABLES txns, KEEPER_TXN_WORDS, locks, KEEPER_LOCK_WORDS, versions, KEEPER_VERSION_WORDS
+
+static double now(void)
+{
+    struct timespec t;
+    clock_gettime(CLOCK_MONOTONIC, &t);
+    return (double)t.tv_sec * 1e9 + (double)t.tv_nsec;
+}
+
+static struct keeper_answer granted(struct keeper_answer a)
+{
+    if (a.code != KEEPER_GRANTED) {
+        fprintf(stderr, "bench: a call was answered %d\n", (int)a.code);
+        exit(1);
+    }
+    return a;
+}
 
 /* An update that holds as many items as one may, from item x on, exclusively. */
 static uint64_t full_job(uint64_t x, uint64_t value)

@@ -41,6 +41,14 @@ as_expected() {
     fi
 }
 
+# What cannot be read has no answer: nothing on standard output, and why on standard error.
+silent() {
+    if [ -n "$(launch "$1" <"$here/examples" 2>/dev/null)" ] || [ -z "$(launch "$1" <"$here/examples" 2>&1)" ]; then
+        say "$1: it speaks of a folder, or does not say why not"
+        exit 1
+    fi
+}
+
 # The examples of choppings: each has its verdict.
 choppings() {
     tried=0

@@ -4,7 +4,6 @@
 use crate::answer::{code, Answer};
 use crate::good;
 use crate::ids::{Item, Slot, SlotSet, Stamp};
-use crate::keeper::Call;
 use crate::row;
 use crate::sizes::*;
 use crate::view::{as_row_mut, Holders, Lock, View};
@@ -80,16 +79,6 @@ pub fn settle(txns: &mut [u64], locks: &mut [u64], versions: &mut [u64], number:
     on_good(txns, locks, versions, |mut view| view.settle(number))
 }
 
-/// What a call does on tables that somebody else has found good: for a program that has
-/// its own test of them (bench/cost). On other tables anything may come of it.
-pub fn done(call: Call, txns: &mut [u64], locks: &mut [u64], versions: &mut [u64]) -> Answer {
-    let mut view = match View::new(txns, locks, versions) {
-        Some(view) => view,
-        None => return Answer::bare(code::BAD_TABLES),
-    };
-    view.made(call)
-}
-
 fn on_good<F>(txns: &mut [u64], locks: &mut [u64], versions: &mut [u64], call: F) -> Answer
 where
     F: FnOnce(View) -> Answer,
@@ -118,24 +107,6 @@ impl Access {
 
 /// The calls on tables known to be good.
 impl View<'_> {
-    /// A call on tables that are good.
-    pub(crate) fn made(&mut self, call: Call) -> Answer {
-        match call {
-            Call::Update => self.begin(UPDATE),
-            Call::Query => self.begin(QUERY),
-            Call::Relaxed => self.begin(RELAXED),
-            Call::Read { number, item } => self.access(number, item, Access::Read),
-            Call::Write {
-                number,
-                item,
-                value,
-            } => self.access(number, item, Access::Write(value)),
-            Call::Commit { number } => self.commit(number),
-            Call::Abort { number } => self.abort(number),
-            Call::Settle { number } => self.settle(number),
-        }
-    }
-
     pub(crate) fn begin(&mut self, kind: u64) -> Answer {
         let slot = match self.free_slot() {
             Some(slot) => slot,

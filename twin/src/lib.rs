@@ -24,7 +24,6 @@ pub mod clauses;
 pub mod decimal;
 pub mod fuzz;
 pub mod journal;
-pub mod order;
 pub mod protocol;
 pub mod rng;
 pub mod script;
@@ -33,7 +32,7 @@ pub mod wrong;
 
 pub use answer::{code, Answer};
 pub use calls::{
-    abort, begin_query, begin_relaxed, begin_update, commit, done, fresh, read, settle, write,
+    abort, begin_query, begin_relaxed, begin_update, commit, fresh, read, settle, write,
 };
 pub use good::good;
 pub use keeper::{Call, Keeper};

@@ -14,9 +14,7 @@ use twin::fuzz::stats::Stats;
 use twin::fuzz::{begin, cuts, fines, scripts};
 use twin::protocol;
 use twin::rng::Rng;
-use twin::wrong::{
-    WrongCut, WrongFine, WrongJudge, WrongOrder, WrongRunner, WrongSize, WrongTables,
-};
+use twin::wrong::{WrongCut, WrongFine, WrongJudge, WrongRunner, WrongSize, WrongTables};
 
 const FUZZ: &str = env!("CARGO_BIN_EXE_fuzz");
 const RUNNER: &str = env!("CARGO_BIN_EXE_twin-run");
@@ -25,7 +23,6 @@ const RECORD: &str = env!("CARGO_BIN_EXE_twin-record");
 const VERDICT: &str = env!("CARGO_BIN_EXE_twin-verdict");
 const CUT: &str = env!("CARGO_BIN_EXE_twin-cut");
 const FINE: &str = env!("CARGO_BIN_EXE_twin-fine");
-const ORDER: &str = env!("CARGO_BIN_EXE_twin-order");
 
 fn fuzz(arguments: &[&str]) -> Output {
     let mut command = Command::new(FUZZ);
@@ -51,7 +48,6 @@ const OF_SCRIPTS: u64 = 250;
 const OF_TABLES: u64 = 80;
 const OF_JOURNALS: u64 = 60;
 const OF_CUTS: u64 = 30;
-const OF_ORDERS: u64 = 20;
 
 /// A program that is wrong in one way, and the same keeper in this process.
 struct Wrong<F> {
@@ -243,14 +239,6 @@ fn wrong_finest_cuts_are_caught() {
 }
 
 #[test]
-fn wrong_orders_are_caught() {
-    for (kind, _) in WrongOrder::ALL {
-        let report = report_of("--order", ORDER, kind, OF_ORDERS);
-        assert!(report.contains("the order differs"), "{}", kind);
-    }
-}
-
-#[test]
 fn a_wrong_record_is_caught() {
     // It writes no file at all.
     let output = fuzz(&["--record", "true", "--seed", "1", "--rounds", "3"]);
@@ -273,8 +261,6 @@ fn the_right_ones_are_not() {
         CUT,
         "--fine",
         FINE,
-        "--order",
-        ORDER,
         "--seed",
         "2",
         "--rounds",

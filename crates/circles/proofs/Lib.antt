@@ -3,4 +3,3 @@ pub mod Within
 pub mod Peeling
 pub mod Visiting
 pub mod Closing
-pub mod Zeros

@@ -81,7 +81,11 @@ fn lowest(word: u64) -> u64
     requires { (0 < word) × (word < 2 ^ base.slots) }
     ensures { (result < base.slots) × T (bit word result) }
 {
-    u64::trailing_zeros(word) as u64
+    let mut slot: u64 = 0;
+    while (word >> slot) % 2 == 0 {
+        slot += 1;
+    }
+    slot
 }
 
 // Is a slot of `todo` the goal, or leads to it? `done` holds the slots that were visited. Each call

@@ -8,9 +8,8 @@ ghost use Rattle.std.specs.Prelude.{◌≡◌, length};
 ghost use Rattle.finding_lines.specs.Lines.{longest_line};
 
 use cutting::Cutting;
-use files::printed;
 use finding_lines::LONGEST;
-use libc::STDIN_FILENO;
+use libc::{STDIN_FILENO, STDOUT_FILENO};
 
 // The longest piece.
 const PIECE: usize = 8192;
@@ -47,5 +46,7 @@ fn main() {
         turns -= 1;
     }
     let used = cutting.end(&mut output);
-    printed(&output[..used]);
+    if !io::write_all(STDOUT_FILENO, &output[..used]) {
+        os::fail(b"standard output");
+    }
 }

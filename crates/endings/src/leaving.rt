@@ -5,7 +5,6 @@ ghost use Rattle.rules.specs.Tables.{txn, by_start, live_relaxed, any_query};
 ghost use Rattle.endings.specs.Asked.{Trimmed, Gone, QueryGone};
 
 use names::{RELAXED_KIND, Slot, Stamp};
-use starts::{GUARD, LANES};
 
 // The start of one who left, and the neighbours of that start among those that stay.
 #[derive(Drop)]
@@ -37,8 +36,7 @@ fn relaxed_leaves(txns: &mut [u64], versions: &mut [u64], query: Slot)
 {
     notes::forget(txns, query);
     rows::leave(txns, query);
-    let mut staying = [GUARD; LANES];
-    starts::put_in_order(&txns[..], &mut staying);
+    let staying = starts::starts_in_order(&txns[..]);
     rewrites::reveal_all(versions, query, &staying);
 }
 

@@ -7,9 +7,8 @@
 ghost use Rattle.std.specs.Prelude.{◌≡◌, length};
 ghost use Rattle.cut_lines.specs.Given.{longest_text};
 
-use files::printed;
 use fining::{Fining, LONGEST_TEXT};
-use libc::STDIN_FILENO;
+use libc::{STDIN_FILENO, STDOUT_FILENO};
 
 // The longest piece.
 const PIECE: usize = 8192;
@@ -46,5 +45,7 @@ fn main() {
         turns -= 1;
     }
     let used = fining.end(&mut output);
-    printed(&output[..used]);
+    if !io::write_all(STDOUT_FILENO, &output[..used]) {
+        os::fail(b"standard output");
+    }
 }

@@ -9,7 +9,7 @@ ghost use Rattle.verdict_lines.specs.Lines.{longest, verdict_line};
 ghost use Rattle.judging.specs.Counted.{wanted, part, Counted};
 ghost use Rattle.judging.specs.Handed.{left, Handed};
 
-use journal::WORD;
+use journal::{RECORD, WORD};
 use judging::{Counts, Judging};
 
 // So many bytes from a place on, or fewer where the file ends before.
@@ -43,10 +43,12 @@ fn next_of(file: &[u8], judging: Judging) -> Judging
     requires { (0 < left judging) × Handed file.now judging }
     ensures { (left result < left judging) × Handed file.now result }
 {
+    let first = journal::word(file, 0) as usize;
+    let passed = first - judging.asks() as usize;
     let bytes = judging.bytes();
-    let calls = part_of(file, judging.calls_at() as usize, bytes);
-    let answers = part_of(file, judging.answers_at() as usize, bytes);
-    judging.records(calls, answers)
+    let calls = WORD + RECORD * passed;
+    let answers = 2 * WORD + RECORD * first + RECORD * passed;
+    judging.records(part_of(file, calls, bytes), part_of(file, answers, bytes))
 }
 
 // All of them.

@@ -2,7 +2,7 @@
 // where one is held exclusively, and nobody holds more of these than the quota.
 //
 // Every function is proved equal to its definition, for tables of the exact sizes.
-ghost use Rattle.std.specs.Prelude.{◌≡◌, ◌&&◌, ◌<◌, ◌^◌, length, replicate};
+ghost use Rattle.std.specs.Prelude.{◌≡◌, ◌&&◌, ◌<◌, ◌^◌, length};
 ghost use Rattle.names.specs.Sizes.{base};
 ghost use Rattle.rules.specs.Tables.{txn_words, lock_words};
 ghost use Rattle.shapes.specs.Shape.{updates_in, settled_in};
@@ -17,11 +17,12 @@ const SLOTS: usize = names::SLOTS as usize;
 
 const ITEMS: usize = names::ITEMS as usize;
 
-// What one pass over the locks sees: whether each is as the rules ask; a word that no count of what a
-// slot holds exclusively is above.
+// What one pass over the locks sees: whether each is as the rules ask; how many items each slot holds
+// exclusively; a word that no count is above.
 #[derive(Drop)]
 pub struct Holdings {
     pub ok: bool,
+    pub counts: [u64; SLOTS],
     pub most: u64,
 }
 
@@ -40,15 +41,14 @@ fn lock_ok(shared: u64, exclusive: u64, working: u64, updates: u64, holders: u64
     (shared == 0) & (exclusive <= names::SLOTS) & (((holders * 2) >> (exclusive % WIDTH)) % 2 == 1)
 }
 
-// One pass over the locks. How many items each slot holds exclusively is left in counts, which the
-// caller lends, all zero: an array handed back would be copied.
-// A holder that is no slot fails the test of its lock and is not counted.
+// One pass over the locks. A holder that is no slot fails the test of its lock and is not counted.
 // `most` is the or of all counts: none is above it, and it is below the quota, a power of two, as long
 // as they are.
-fn locks_ok(locks: &[u64], updates: u64, holders: u64, counts: &mut [u64]) -> Holdings
-    requires { (length locks.now ≡ lock_words base) × (holders < 2 ^ base.slots) × (counts.old ≡ replicate base.slots 0) }
-    ensures { (result.ok ≡ locks_ok updates holders locks.now) × Counted locks.now counts.new result.most }
+fn locks_ok(locks: &[u64], updates: u64, holders: u64) -> Holdings
+    requires { (length locks.now ≡ lock_words base) × (holders < 2 ^ base.slots) }
+    ensures { (result.ok ≡ locks_ok updates holders locks.now) × Counted locks.now result.counts result.most }
 {
+    let mut counts = [0u64; SLOTS];
     let mut most: u64 = 0;
     let mut ok = true;
     let mut item: usize = 0;
@@ -72,7 +72,7 @@ fn locks_ok(locks: &[u64], updates: u64, holders: u64, counts: &mut [u64]) -> Ho
         }
         item += 1;
     }
-    Holdings { ok, most }
+    Holdings { ok, counts, most }
 }
 
 // Each slot, by the counts: it holds no more than the quota, and at the quota it awaits no exclusive
@@ -116,9 +116,9 @@ pub fn locks_pass(txns: &[u64], locks: &[u64], updates: u64, settled: u64) -> bo
     if holders == 0 {
         return none_held(locks);
     }
-    let mut counts = [0u64; SLOTS];
-    let seen = locks_ok(locks, updates, holders, &mut counts);
+    let seen = locks_ok(locks, updates, holders);
     let ok = seen.ok;
+    let counts = seen.counts;
     let most = seen.most;
     if most < names::QUOTA {
         return ok;

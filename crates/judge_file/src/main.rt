@@ -1,9 +1,10 @@
 // The judge as a program: says of the journal that its argument names whether it is accepted, on
 // one line of standard output.
 //
-// The file is read in pieces of whole records, each at the place that the machine says, so that its
-// size does not matter. What cannot be read is told on standard error, and then standard output stays
-// empty.
+// The file is opened twice, one place at the calls and one at the answers, and both are read in
+// pieces of whole records, so that its size does not matter. What cannot be read is told on standard
+// error, and then standard output stays empty.
+mod file;
 mod handing;
 
 fn main() {

@@ -1,5 +1,10 @@
 -- The counts, one after another.
-use Rattle.std.proofs.Common.{◌≡◌, ℕ, ◌+◌, ◌*◌, ◌<◌, ◌≤◌, false, List, length, drop, sym, refl, ap, ◌∙◌, arith}
+use Prim.Native.Nat.{ℕ, ◌+◌, ◌*◌, ◌≤◌, ◌<◌}
+use mathlib.Core.Path.{◌≡◌, refl, sym, ap, ◌∙◌}
+use mathlib.Core.Bool.{false}
+use mathlib.Core.List.{List}
+use native.Mathlib.Omega.{arith}
+use lib.ListN.{length, drop}
 use Rattle.journal.specs.Words.{word_size, word_at, greatest}
 use Rattle.journal.specs.Format.{record_size, call_count, second_place, answer_count}
 use Rattle.journal.proofs.WordLaws.{word-drop, word_piece}

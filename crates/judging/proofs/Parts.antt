@@ -1,13 +1,16 @@
 -- A file's parts, and that what is asked for of a whole file stands there.
-use Rattle.std.proofs.Common.{◌≡◌, ℕ, ◌+◌, ◌-◌, ◌*◌, ◌<◌, ◌≤◌, List, [], length, take, drop, sym, ap, ◌∙◌, arith, length-drop, drop_of_length-le, length-take-le, take_all}
-use lib.Seq.{take-nil}
+use Prim.Native.Nat.{ℕ, ◌+◌, ◌-◌, ◌*◌, ◌≤◌, ◌<◌}
+use mathlib.Core.Path.{◌≡◌, sym, ap, ◌∙◌}
+use mathlib.Core.List.{List, []}
+use native.Mathlib.Omega.{arith}
+use lib.ListN.{length, take, drop, length-drop, drop_of_length-le}
+use lib.Seq.{take-nil, take_all, length-take-le}
 use Rattle.journal.specs.Words.{word_size}
 use Rattle.journal.specs.Format.{record_size, call_count, answer_count}
 use Rattle.journal.proofs.Lists.{take_rest}
-use Rattle.judge.proofs.Said.{place}
 use Rattle.judging.specs.declared.lockstep.Judging.{Judging}
 use Rattle.judging.specs.Counted.{part}
-use Rattle.judging.specs.Handed.{bytes_next, calls_at, answers_at, Handed}
+use Rattle.judging.specs.Handed.{Handed}
 
 module _ (file : List ℕ) (at n : ℕ) where
   pub part_none : length file < at → [] ≡ part file at n
@@ -22,13 +25,13 @@ module _ (file : List ℕ) (at n : ℕ) where
   pub length_part : at + n ≤ length file → length (part file at n) ≡ n
   length_part h = length-take-le n (drop at file) (omega (arith, length-drop at file))
 
--- the next calls and the next answers are there
-pub room : (file : List ℕ) (j : Judging) → 0 < j.left → Handed file j → (calls_at j + bytes_next j ≤ length file) × (answers_at j + bytes_next j ≤ length file)
+-- all calls and all answers are there
+pub room : (file : List ℕ) (j : Judging) → 0 < j.left → Handed file j →
+    (call_count file ≡ j.counts.first) × (j.left ≤ j.counts.first) × (2 * word_size + record_size * j.counts.first + record_size * j.counts.first ≡ length file)
 room file j p h =
     let w = h.whole p in
     let q = h.seen w in
     let s : length file ≡ 2 * word_size + record_size * call_count file + record_size * answer_count file = w.size in
     let c : call_count file ≡ answer_count file = w.counts in
     let f : j.counts.first ≡ call_count file = q.count in
-    let i : j.left ≤ j.counts.first = q.within in
-    (omega (arith, q.calls), omega (arith, q.answers, place file))
+    (sym f, q.within, omega arith)

@@ -1,5 +1,14 @@
 -- The records, piece by piece, and what is said at the end.
-use Rattle.std.proofs.Common.{◌≡◌, ℕ, ◌+◌, ◌-◌, ◌*◌, ◌/◌, ◌%◌, ◌^◌, ◌<◌, ◌≤◌, min, Bool, true, false, ltb, ◌≢◌, List, length, take, drop, sym, refl, ap, ◌∙◌, subst, ⊎_elim, arith, drop-drop, ltb-false, ltb-true}
+use Prim.Native.Nat.{ℕ, ◌+◌, ◌-◌, ◌*◌, ◌/◌, ◌≤◌, ◌<◌, min}
+use mathlib.Core.Path.{◌≡◌, refl, sym, ap, subst, ◌∙◌}
+use mathlib.Core.Logic.{◌≢◌, ⊎_elim}
+use mathlib.Core.Bool.{Bool, true, false}
+use mathlib.Core.List.{List}
+use native.Mathlib.Omega.{arith}
+use lib.Dec.{ltb}
+use lib.ListN.{length, take, drop}
+use lib.Seq.{drop-drop}
+use borrow.Author.Tests.{ltb-true, ltb-false}
 use Rattle.rules.proofs.Tests.{same?}
 use Rattle.journal.specs.Words.{word_size, greatest}
 use Rattle.journal.specs.Format.{record_size, call_count, answers_place, answer_count}
@@ -17,12 +26,12 @@ use Rattle.judging.specs.Handed.{records_next, bytes_next, passed, calls_at, ans
 
 -- ---- only a whole file's counts are accepted
 
-pub accepted-whole : (size n m w : ℕ) → spoken size n m w ≡ Accepted → (size ≡ bytes n m) × (n ≡ m)
-accepted-whole size n m w e = go (ltb size (bytes n m)) (ltb (bytes n m) size) refl refl
+accepted-whole : (size n m : ℕ) → spoken size n m 0 ≡ Accepted → (size ≡ bytes n m) × (n ≡ m)
+accepted-whole size n m e = go (ltb size (bytes n m)) (ltb (bytes n m) size) refl refl
   where
     go : (a b : Bool) → ltb size (bytes n m) ≡ a → ltb (bytes n m) size ≡ b → (size ≡ bytes n m) × (n ≡ m)
     go true b p q =
-        let s : spoken size n m w ≡ Short = short size n m w (ltb-true size (bytes n m) p) in
+        let s : spoken size n m 0 ≡ Short = short size n m 0 (ltb-true size (bytes n m) p) in
         let z : ◌≡◌ {A = ℕ} 0 1 = cc in
         absurd (let no : ⊥ = omega arith in no)
     go false b p q = ⊎_elim (same b q) other (same? n m)
@@ -32,13 +41,13 @@ accepted-whole size n m w e = go (ltb size (bytes n m)) (ltb (bytes n m) size) r
 
         other : n ≢ m → (size ≡ bytes n m) × (n ≡ m)
         other d =
-            let s : spoken size n m w ≡ Unequal = unequal size n m w enough d in
+            let s : spoken size n m 0 ≡ Unequal = unequal size n m 0 enough d in
             let z : ◌≡◌ {A = ℕ} 0 1 = cc in
             absurd (let no : ⊥ = omega arith in no)
 
         same : (b : Bool) → ltb (bytes n m) size ≡ b → n ≡ m → (size ≡ bytes n m) × (n ≡ m)
         same true q i =
-            let s : spoken size n m w ≡ LeftOver = left_over_lem size n m w (ltb-true (bytes n m) size q) i in
+            let s : spoken size n m 0 ≡ LeftOver = left_over_lem size n m 0 (ltb-true (bytes n m) size q) i in
             let z : ◌≡◌ {A = ℕ} 0 1 = cc in
             absurd (let no : ⊥ = omega arith in no)
         same false q i =
@@ -53,32 +62,20 @@ some_accepted Unequal n h = absurd (let no : ⊥ = omega arith in no)
 some_accepted LeftOver n h = absurd (let no : ⊥ = omega arith in no)
 some_accepted (Wrong k) n h = absurd (let no : ⊥ = omega arith in no)
 
--- the answers of all records that are asked for begin within a word
-pub answers_fit : (size n m : ℕ) → size ≤ greatest → 2 * word_size + record_size * records_by (spoken size n m 0) n ≤ greatest
-unfolding records_by
-answers_fit size n m f = go (spoken size n m 0) refl
-  where
-    go : (v : Verdict) → spoken size n m 0 ≡ v → 2 * word_size + record_size * records_by v n ≤ greatest
-    go Accepted e = omega (arith, accepted-whole size n m 0 e)
-    go Short e = omega arith
-    go Unequal e = omega arith
-    go LeftOver e = omega arith
-    go (Wrong k) e = omega arith
-
 -- ---- birth
 
 module _ (file : List ℕ) (j : Judging) where
   pub born : Counted file j.counts → j.counts.wanted ≡ 0 →
       j.left ≡ records_by (spoken j.counts.size j.counts.first j.counts.second 0) j.counts.first →
-      calls_at j ≡ word_size → answers_at j ≡ 2 * word_size + record_size * j.left → progress_of j ≡ start → Handed file j
+      progress_of j ≡ start → Handed file j
   unfolding records_by seen_all
-  born h o l ac aa p = record { counted = h; over = o; whole = all; seen = seen }
+  born h o l p = record { counted = h; over = o; whole = all; seen = seen }
     where
       all : 0 < j.left → Whole file
       all s =
           let v : Verdict = spoken j.counts.size j.counts.first j.counts.second 0 in
           let some : 0 < records_by v j.counts.first = omega arith in
-          let w = accepted-whole (length file) (call_count file) (answer_count file) 0 (sym (h.said o 0) ∙ some_accepted v j.counts.first some) in
+          let w = accepted-whole (length file) (call_count file) (answer_count file) (sym (h.said o 0) ∙ some_accepted v j.counts.first some) in
           record { size = w.0; counts = w.1 }
 
       seen : Whole file → Seen file j
@@ -92,22 +89,8 @@ module _ (file : List ℕ) (j : Judging) where
           record {
             count = h.whole o w;
             within = omega arith;
-            calls = omega arith;
-            answers = let f : j.counts.first ≡ call_count file = h.whole o w in omega (arith, place file);
             kept = p ∙ ap (λ (k : ℕ). seen_all k (drop word_size file) (drop (answers_place file) file) start) (sym none);
           }
-
--- no record of a whole file is handed over where all that it has are asked for
-pub none_passed : (file : List ℕ) (k : Counts) (l : ℕ) → Counted file k → k.wanted ≡ 0 →
-    l ≡ records_by (spoken k.size k.first k.second 0) k.first → Whole file → k.first - l ≡ 0
-unfolding records_by
-none_passed file k l h o e w =
-    let s : length file ≡ 2 * word_size + record_size * call_count file + record_size * answer_count file = w.size in
-    let c : call_count file ≡ answer_count file = w.counts in
-    let ok : spoken k.size k.first k.second 0 ≡ Accepted
-    = h.said o 0 ∙ whole (length file) (call_count file) (answer_count file) 0 (omega arith) c refl in
-    let all : l ≡ k.first = e ∙ ap (λ (v : Verdict). records_by v k.first) ok in
-    omega arith
 
 -- ---- a piece of the calls and of the answers
 
@@ -123,20 +106,9 @@ piece-seen k size {cs} {rs} us vs p e lc lr c r =
     let n : min (length cs) (length rs) / record_size ≡ k = omega arith in
     (λ i. seen_all (n i) (c i) (r i) p) ∙ seen_start k size us vs p (omega arith)
 
--- every place of a whole file is a word
-all_fit : (file : List ℕ) (j : Judging) → Handed file j → Whole file → 2 * word_size + record_size * j.counts.first + record_size * j.counts.first ≤ greatest
-all_fit file j h w =
-    let s : length file ≡ 2 * word_size + record_size * call_count file + record_size * answer_count file = w.size in
-    let e : call_count file ≡ answer_count file = w.counts in
-    let z : j.counts.size ≡ length file = h.counted.size in
-    let f : j.counts.size ≤ greatest = h.counted.fits in
-    let c : j.counts.first ≡ call_count file = (h.seen w).count in
-    omega arith
-
 module _ (file : List ℕ) (j : Judging) (h : Handed file j) (cs rs : List ℕ) (r : Judging)
     (c : r.counts ≡ j.counts) (l : r.left ≡ j.left - records_next j)
     (lc : length cs ≡ bytes_next j) (lr : length rs ≡ bytes_next j)
-    (ac : calls_at r ≡ (calls_at j + length cs) % 2 ^ 64) (aa : answers_at r ≡ (answers_at j + length rs) % 2 ^ 64)
     (s : progress_of r ≡ seen_piece cs rs (progress_of j))
     (pc : cs ≡ part file (calls_at j) (bytes_next j)) (pr : rs ≡ part file (answers_at j) (bytes_next j)) where
   seen_next : Whole file → Seen file r
@@ -149,16 +121,14 @@ module _ (file : List ℕ) (j : Judging) (h : Handed file j) (cs rs : List ℕ) 
       let k : ℕ = records_next j in
       let us : List ℕ = drop word_size file in
       let vs : List ℕ = drop (answers_place file) file in
-      let ec : cs ≡ take (bytes_next j) (drop (record_size * n) us) = pc ∙ ap (λ (m : ℕ). part file m (bytes_next j)) q.calls ∙ part-behind file word_size n (bytes_next j) in
+      let at : 2 * word_size + record_size * j.counts.first ≡ answers_place file = ap (λ (m : ℕ). 2 * word_size + record_size * m) cf ∙ sym (place file) in
+      let ec : cs ≡ take (bytes_next j) (drop (record_size * n) us) = pc ∙ part-behind file word_size n (bytes_next j) in
       let er : rs ≡ take (bytes_next j) (drop (record_size * n) vs)
-      = pr ∙ ap (λ (m : ℕ). part file m (bytes_next j)) q.answers ∙ part-behind file (answers_place file) n (bytes_next j) in
+      = pr ∙ part-behind file (2 * word_size + record_size * j.counts.first) n (bytes_next j) ∙ ap (λ (m : ℕ). take (bytes_next j) (drop (record_size * n) (drop m file))) at in
       let more : n + k ≡ passed r = omega arith in
-      let fits = all_fit file j h w in
       record {
         count = first ∙ cf;
         within = omega arith;
-        calls = omega (arith, q.calls, fits);
-        answers = omega (arith, q.answers, fits, place file);
         kept =
             s
             ∙ piece-seen k (bytes_next j) (drop (record_size * n) us) (drop (record_size * n) vs) (progress_of j) refl lc lr ec er

@@ -1,5 +1,5 @@
 -- A file's size and its two counts, as they are asked for and handed over.
-use Rattle.std.specs.Prelude.{◌≡◌, ℕ, ◌+◌, ◌<◌, ◌≤◌, List, length, take, drop}
+use Rattle.std.specs.Prelude.{ℕ, ◌+◌, ◌≤◌, ◌<◌, ◌≡◌, List, length, take, drop}
 use Rattle.journal.specs.Words.{word_size, greatest}
 use Rattle.journal.specs.Format.{call_count, second_place, answer_count}
 use Rattle.judge.specs.Pieces.{Whole, spoken}

@@ -1,5 +1,5 @@
 -- A file's calls and answers, as they are asked for and handed over, and what is known of them.
-use Rattle.std.specs.Prelude.{◌≡◌, ℕ, ◌+◌, ◌-◌, ◌*◌, ◌<◌, ◌≤◌, List, drop}
+use Rattle.std.specs.Prelude.{ℕ, ◌+◌, ◌-◌, ◌*◌, ◌≤◌, ◌<◌, ◌≡◌, List, drop}
 use Rattle.journal.specs.Words.{word_size}
 use Rattle.journal.specs.Format.{record_size, call_count, answers_place, next_piece}
 use Rattle.judge.specs.Pieces.{Progress, progress, start, seen_all, Whole}
@@ -21,24 +21,21 @@ bytes_next j = records_next j * record_size
 abbrev pub passed : Judging → ℕ
 passed j = j.counts.first - j.left
 
--- where the next calls and the next answers are asked for
+-- where the next calls stand: behind the first count and the calls before; and the next answers: behind both counts, all calls and
+-- the answers before
 abbrev pub calls_at : Judging → ℕ
-calls_at j = j.calls
+calls_at j = word_size + record_size * passed j
 
 abbrev pub answers_at : Judging → ℕ
-answers_at j = j.answers
+answers_at j = 2 * word_size + record_size * j.counts.first + record_size * passed j
 
--- what the calls that were handed over have come to
+-- the calls that were handed over were seen one after another, from fresh tables
 abbrev pub progress_of : Judging → Progress
 progress_of j = progress j.judge j.txns j.locks j.versions
 
--- the next calls are asked for where they stand, behind the first count and the calls before, and the next answers behind both counts, all
--- calls and the answers before; those that were handed over were seen one after another, from fresh tables
 pub record Seen (file : List ℕ) (j : Judging) : Type 0 where
   pub count : j.counts.first ≡ call_count file
   pub within : j.left ≤ j.counts.first
-  pub calls : calls_at j ≡ word_size + record_size * passed j
-  pub answers : answers_at j ≡ answers_place file + record_size * passed j
   pub kept : progress_of j ≡ seen_all (passed j) (drop word_size file) (drop (answers_place file) file) start
 
 -- what was asked for was handed over as it stands in the file; records are asked for of a whole file alone

@@ -1,5 +1,5 @@
 // A file's size and its two counts.
-ghost use Rattle.std.specs.Prelude.{◌≡◌, ℕ, ◌<◌, List, length};
+ghost use Rattle.std.specs.Prelude.{◌≡◌, List, ℕ, ◌<◌, length};
 ghost use Rattle.journal.specs.Words.{word_size};
 ghost use Rattle.journal.specs.Format.{call_count, answer_count};
 ghost use Rattle.judge.specs.Pieces.{spoken};
@@ -8,11 +8,11 @@ ghost use Rattle.judging.specs.Counted.{wanted, place, part, Counted, records_by
 use judge::Verdict;
 
 // The bytes of a count, of both, and of a record.
-pub(crate) const ONE: u64 = journal::WORD as u64;
+const ONE: u64 = journal::WORD as u64;
 
-pub(crate) const BOTH: u64 = 2 * journal::WORD as u64;
+const BOTH: u64 = 2 * journal::WORD as u64;
 
-pub(crate) const RECORD: u64 = journal::RECORD as u64;
+const RECORD: u64 = journal::RECORD as u64;
 
 // How many counts are still asked for, where the next one stands, and those that were handed over.
 #[derive(Drop)]

@@ -1,25 +1,21 @@
 // The calls and the answers of a file, in step, and what is said of it.
-ghost use Rattle.std.specs.Prelude.{◌≡◌, ℕ, ◌-◌, ◌≤◌, List, length};
+ghost use Rattle.std.specs.Prelude.{◌≡◌, List, ℕ, ◌-◌, ◌≤◌, length};
 ghost use Rattle.texts.specs.Written.{Wrote};
 ghost use Rattle.judge.specs.Verdicts.{verdict_on};
-ghost use Rattle.judge.specs.Pieces.{Whole};
 ghost use Rattle.verdict_lines.specs.Lines.{longest, verdict_line};
 ghost use Rattle.judging.specs.Counted.{wanted, part, Counted};
-ghost use Rattle.judging.specs.Handed.{left, records_next, bytes_next, passed, calls_at, answers_at, Handed};
+ghost use Rattle.judging.specs.Handed.{left, records_next, bytes_next, calls_at, answers_at, Handed};
 
-use crate::counted::{BOTH, Counts, ONE, RECORD};
-use judge::{Judge, Verdict};
+use crate::counted::Counts;
+use journal::RECORD;
+use judge::Judge;
 use names::{LOCK_WORDS, TXN_WORDS, VERSION_WORDS};
-use std::num::wrapping_add_u64;
 
-// How many records of each kind are still asked for, where the next calls and the next answers stand,
-// and what the judge keeps.
+// How many records of each kind are still asked for, and what the judge keeps.
 #[derive(Drop)]
 pub struct Judging {
     counts: Counts,
     left: u64,
-    calls: u64,
-    answers: u64,
     judge: Judge,
     txns: [u64; TXN_WORDS],
     locks: [u64; LOCK_WORDS],
@@ -30,21 +26,17 @@ impl Judging {
     // Of a file with these counts, from fresh tables.
     pub fn new(counts: Counts) -> Self
         requires { wanted counts ≡ 0 }
-        ensures by_index { (file : List ℕ) → Counted file counts → Handed file result }
-        ensures by_index_2 { (file : List ℕ) → Counted file counts → Whole file → passed result ≡ 0 }
+        ensures { (file : List ℕ) → Counted file counts → Handed file result }
     {
         let mut txns = [0u64; TXN_WORDS];
         let mut locks = [0u64; LOCK_WORDS];
         let mut versions = [0u64; VERSION_WORDS];
         fresh::fresh(&mut txns, &mut locks, &mut versions);
         let left = counts.records();
-        let first_answer = BOTH + RECORD * left;
         let judge = Judge::new();
         Judging {
             counts,
             left,
-            calls: ONE,
-            answers: first_answer,
             judge,
             txns,
             locks,
@@ -63,21 +55,7 @@ impl Judging {
     pub fn bytes(self) -> usize
         ensures { result ≡ bytes_next self }
     {
-        journal::next_piece(self.left) as usize * journal::RECORD
-    }
-
-    // Where these calls stand in the file.
-    pub fn calls_at(self) -> u64
-        ensures { result ≡ calls_at self }
-    {
-        self.calls
-    }
-
-    // Where these answers stand.
-    pub fn answers_at(self) -> u64
-        ensures { result ≡ answers_at self }
-    {
-        self.answers
+        journal::next_piece(self.left) as usize * RECORD
     }
 
     // The calls and the answers that were asked for, as they stand in the file.
@@ -100,28 +78,14 @@ impl Judging {
             &mut versions,
         );
         let rest = left - journal::next_piece(left);
-        let next_calls = wrapping_add_u64(self.calls, calls.len() as u64);
-        let next_answers = wrapping_add_u64(self.answers, answers.len() as u64);
         Judging {
             counts,
             left: rest,
-            calls: next_calls,
-            answers: next_answers,
             judge,
             txns,
             locks,
             versions,
         }
-    }
-
-    // What is said of the file, once no record is asked for any more.
-    pub fn verdict(self) -> Verdict
-        requires { (left self) ≡ 0 }
-        ensures { (file : List ℕ) → Handed file self → result ≡ verdict_on file }
-    {
-        let counts = self.counts;
-        let judge = self.judge;
-        counts.say(judge.wrong)
     }
 
     // The line that is said of the file, once no record is asked for any more; how long it is.
@@ -131,6 +95,8 @@ impl Judging {
         ensures upper_bound { result ≤ length out.old }
         ensures by_index { (file : List ℕ) → Handed file self → Wrote out.old 0 (verdict_line (verdict_on file)) out.new result }
     {
-        verdict_lines::print(self.verdict(), out, 0)
+        let counts = self.counts;
+        let judge = self.judge;
+        verdict_lines::print(counts.say(judge.wrong), out, 0)
     }
 }

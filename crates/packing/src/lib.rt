@@ -10,7 +10,7 @@ ghost use Rattle.rules.specs.Words.{bit};
 ghost use Rattle.rules.specs.Tables.{version_row, masks_at, up_to, outside};
 ghost use Rattle.rules.specs.Versions.{versions_in, row_of, place};
 ghost use Rattle.choices.specs.Pairs.{count_in};
-ghost use Rattle.starts.specs.Ordered.{Rises};
+ghost use Rattle.starts.specs.Ordered.{lanes};
 ghost use Rattle.packing.specs.Changed.{TidyRow, Frontable, fronted, without, left_by, shown_to};
 ghost use Rattle.packing.specs.Moved.{MovedBack, MovedUp, Shown};
 
@@ -121,7 +121,7 @@ fn show(row: &mut [u64], slot: u64, n: usize)
 // is hidden from it any more, and the version that it read is taken out, unless that is the newest, or
 // another reads it too.
 pub fn reveal(row: &mut [u64], slot: u64, starts: &[u64])
-    requires { TidyRow row.old × (slot < base.slots) × (place (outside slot) (versions_in base row.old) < length (versions_in base row.old)) × Rises starts.now }
+    requires { TidyRow row.old × (slot < base.slots) × (place (outside slot) (versions_in base row.old) < length (versions_in base row.old)) × (length starts.now ≡ lanes) }
     ensures { row.new ≡ row_of base (shown_to slot starts.now (versions_in base row.old)) }
 {
     let k = choices::place_outside(&row[..], slot);

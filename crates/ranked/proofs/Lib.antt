@@ -1,4 +1,4 @@
--- Laws of those who stand in line.
+-- Laws of ranks as marks in words.
 pub mod Chain
-pub mod Lines
+pub mod Marking
 pub mod Placing

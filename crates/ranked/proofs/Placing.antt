@@ -1,146 +1,153 @@
--- What the words of those who wait say of one slot.
-use Prim.Native.Nat.{ℕ, suc, ◌+◌, ◌-◌, ◌^◌, ◌≤◌, ◌<◌}
-use mathlib.Core.Path.{◌≡◌, refl, sym, ap, ap₂, ◌∙◌, subst}
-use mathlib.Core.Logic.{◌≢◌, ◌⊎◌, inl, inr}
-use mathlib.Core.Bool.{Bool, true, false, not, ◌&&◌}
+-- The pass that looks the marks up: each slot is placed exactly if the ranks are good.
+use Prim.Native.Nat.{ℕ, suc, ◌+◌, ◌-◌, ◌*◌, ◌/◌, ◌%◌, ◌^◌, ◌≤◌, ◌<◌}
+use mathlib.Core.Path.{◌≡◌, refl, sym, ap, ◌∙◌, subst}
+use mathlib.Core.Logic.{◌≢◌, ◌⊎◌, inl, inr, ⊎_elim}
+use mathlib.Core.Bool.{Bool, true, false, ◌&&◌, ◌||◌}
 use mathlib.Core.List.{List}
 use native.Mathlib.Omega.{arith}
-use lib.Bits.{bit_and}
-use lib.ListN.{get_or, length}
+use native.Mathlib.Nat.{mod-lt, zero-mul, div-eq_of_lt}
+use lib.ListN.{get_or}
+use lib.Pow.{pow_pos, split}
 use lib.Dec.{T, eqb, eqb→eq}
-use borrow.Author.Tests.{not-true, not-false, eqb-true, eqb-false}
 use Rattle.names.specs.Sizes.{base}
-use Rattle.rules.specs.Words.{bit, implies}
-use Rattle.rules.specs.Tables.{txn, txn_words, lock, holds_shared, no_lock}
-use Rattle.rules.specs.Waits.{awaits, awaits_on}
+use Rattle.rules.specs.Words.{bit, implies, every_below, count_below}
+use Rattle.rules.specs.Tables.{txn, Lock, lock, holds_shared, no_lock}
+use Rattle.rules.specs.Waits.{awaits, awaits_on, waiters_on}
+use Rattle.rules.specs.Good.{GoodRanks}
 use Rattle.rules.specs.Tested.{ranks_good}
-use Rattle.rules.proofs.Tests.{and_left, and_right, and_both, eq_make, true_is, false_is, same?, implies_use, implies_make, iff_eq}
-use Rattle.rules.proofs.Bits.{one_bit_at, below_bits, same_bits}
-use Rattle.rules.proofs.EqualRanks.{awaits→, →awaits, awaitsOn→, →awaitsOn, waiter_inside, ranks→Good}
-use Rattle.words.proofs.SlotWords.{and_at, no_bit, has_bit, shifted, one_shifted}
-use Rattle.ranks.proofs.Ranks.{waiters_most}
-use Rattle.standing.specs.Told.{Told, places, on_item, at_rank}
-use Rattle.ranked.specs.Placed.{Placed, Placing}
-use Rattle.ranked.proofs.Lines.{behind}
+use Rattle.rules.proofs.Tests.{and_left, and_right, and_both, or_cases, or_left, or_right, eq_make, is_true, true_is, false_is, same?, implies_use, implies_make, iff_eq}
+use Rattle.rules.proofs.Counts.{someBelow→, →someBelow, everyBelow→, →everyBelow}
+use Rattle.rules.proofs.Bits.{bit_below, below_bits}
+use Rattle.rules.proofs.EqualRanks.{awaits→, →awaits, awaitsOn→, →awaitsOn, ranks→Good, Good→ranks}
+use Rattle.rules.proofs.Ranked.{all_borne}
+use Rattle.ranked.specs.Marks.{Known, sharing, marks, Marked, follows, placed}
+use Rattle.ranked.proofs.Marking.{marks→, mark-rank, mark-shares}
+use Rattle.ranked.proofs.Chain.{chain}
 
--- one that does not wait
-pub placed_still : (t l : List ℕ) (s : ℕ) → (txn t s).awaited_lock ≡ no_lock → Placing t l s true
-placed_still t l s z = record { yes = λ e. record { least = λ a. absurd (idle a); alone = λ x r k a. absurd (idle (awaitsOn→ x (txn t s) a).0); behind = λ x a. absurd (idle (awaitsOn→ x (txn t s) a).0) }; no = λ e g. false_is e tt }
-  where
-    idle : T (awaits (txn t s)) → ⊥
-    idle a = awaits→ (txn t s) a z
+-- ---- one slot, as the code tests it
+pub placed_still : (t l w : List ℕ) (s : ℕ) → (txn t s).awaited_lock ≡ no_lock → true ≡ placed t l w s
+unfolding placed
+placed_still t l w s z = sym (is_true (placed t l w s) (implies_make (awaits (txn t s)) _ (λ a. absurd (awaits→ (txn t s) a z))))
 
--- one that must not stand so
-pub placed_never : (t l : List ℕ) (s : ℕ) → (T (ranks_good base t l) → ⊥) → Placing t l s false
-placed_never t l s n = record { yes = λ e. absurd (true_is e); no = λ e. n }
+pub placed-read :
+    (t l w : List ℕ) (s : ℕ) → (txn t s).awaited_lock ≢ no_lock
+    → {x p : ℕ} {h : Lock} {b f : Bool} → x ≡ (txn t s).awaited_item → p ≡ (txn t s).rank → h ≡ lock l x → b ≡ holds_shared h s
+    → f ≡ follows (get_or w x 0) p → (f && (b || eqb (get_or w x 0 / 2 ^ (p - 1 + sharing)) 0)) ≡ placed t l w s
+unfolding placed implies
+placed-read t l w s a ex ep eh eb ef = rw (ef, eb, eh, ep, ex, is_true (awaits (txn t s)) (→awaits (txn t s) a))
 
-module _ (t l on at : List ℕ) (size : length t ≡ txn_words base) (o : Told (on_item t) base.items on) (a : Told (at_rank t) places at) where
-  -- who waits on item x at the rank q
-  abbrev here : ℕ → ℕ → ℕ
-  here x q = bit_and (get_or on x 0) (get_or at q 0)
+-- ---- all slots
+-- nothing is left above bit k
+div_zero_lt : (v k : ℕ) → v / 2 ^ k ≡ 0 → v < 2 ^ k
+div_zero_lt v k e =
+    let s : v / 2 ^ k * 2 ^ k + v % 2 ^ k ≡ v = split v k in
+    let z : v / 2 ^ k * 2 ^ k ≡ 0 = ap (λ (d : ℕ). d * 2 ^ k) e ∙ zero-mul (2 ^ k) in
+    let l : v % 2 ^ k < 2 ^ k = mod-lt v (pow_pos k) in
+    omega arith
 
-  member : (x q : ℕ) → x < base.items → q ≤ base.slots → (b : ℕ) → bit (here x q) b ≡ (on_item t x b && at_rank t q b)
-  member x q hx hq b = and_at (get_or on x 0) (get_or at q 0) b ∙ ap₂ ◌&&◌ (o.at x hx b) (a.at q (omega arith) b)
+module _ (t l w : List ℕ) (o : Known t l) (m : Marked t l w base.slots) where
+  abbrev R : ℕ → ℕ
+  R s = (txn t s).rank
 
-  member→ : (x q : ℕ) → x < base.items → q ≤ base.slots → (b : ℕ) → T (bit (here x q) b) → (b < base.slots) × T (awaits_on x (txn t b)) × ((txn t b).rank ≡ q)
-  unfolding on_item at_rank
-  member→ x q hx hq b h =
-      let m = subst T (member x q hx hq b) h in
-      let w = and_left (awaits_on x (txn t b)) _ m in (
-        waiter_inside base t size b (awaits→ (txn t b) (awaitsOn→ x (txn t b) w).0),
-        w,
-        eqb→eq (txn t b).rank q (and_right (awaits (txn t b)) _ (and_right (awaits_on x (txn t b)) _ m)),
-      )
+  abbrev on : ℕ → ℕ → Bool
+  on x s = awaits_on x (txn t s)
 
-  →member : (x q : ℕ) → x < base.items → q ≤ base.slots → (b : ℕ) → T (awaits_on x (txn t b)) → (txn t b).rank ≡ q → T (bit (here x q) b)
-  unfolding on_item at_rank
-  →member x q hx hq b w e =
-      subst T (sym (member x q hx hq b))
-      (and_both (awaits_on x (txn t b)) _ w (and_both (awaits (txn t b)) _ (awaitsOn→ x (txn t b) w).0 (eq_make (txn t b).rank q e)))
+  -- a bit of an item's word, and who set it
+  set_by : (x q : ℕ) → x < base.items → T (bit (get_or w x 0) q) → (s : ℕ) × (s < base.slots) × T (on x s) × ((R s ≡ suc q) ⊎ (T (holds_shared (lock l x) s) × (R s + sharing ≡ suc q)))
+  set_by x q h b =
+      let s = someBelow→ base.slots (marks t l x (suc q)) (subst T (m.at x q h) b) in
+      let u = marks→ t l x (suc q) s.0 s.2 in
+      (s.0, s.1, u.0, u.1)
 
-  -- ---- slot s waits on item x at the rank p
-  module _ (s x p : ℕ) (i : s < base.slots) (ex : x ≡ (txn t s).awaited_item) (ep : p ≡ (txn t s).rank) (w : (txn t s).awaited_lock ≢ no_lock) where
-    self : T (awaits_on x (txn t s))
-    self = →awaitsOn x (txn t s) (→awaits (txn t s) w) (sym ex)
+  sets : (x q s : ℕ) → x < base.items → s < base.slots → T (marks t l x (suc q) s) → T (bit (get_or w x 0) q)
+  sets x q s h i u = subst T (sym (m.at x q h)) (→someBelow base.slots (marks t l x (suc q)) s i u)
 
-    -- that is no rank
-    pub rank_0 : p ≡ 0 → T (ranks_good base t l) → ⊥
-    rank_0 z g = let k = (ranks→Good base t l g).least s i (→awaits (txn t s) w) in omega arith
+  item : (x s : ℕ) → s < base.slots → T (on x s) → x < base.items
+  item x s i a =
+      let v = awaitsOn→ x (txn t s) a in
+      subst (λ (y : ℕ). y < base.items) v.1 (o.item_known s i (awaits→ (txn t s) v.0))
 
-    pub rank_high : base.slots < p → T (ranks_good base t l) → ⊥
-    rank_high h g = let k = (ranks→Good base t l g).most s i (→awaits (txn t s) w) in omega (arith, waiters_most t (txn t s).awaited_item)
+  -- ---- all are placed
+  module _ (h : T (every_below base.slots (placed t l w))) where
+    at :
+        (x s : ℕ) → s < base.slots → T (on x s)
+        → T (follows (get_or w x 0) (R s) && (holds_shared (lock l x) s || eqb (get_or w x 0 / 2 ^ (R s - 1 + sharing)) 0))
+    unfolding placed
+    at x s i a =
+        let v = awaitsOn→ x (txn t s) a in
+        subst (λ (x : ℕ). T (follows (get_or w x 0) (R s) && (holds_shared (lock l x) s || eqb (get_or w x 0 / 2 ^ (R s - 1 + sharing)) 0))) v.1
+        (implies_use (awaits (txn t s)) _ (everyBelow→ base.slots (placed t l w) h s i) v.0)
 
-    module _ (hx : x < base.items) (hp : p ≤ base.slots) where
-      own : (b : ℕ) → bit (one_shifted s) b ≡ eqb s b
-      own b = ap (λ (v : ℕ). bit v b) (shifted s (omega arith)) ∙ one_bit_at s b
+    behind : (x s k : ℕ) → s < base.slots → T (on x s) → R s ≡ suc (suc k) → (r : ℕ) × (r < base.slots) × T (on x r) × (R r ≡ suc k)
+    unfolding follows
+    behind x s k i a e =
+        ⊎_elim (λ u. let z : R s ≡ 1 = eqb→eq (R s) 1 u in absurd (omega arith)) (λ u. found (subst (λ (q : ℕ). T (bit (get_or w x 0) q)) p u))
+        (or_cases (eqb (R s) 1) (bit (get_or w x 0) (R s - 2)) (and_left (follows (get_or w x 0) (R s)) _ (at x s i a)))
+      where
+        p : R s - 2 ≡ k
+        p = omega arith
 
-      -- another stands there too
-      pub not_alone : here x p ≢ one_shifted s → T (ranks_good base t l) → ⊥
-      not_alone d g = d (same_bits (here x p) (one_shifted s) (λ b. iff_eq (bit (here x p) b) (bit (one_shifted s) b) (λ h. to b (member→ x p hx hp b h) (same? s b)) (λ h. from b (eqb→eq s b (subst T (own b) h)))))
-        where
-          to : (b : ℕ) → (b < base.slots) × T (awaits_on x (txn t b)) × ((txn t b).rank ≡ p) → (s ≡ b) ⊎ (s ≢ b) → T (bit (one_shifted s) b)
-          to b m (inl z) = subst T (sym (own b)) (eq_make s b z)
-          to b m (inr n) = absurd ((ranks→Good base t l g).apart x s b i m.0 n self m.1 (sym ep ∙ sym m.2))
+        found : T (bit (get_or w x 0) k) → (r : ℕ) × (r < base.slots) × T (on x r) × (R r ≡ suc k)
+        found u =
+            let r = set_by x k (item x s i a) u in (
+              r.0,
+              r.1,
+              r.2,
+              ⊎_elim (λ z. z)
+                  (λ (v : T (holds_shared (lock l x) r.0) × (R r.0 + sharing ≡ suc k)). let j = v.1 in let b = m.most s i (awaitsOn→ x (txn t s) a).0 in let k = m.least r.0 r.1 (awaitsOn→ x (txn t r.0) r.2).0 in absurd (omega arith))
+                  r.3,
+            )
 
-          from : (b : ℕ) → s ≡ b → T (bit (here x p) b)
-          from b z = subst (λ (b : ℕ). T (bit (here x p) b)) z (→member x p hx hp s self (sym ep))
+    all_good : GoodRanks base t l
+    unfolding waiters_on
+    all_good =
+        record {
+          least = m.least;
+          most = λ s i a. chain base.slots (on (txn t s).awaited_item) R (λ r k j b. behind (txn t s).awaited_item r k j b) s i (→awaitsOn (txn t s).awaited_item (txn t s) a refl);
+          apart = m.apart;
+          exchangers = λ x r s i j a b c d.
+              let z : get_or w x 0 / 2 ^ (R s - 1 + sharing) ≡ 0 =
+              ⊎_elim (λ u. absurd (d u)) (λ u. eqb→eq (get_or w x 0 / 2 ^ (R s - 1 + sharing)) 0 u)
+              (or_cases (holds_shared (lock l x) s) _ (and_right (follows (get_or w x 0) (R s)) _ (at x s j b))) in
+              let p = m.least r i (awaitsOn→ x (txn t r) a).0 in
+              let k =
+              bit_below (get_or w x 0) (R r - 1 + sharing) (R s - 1 + sharing) (div_zero_lt (get_or w x 0) (R s - 1 + sharing) z)
+              (sets x (R r - 1 + sharing) r (item x r i a) i (mark-shares t l x (suc (R r - 1 + sharing)) r a c (omega arith))) in
+              omega arith;
+        }
 
-      -- it is alone there
-      module _ (e : here x p ≡ one_shifted s) (p1 : 1 ≤ p) where
-        alone : (y r : ℕ) → r < base.slots → T (awaits_on y (txn t s)) → T (awaits_on y (txn t r)) → (txn t r).rank ≡ (txn t s).rank → r ≡ s
-        alone y r k b c q =
-            let z : y ≡ x = sym (awaitsOn→ y (txn t s) b).1 ∙ sym ex in
-            let m = →member x p hx hp r (subst (λ (y : ℕ). T (awaits_on y (txn t r))) z c) (q ∙ sym ep) in
-            sym (eqb→eq s r (subst T (own r) (subst (λ (v : ℕ). T (bit v r)) e m)))
+  -- ---- the ranks are good
+  module _ (g : GoodRanks base t l) where
+    one : (s : ℕ) → s < base.slots → T (placed t l w s)
+    unfolding placed follows
+    one s i = implies_make (awaits (txn t s)) _ (λ a. and_both (follows (get_or w x 0) (R s)) _ (before a (same? (R s) 1)) (last a (holds_shared (lock l x) s) refl))
+      where
+        x : ℕ
+        x = (txn t s).awaited_item
 
-        -- the first
-        pub stands-first : p ≡ 1 → Placing t l s true
-        stands-first f = record { yes = λ u. record { least = λ b. omega arith; alone = alone; behind = λ y b d. absurd (d (sym ep ∙ f)) }; no = λ u g. false_is u tt }
+        here : T (awaits (txn t s)) → T (on x s)
+        here a = →awaitsOn x (txn t s) a refl
 
-        -- not the first: v has those before it that are like it
-        pub stands-behind :
-            p ≢ 1 → (h v : ℕ) → h ≡ (lock l x).shared → ((b : ℕ) → bit v b ≡ (bit (here x (p - 1)) b && implies (bit h s) (bit h b)))
-            → Placing t l s (not (eqb v 0))
-        unfolding holds_shared
-        stands-behind d h v eh ev =
-            record {
-              yes = λ u. record { least = λ b. omega arith; alone = alone; behind = λ y b n. there y (sym (awaitsOn→ y (txn t s) b).1 ∙ sym ex) (found (has_bit base.slots v small (eqb-false v 0 (not-true _ u)))) };
-              no = λ u g. none (eqb-true v 0 (not-false _ u)) (behind t l (ranks→Good base t l g) x s i self (λ z. d (ep ∙ z)));
-            }
+        before : T (awaits (txn t s)) → (R s ≡ 1) ⊎ (R s ≢ 1) → T (eqb (R s) 1 || bit (get_or w x 0) (R s - 2))
+        before a (inl e) = or_left (eqb (R s) 1) _ (eq_make (R s) 1 e)
+        before a (inr d) =
+            let p = g.least s i a in
+            let most : R s ≤ count_below base.slots (on x) = (unfold waiters_on in (g.most s i a)) in
+            let r = all_borne base.slots (on x) R (λ r j b. g.least r j (awaitsOn→ x (txn t r) b).0) (λ r q j k n. g.apart x r q j k n)
+            (λ r j b. subst (λ (y : ℕ). R r ≤ count_below base.slots (on y)) (awaitsOn→ x (txn t r) b).1 (unfold waiters_on in (g.most r j (awaitsOn→ x (txn t r) b).0))) (R s - 2) (omega arith) in
+            or_right (eqb (R s) 1) _ (sets x (R s - 2) r.0 (item x s i (here a)) r.1 (mark-rank t l x (suc (R s - 2)) r.0 r.2 (let e = r.3 in omega arith)))
+
+        last : T (awaits (txn t s)) → (b : Bool) → holds_shared (lock l x) s ≡ b → T (holds_shared (lock l x) s || eqb (get_or w x 0 / 2 ^ (R s - 1 + sharing)) 0)
+        last a true e = or_left (holds_shared (lock l x) s) _ (true_is e)
+        last a false e =
+            or_right (holds_shared (lock l x) s) _
+            (eq_make (get_or w x 0 / 2 ^ (R s - 1 + sharing)) 0 (div-eq_of_lt (below_bits (R s - 1 + sharing) (get_or w x 0) (λ q u. low q (set_by x q (item x s i (here a)) u)))))
           where
-            hq : p - 1 ≤ base.slots
-            hq = omega arith
+            low : (q : ℕ) → (r : ℕ) × (r < base.slots) × T (on x r) × ((R r ≡ suc q) ⊎ (T (holds_shared (lock l x) r) × (R r + sharing ≡ suc q))) → q < R s - 1 + sharing
+            low q (r, j, b, inl z) = let k = m.most r j (awaitsOn→ x (txn t r) b).0 in omega arith
+            low q (r, j, b, inr v) = let k = g.exchangers x r s j i b (here a) v.0 (false_is e) in let z = v.1 in omega arith
 
-            inside : (b : ℕ) → T (bit v b) → T (bit (here x (p - 1)) b && implies (bit h s) (bit h b))
-            inside b u = subst T (ev b) u
-
-            small : v < 2 ^ base.slots
-            small = below_bits base.slots v (λ b u. (member→ x (p - 1) hx hq b (and_left (bit (here x (p - 1)) b) _ (inside b u))).0)
-
-            found :
-                (b : ℕ) × (b < base.slots) × T (bit v b)
-                → (r : ℕ) × (r < base.slots) × T (awaits_on x (txn t r)) × (suc (txn t r).rank ≡ (txn t s).rank) × (T (bit (lock l x).shared s) → T (bit (lock l x).shared r))
-            found (b, k, u) =
-                let m = member→ x (p - 1) hx hq b (and_left (bit (here x (p - 1)) b) _ (inside b u)) in
-                let f = implies_use (bit h s) (bit h b) (and_right (bit (here x (p - 1)) b) _ (inside b u)) in
-                let z = m.2 in
-                (b, k, m.1, omega arith, subst (λ (h : ℕ). T (bit h s) → T (bit h b)) eh f)
-
-            there :
-                (y : ℕ) → y ≡ x
-                → (r : ℕ) × (r < base.slots) × T (awaits_on x (txn t r)) × (suc (txn t r).rank ≡ (txn t s).rank) × (T (bit (lock l x).shared s) → T (bit (lock l x).shared r))
-                → (r : ℕ) × (r < base.slots) × T (awaits_on y (txn t r)) × (suc (txn t r).rank ≡ (txn t s).rank) × (T (bit (lock l y).shared s) → T (bit (lock l y).shared r))
-            there y z f =
-                subst
-                (λ (y : ℕ). (r : ℕ) × (r < base.slots) × T (awaits_on y (txn t r)) × (suc (txn t r).rank ≡ (txn t s).rank) × (T (bit (lock l y).shared s) → T (bit (lock l y).shared r)))
-                (sym z) f
-
-            none :
-                v ≡ 0
-                → (r : ℕ) × (r < base.slots) × T (awaits_on x (txn t r)) × (suc (txn t r).rank ≡ (txn t s).rank) × (T (bit (lock l x).shared s) → T (bit (lock l x).shared r))
-                → ⊥
-            none z (r, k, b, q, f) =
-                no_bit r
-                (subst (λ (v : ℕ). T (bit v r)) z
-                (subst T (sym (ev r))
-                (and_both (bit (here x (p - 1)) r) _ (→member x (p - 1) hx hq r b (omega arith)) (implies_make (bit h s) (bit h r) (subst (λ (h : ℕ). T (bit h s) → T (bit h r)) (sym eh) f)))))
+  pub placed-good : every_below base.slots (placed t l w) ≡ ranks_good base t l
+  placed-good =
+      iff_eq (every_below base.slots (placed t l w)) (ranks_good base t l) (λ h. Good→ranks base t l (all_good h))
+      (λ h. →everyBelow base.slots (placed t l w) (one (ranks→Good base t l h)))

@@ -1,2 +1,2 @@
 -- What the test of the ranks is proved against, besides the rules.
-pub mod Placed
+pub mod Marks

@@ -1,33 +1,26 @@
 // The test of the ranks: on each item those who wait have the ranks from 1 on without gaps, and those
 // who share the item stand ahead of those who do not.
 //
-// One pass over those who wait, once they are told apart by item and by rank. Each stands at a rank,
-// alone; and behind another, who shares the item if it does itself, or first.
-ghost use Rattle.std.specs.Prelude.{◌≡◌, ◌&&◌, ℕ, ◌<◌};
+// Two passes over the slots, with a word for each item. The first marks each rank that is taken, and
+// marks it a second time, higher up, for one who shares the item. The second looks the marks up.
+ghost use Rattle.std.specs.Prelude.{◌≡◌, ◌+◌, ◌≤◌, ◌<◌, replicate};
 ghost use Rattle.names.specs.Sizes.{base};
-ghost use Rattle.rules.specs.Words.{bit, implies};
+ghost use Rattle.rules.specs.Words.{every_below};
 ghost use Rattle.rules.specs.Tested.{ranks_good};
-ghost use Rattle.standing.specs.Told.{Told, places, on_item, at_rank};
-ghost use Rattle.ranked.specs.Placed.{Known, Placing};
+ghost use Rattle.ranked.specs.Marks.{Known, Marked, Marking, follows, placed};
 
 use names::{Item, NO_LOCK, SLOTS, Slot};
 
-// Of the slots of a word those that share, if this one does; else all.
-fn alike(shared: u64, slot: Slot, word: u64) -> u64
-    requires { slot.0 < base.slots }
-    ensures { (b : ℕ) → bit result b ≡ (bit word b && implies (bit shared slot.0) (bit shared b)) }
-{
-    if (shared >> slot.0) % 2 == 0 {
-        return word;
-    }
-    word & shared
-}
+const ITEMS: usize = names::ITEMS as usize;
 
-// One slot: if it waits, it stands at a rank, alone there, and first or behind another like it. `on`
-// holds who waits on each item, `at` who waits at each rank.
-fn placed(txns: &[u64], locks: &[u64], on: &[u64], at: &[u64], slot: Slot) -> bool
-    requires { Known txns.now locks.now × Told (on_item txns.now) base.items on.now × Told (at_rank txns.now) places at.now × (slot.0 < base.slots) }
-    ensures { Placing txns.now locks.now slot.0 result }
+// How much higher a rank's second mark stands: above the marks of all ranks. A rank's mark stands a
+// place below the rank, so that both marks of each have room in one word.
+const SHARING: u64 = SLOTS;
+
+// One slot: if it waits, its rank is marked. False if that is no rank, or is taken already.
+fn mark(txns: &[u64], locks: &[u64], marks: &mut [u64], slot: Slot) -> bool
+    requires { Known txns.now locks.now × Marked txns.now locks.now marks.old slot.0 × (slot.0 < base.slots) }
+    ensures { Marking txns.now locks.now marks.new (slot.0 + 1) result }
 {
     let wanted = rows::awaited_lock(txns, slot);
     if wanted == NO_LOCK {
@@ -41,30 +34,84 @@ fn placed(txns: &[u64], locks: &[u64], on: &[u64], at: &[u64], slot: Slot) -> bo
     if SLOTS < rank {
         return false;
     }
-    let here = on[item as usize];
-    let q = rank as usize;
-    if (here & at[q]) != (1 << slot.0) {
+    let place = rank - 1;
+    let at = item as usize;
+    let word = marks[at];
+    if (word >> place) % 2 == 1 {
         return false;
     }
-    if rank == 1 {
-        return true;
-    }
     let row = rows::lock_at(locks, Item(item));
-    let before = alike(row.shared, slot, here & at[q - 1]);
-    before != 0
+    let share = (row.shared >> slot.0) % 2;
+    marks[at] = word | (1 << place) | (share << (place + SHARING));
+    true
 }
 
-// The ranks of all slots, where those who wait are told apart.
-pub fn ranks_ok(txns: &[u64], locks: &[u64], on: &[u64], at: &[u64]) -> bool
-    requires { Known txns.now locks.now × Told (on_item txns.now) base.items on.now × Told (at_rank txns.now) places at.now }
-    ensures { result ≡ ranks_good base txns.now locks.now }
+// The first pass.
+fn mark_all(txns: &[u64], locks: &[u64], marks: &mut [u64]) -> bool
+    requires { Known txns.now locks.now × (marks.old ≡ replicate base.items 0) }
+    ensures { Marking txns.now locks.now marks.new base.slots result }
 {
     let mut slot: u64 = 0;
     while slot < SLOTS {
-        if !placed(txns, locks, on, at, Slot(slot)) {
+        if !mark(txns, locks, marks, Slot(slot)) {
             return false;
         }
         slot += 1;
     }
     true
+}
+
+// Whether a rank is the first, or the one before it is marked.
+fn follows(word: u64, rank: u64) -> bool
+    requires { (1 ≤ rank) × (rank ≤ base.slots) }
+    ensures { result ≡ follows word rank }
+{
+    if rank == 1 {
+        return true;
+    }
+    (word >> (rank - 2)) % 2 == 1
+}
+
+// One slot, once all are marked: if it waits, the rank before its own is taken, and if it does not
+// share the item, nobody who does stands behind it.
+fn placed(txns: &[u64], locks: &[u64], marks: &[u64], slot: Slot) -> bool
+    requires { Known txns.now locks.now × Marked txns.now locks.now marks.now base.slots × (slot.0 < base.slots) }
+    ensures { result ≡ placed txns.now locks.now marks.now slot.0 }
+{
+    let wanted = rows::awaited_lock(txns, slot);
+    if wanted == NO_LOCK {
+        return true;
+    }
+    let item = rows::awaited_item(txns, slot);
+    let rank = rows::rank(txns, slot);
+    let row = rows::lock_at(locks, Item(item));
+    let word = marks[item as usize];
+    let shares = ranks::shares(row, slot);
+    follows(word, rank) & (shares | (word >> (rank - 1 + SHARING) == 0))
+}
+
+// The second pass.
+fn all_placed(txns: &[u64], locks: &[u64], marks: &[u64]) -> bool
+    requires { Known txns.now locks.now × Marked txns.now locks.now marks.now base.slots }
+    ensures { result ≡ every_below base.slots (placed txns.now locks.now marks.now) }
+{
+    let mut ok = true;
+    let mut slot: u64 = 0;
+    while slot < SLOTS {
+        ok = placed(txns, locks, marks, Slot(slot)) & ok;
+        slot += 1;
+    }
+    ok
+}
+
+// The ranks of all slots.
+pub fn ranks_ok(txns: &[u64], locks: &[u64]) -> bool
+    requires { Known txns.now locks.now }
+    ensures { result ≡ ranks_good base txns.now locks.now }
+{
+    let mut marks = [0u64; ITEMS];
+    if !mark_all(txns, locks, &mut marks) {
+        return false;
+    }
+    all_placed(txns, locks, &marks)
 }

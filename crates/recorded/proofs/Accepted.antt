@@ -22,7 +22,8 @@ use Rattle.judge.specs.declared.Verdict.TheVariants.{Accepted}
 use Rattle.judge.proofs.Runs.{length-fields_of_all}
 use Rattle.judge.proofs.Fitting.{journal_accepted}
 use Rattle.recording.specs.Records.{line_calls, script_calls, answers_to}
-use Rattle.recorder.specs.Runs.{input_calls, run_journal}
+use Rattle.recorder.specs.First.{input_calls}
+use Rattle.recorder.specs.Second.{run_journal}
 use Rattle.recorder.proofs.Fitting.{input_fits}
 
 -- what is recorded of lines is what their calls say

@@ -17,7 +17,7 @@ use Rattle.script.proofs.Spoken.{parsed-sound}
 use Rattle.journal.specs.Words.{greatest}
 use Rattle.journal.specs.Format.{CallFits, Every, none, more}
 use Rattle.recording.specs.Records.{line_calls, script_calls}
-use Rattle.recorder.specs.Runs.{input_calls}
+use Rattle.recorder.specs.First.{input_calls}
 
 numbers-most : {rest ns : List ℕ} → Numbers rest ns → Most greatest ns
 numbers-most no-numbers = no_number

@@ -1,5 +1,5 @@
 -- Whatever chunks the input comes in, the records of its lines' calls are put out.
-use Prim.Native.Nat.{ℕ, ◌+◌, ◌*◌, ◌≤◌}
+use Prim.Native.Nat.{ℕ, ◌+◌, ◌*◌, ◌%◌, ◌≤◌}
 use mathlib.Core.Path.{◌≡◌, refl, sym, ap, ◌∙◌}
 use mathlib.Core.Bool.{Bool, true, false, cond}
 use mathlib.Core.List.{List, [], ◌∷◌, ◌++◌, append-nil, append_assoc}
@@ -17,8 +17,7 @@ use Rattle.texts.specs.Written.{Buffer, written, buffer, put}
 use Rattle.texts.proofs.Buffers.{put-room}
 use Rattle.recording.specs.Records.{script_calls, count_with}
 use Rattle.recording.proofs.Taking.{records_append, calls-append, calls-most, taken-most}
-use Rattle.recorder.specs.Runs.{input_calls, count_of}
-use Rattle.recorder.specs.Life.{Taken, none, more}
+use Rattle.recorder.specs.First.{input_calls, count_of, Taken, none, more}
 
 -- ---- a text that is put at the start of a buffer stands there
 
@@ -53,8 +52,8 @@ taken_input cs = taken-chunked cs (short []) ∙ ap (λ (ps : List Parsed). call
 all_taken : {input put : List ℕ} {h : Held} → Taken input put h → (cs : List (List ℕ)) → put ++ taken_all h cs ≡ call_records (input_calls (input ++ joined cs))
 unfolding taken_all joined
 all_taken none cs = taken_input cs
-all_taken (more {input} {calls} {h} t c) cs =
-    append_assoc calls (call_records (script_calls (reads h c))) (taken_all (left h c) cs)
+all_taken (more {input} {put} {h} t c) cs =
+    append_assoc put (call_records (script_calls (reads h c))) (taken_all (left h c) cs)
     ∙ all_taken t (c ∷ cs)
     ∙ ap (λ (bs : List ℕ). call_records (input_calls bs)) (sym (append_assoc input c (joined cs)))
 
@@ -63,6 +62,11 @@ unfolding taken_all joined
 end_taken {input} t = all_taken t [] ∙ ap (λ (bs : List ℕ). call_records (input_calls bs)) (append-nil input)
 
 -- ---- how many
+
+pub whole_records : {input put : List ℕ} {h : Held} → Taken input put h → length put % record_size ≡ 0
+whole_records none = omega arith
+whole_records (more {input} {put} {h} t c) =
+    omega (arith, whole_records t, length-append put (call_records (script_calls (reads h c))), length-call_records (script_calls (reads h c)))
 
 -- those before and those of so many whole records
 pub count-more : (before : List ℕ) (fs : List Fields) (used : ℕ) → used ≡ length (call_records fs) →

@@ -1,4 +1,3 @@
--- The journal of a run, and what the recorder asks for, is handed and puts out.
-pub mod Runs
-pub mod Asks
-pub mod Life
+-- What was handed over and put out in each pass.
+pub mod First
+pub mod Second

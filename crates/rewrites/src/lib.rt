@@ -8,7 +8,7 @@ ghost use Rattle.rules.specs.Words.{row};
 ghost use Rattle.rules.specs.Tables.{version_row, version_words, Reader, up_to, outside};
 ghost use Rattle.rules.specs.Versions.{versions_in, row_of, place, rewritten, revealed};
 ghost use Rattle.rules.specs.Step.{with_new};
-ghost use Rattle.starts.specs.Ordered.{Rises};
+ghost use Rattle.starts.specs.Ordered.{lanes};
 ghost use Rattle.packing.specs.Changed.{TidyRow, Frontable, fronted, left_by, shown_to};
 ghost use Rattle.rewrites.specs.Written.{with_row, Staying, Leavable, Showing, Revealable, Reading, Committable};
 
@@ -50,7 +50,7 @@ pub fn forget_all(versions: &mut [u64], start: Stamp, beside: Neighbours)
 
 // Lends the row of item x to reveal.
 fn reveal_item(versions: &mut [u64], x: usize, slot: u64, starts: &[u64])
-    requires { (length versions.old ≡ version_words base) × (x < base.items) × TidyRow (row (version_row base) x versions.old) × (slot < base.slots) × (place (outside slot) (versions_in base (row (version_row base) x versions.old)) < length (versions_in base (row (version_row base) x versions.old))) × Rises starts.now }
+    requires { (length versions.old ≡ version_words base) × (x < base.items) × TidyRow (row (version_row base) x versions.old) × (slot < base.slots) × (place (outside slot) (versions_in base (row (version_row base) x versions.old)) < length (versions_in base (row (version_row base) x versions.old))) × (length starts.now ≡ lanes) }
     ensures { versions.new ≡ with_row x (row_of base (shown_to slot starts.now (versions_in base (row (version_row base) x versions.old)))) versions.old }
 {
     let a = VERSION_ROW * x;

@@ -1,25 +1,25 @@
 -- The test as the code makes it: by words of slots, and slot by slot.
-use Prim.Native.Nat.{ℕ, suc, ◌/◌, ◌%◌, ◌^◌, ◌<◌}
-use mathlib.Core.Path.{◌≡◌, refl, sym, ap, ap₂, ◌∙◌, subst, fun_ext}
+use Prim.Native.Nat.{ℕ, suc, ◌+◌, ◌/◌, ◌%◌, ◌^◌}
+use mathlib.Core.Path.{◌≡◌, refl, sym, ap, ap₂, ◌∙◌, subst}
 use mathlib.Core.Logic.{◌≢◌}
 use mathlib.Core.Bool.{Bool, true, false, ◌&&◌, ◌||◌, not, cond}
 use mathlib.Core.List.{List}
-use native.Mathlib.Omega.{arith}
-use lib.Bits.{bit_or, or_zero_r}
+use native.Mathlib.Numerals.{add-one}
+use lib.Bits.{bit_or}
 use lib.Dec.{T, eqb, eqb→eq, eqb-zero-suc}
 use borrow.Author.Tests.{eq-eqb, ne_eqb}
 use Rattle.names.specs.Sizes.{base}
 use Rattle.rules.specs.Words.{bit, implies, every_below, some_below, slots_that, contains}
 use Rattle.rules.specs.Tables.{txn, Lock, lock, holds_shared, holds_exclusive, live_settled, live_relaxed, some_settled, some_relaxed, relaxed_in, have_read}
 use Rattle.rules.specs.Tested.{sets_good, holders_joined}
-use Rattle.rules.proofs.Tests.{iff_eq, is_true, true_is, false_is, and_left, and_right, and_both, implies_make, implies_use, not_make, ne_use, eq_make}
-use Rattle.rules.proofs.Counts.{someBelow→, →someBelow, everyBelow→, →everyBelow}
+use Rattle.rules.proofs.Tests.{iff_eq, is_true, true_is, false_is, and_left, and_right, and_both, implies_make, not_make, ne_use}
+use Rattle.rules.proofs.Counts.{someBelow→, →someBelow, →everyBelow}
 use Rattle.rules.proofs.Bits.{slots_lt, slots→, →slots}
 use Rattle.words.proofs.SlotWords.{no_bit, has_bit}
 use Rattle.words.proofs.Turns.{or_zero}
 use Rattle.shapes.specs.Shape.{settled_in, later_in}
 use Rattle.shapes.proofs.Masks.{within_or}
-use Rattle.sets.specs.Joined.{owner_joined, sharer_joined, slot_joined, hidden_word, joined_at, all_joined, sets_test}
+use Rattle.sets.specs.Joined.{slot_joined, hidden_word, joined_at, all_joined, sets_test}
 
 -- ---- an implication as the code makes it
 pub implies_or : (p q : Bool) → (not p || q) ≡ implies p q
@@ -27,76 +27,15 @@ unfolding implies
 implies_or true q = refl
 implies_or false q = refl
 
--- ---- the exclusive holder alone is asked
-module _ (t : List ℕ) (e all : ℕ) where
-  -- the word names none of the slots
-  pub owner_nobody : ((s : ℕ) → s < base.slots → e ≢ suc s) → true ≡ every_below base.slots (owner_joined t e all)
-  unfolding owner_joined
-  owner_nobody out =
-      sym
-      (is_true (every_below base.slots (owner_joined t e all))
-      (→everyBelow base.slots (owner_joined t e all)
-      (λ s i. implies_make (eqb e (suc s)) _ (λ k. absurd (out s i (eqb→eq e (suc s) k))))))
-
-  -- it names slot q, whose word of sets is w
-  pub owner_one : (q : ℕ) → q < base.slots → e ≡ suc q → {w : ℕ} → w ≡ (txn t q).later_for → eqb (bit_or w all) w ≡ every_below base.slots (owner_joined t e all)
-  unfolding owner_joined contains
-  owner_one q i h {w} j =
-      ap (λ (w : ℕ). eqb (bit_or w all) w) j
-      ∙ iff_eq (contains (txn t q).later_for all) (every_below base.slots (owner_joined t e all))
-      (λ c.
-      →everyBelow base.slots (owner_joined t e all)
-      (λ s k. implies_make (eqb e (suc s)) _ (λ y. subst (λ (s : ℕ). T (contains (txn t s).later_for all)) (let z = eqb→eq e (suc s) y in let d : q ≡ s = omega arith in d) c)))
-      (λ c. implies_use (eqb e (suc q)) _ (everyBelow→ base.slots (owner_joined t e all) c q i) (eq_make e (suc q) h))
-
--- ---- the sharers
 -- slot s as the code tests it, its word of sets being w
-pub sharer_joined_lem : (t : List ℕ) (h m s : ℕ) {w : ℕ} → w ≡ (txn t s).later_for → (not (eqb (h / 2 ^ s % 2) 1) || eqb (bit_or w m) w) ≡ sharer_joined t h m s
-unfolding sharer_joined bit contains
-sharer_joined_lem t h m s {w} e =
-    ap (λ (w : ℕ). not (eqb (h / 2 ^ s % 2) 1) || eqb (bit_or w m) w) e ∙ implies_or (eqb (h / 2 ^ s % 2) 1) _
-
-module _ (t : List ℕ) (h m : ℕ) where
-  -- nothing is hidden
-  pub sharers-shown : m ≡ 0 → true ≡ every_below base.slots (sharer_joined t h m)
-  unfolding sharer_joined contains
-  sharers-shown z =
-      sym
-      (is_true (every_below base.slots (sharer_joined t h m))
-      (→everyBelow base.slots (sharer_joined t h m)
-      (λ s i. implies_make (bit h s) _ (λ k. eq_make (bit_or (txn t s).later_for m) (txn t s).later_for (ap (bit_or (txn t s).later_for) z ∙ or_zero_r (txn t s).later_for)))))
-
-  -- nobody shares
-  pub sharers_none : h ≡ 0 → true ≡ every_below base.slots (sharer_joined t h m)
-  unfolding sharer_joined
-  sharers_none z =
-      sym
-      (is_true (every_below base.slots (sharer_joined t h m))
-      (→everyBelow base.slots (sharer_joined t h m)
-      (λ s i. implies_make (bit h s) _ (λ k. absurd (no_bit s (subst (λ (n : ℕ). T (bit n s)) z k))))))
-
--- ---- both
-pub every_both : (p q : ℕ → Bool) (n : ℕ) → (every_below n p && every_below n q) ≡ every_below n (λ s. p s && q s)
-every_both p q n =
-    iff_eq (every_below n p && every_below n q) (every_below n (λ s. p s && q s))
-    (λ h.
-    →everyBelow n (λ s. p s && q s)
-    (λ s i. and_both (p s) (q s) (everyBelow→ n p (and_left (every_below n p) _ h) s i) (everyBelow→ n q (and_right (every_below n p) _ h) s i)))
-    (λ h.
-    and_both (every_below n p) (every_below n q)
-    (→everyBelow n p (λ s i. and_left (p s) (q s) (everyBelow→ n (λ s. p s && q s) h s i)))
-    (→everyBelow n q (λ s i. and_right (p s) (q s) (everyBelow→ n (λ s. p s && q s) h s i))))
-
-pub slots_joined_is : (t : List ℕ) (h : Lock) (all m : ℕ) {a b : Bool}
-    → a ≡ every_below base.slots (owner_joined t h.exclusive all) → b ≡ every_below base.slots (sharer_joined t h.shared m)
-    → (a && b) ≡ every_below base.slots (slot_joined t h all m)
-unfolding slot_joined
-slots_joined_is t h all m e f = ap₂ ◌&&◌ e f ∙ every_both (owner_joined t h.exclusive all) (sharer_joined t h.shared m) base.slots
-
--- where nobody holds the lock exclusively, its sets are asked of nobody
-pub unowned : (t : List ℕ) (h : Lock) (a b m : ℕ) → h.exclusive ≡ 0 → every_below base.slots (slot_joined t h a m) ≡ every_below base.slots (slot_joined t h b m)
-unfolding slot_joined owner_joined implies
-unowned t h a b m e = ap (λ (p : ℕ → Bool). every_below base.slots p) (fun_ext (λ s. rw (ap (λ (n : ℕ). eqb n (suc s)) e ∙ eqb-zero-suc s)))
+pub slot-joined : (t : List ℕ) (h : Lock) (all m s : ℕ) {w : ℕ} → w ≡ (txn t s).later_for
+    → ((not (eqb h.exclusive (s + 1)) || eqb (bit_or w all) w) && (not (eqb (h.shared / 2 ^ s % 2) 1) || eqb (bit_or w m) w)) ≡ slot_joined t h all m s
+unfolding slot_joined holds_exclusive holds_shared bit contains
+slot-joined t h all m s {w} e =
+    ap (λ (w : ℕ). (not (eqb h.exclusive (s + 1)) || eqb (bit_or w all) w) && (not (eqb (h.shared / 2 ^ s % 2) 1) || eqb (bit_or w m) w)) e
+    ∙ ap₂ ◌&&◌
+    (ap (λ (n : ℕ). not (eqb h.exclusive n) || eqb (bit_or (txn t s).later_for all) (txn t s).later_for) (add-one s) ∙ implies_or (eqb h.exclusive (suc s)) _)
+    (implies_or (eqb (h.shared / 2 ^ s % 2) 1) _)
 
 -- ---- somebody passes where the word of those who do is not 0
 some_slots : (n : ℕ) (p : ℕ → Bool) → some_below n p ≡ not (eqb (slots_that n p) 0)
@@ -176,5 +115,5 @@ module _ (t l v : List ℕ) (x : ℕ) where
 
   -- and else it is each slot
   pub joined_slots : every_below base.slots (slot_joined t (lock l x) (bit_or (have_read base t x) (hidden_word base v x)) (hidden_word base v x)) ≡ joined_at base t l v x
-  unfolding joined_at holders_joined slot_joined owner_joined sharer_joined holds_exclusive holds_shared
+  unfolding joined_at holders_joined slot_joined
   joined_slots = refl

@@ -1,22 +1,15 @@
 -- Who has joined, as the code tests it: by the word of a row that says from whom its newest version is hidden, and only where a relaxed
 -- query lives.
-use Rattle.std.specs.Prelude.{ℕ, suc, ◌+◌, ◌*◌, Bool, true, ◌&&◌, cond, List, get_or, eqb}
+use Rattle.std.specs.Prelude.{ℕ, ◌+◌, ◌*◌, Bool, true, ◌&&◌, cond, List, get_or, eqb}
 use Rattle.names.specs.declared.Sizes.{Sizes}
-use Rattle.rules.specs.Words.{bit, implies, every_below, contains}
-use Rattle.rules.specs.Tables.{version_row, masks_at, txn, Lock, lock, relaxed_in}
+use Rattle.rules.specs.Words.{implies, every_below, contains}
+use Rattle.rules.specs.Tables.{version_row, masks_at, txn, Lock, lock, holds_shared, holds_exclusive, relaxed_in}
 use Rattle.rules.specs.Tested.{sets_good, holders_joined}
-
--- slot s, if it is the one that the word e names as the exclusive holder, is in the sets of all
-unfoldable pub owner_joined : List ℕ → ℕ → ℕ → ℕ → Bool
-owner_joined t e all s = implies (eqb e (suc s)) (contains (txn t s).later_for all)
-
--- slot s, if it is one of the sharers w, is in the sets of m
-unfoldable pub sharer_joined : List ℕ → ℕ → ℕ → ℕ → Bool
-sharer_joined t w m s = implies (bit w s) (contains (txn t s).later_for m)
 
 -- slot s, if it holds the lock h exclusively, is in the sets of all; if it shares it, in those of m
 unfoldable pub slot_joined : List ℕ → Lock → ℕ → ℕ → ℕ → Bool
-slot_joined t h all m s = owner_joined t h.exclusive all s && sharer_joined t h.shared m s
+slot_joined t h all m s =
+    implies (holds_exclusive h s) (contains (txn t s).later_for all) && implies (holds_shared h s) (contains (txn t s).later_for m)
 
 -- the word of the row of item x that says from whom its first version is hidden
 unfoldable pub hidden_word : Sizes → List ℕ → ℕ → ℕ

@@ -9,70 +9,38 @@ ghost use Rattle.rules.specs.Words.{every_below};
 ghost use Rattle.rules.specs.Tables.{txn_words, lock_words, version_words, relaxed_in};
 ghost use Rattle.rows.specs.Founds.{lock_of};
 ghost use Rattle.shapes.specs.Shape.{settled_in, later_in};
-ghost use Rattle.sets.specs.Joined.{owner_joined, sharer_joined, slot_joined, joined_at, all_joined, sets_test};
+ghost use Rattle.sets.specs.Joined.{slot_joined, joined_at, all_joined, sets_test};
 
 use names::{ITEMS, Item, SLOTS, Slot, VERSION_HIDDEN_AT, VERSION_ROW};
 use rows::LockRow;
 
-// Whether the exclusive holder of a lock, its slot plus 1, is in all the sets of a word. One slot is
-// asked; 0 is nobody's.
-fn owner_joined(txns: &[u64], exclusive: u64, all: u64) -> bool
-    requires { length txns.now ≡ txn_words base }
-    ensures { result ≡ every_below base.slots (owner_joined txns.now exclusive all) }
-{
-    if exclusive == 0 {
-        return true;
-    }
-    if SLOTS < exclusive {
-        return true;
-    }
-    let later = rows::later_for(txns, Slot(exclusive - 1));
-    (later | all) == later
-}
-
-// Whether a slot is in the hidden sets if it shares the lock.
-fn sharer_joined(txns: &[u64], shared: u64, hidden: u64, slot: Slot) -> bool
+// Whether a slot is in all the sets of a word if it holds the lock exclusively, and in the hidden ones
+// if it shares it.
+fn slot_joined(txns: &[u64], row: LockRow, all: u64, hidden: u64, slot: Slot) -> bool
     requires { (length txns.now ≡ txn_words base) × (slot.0 < base.slots) }
-    ensures { result ≡ sharer_joined txns.now shared hidden slot.0 }
+    ensures { result ≡ slot_joined txns.now (lock_of row) all hidden slot.0 }
 {
     let s = slot.0;
     let later = rows::later_for(txns, slot);
-    !((shared >> s) % 2 == 1) | ((later | hidden) == later)
+    (!(row.exclusive == s + 1) | ((later | all) == later))
+        & (!((row.shared >> s) % 2 == 1) | ((later | hidden) == later))
 }
 
-// Whether all who share a lock are in the hidden sets. Where none is hidden nobody is asked, and none
-// where nobody shares it.
-fn sharers_joined(txns: &[u64], shared: u64, hidden: u64) -> bool
+fn slots_joined(txns: &[u64], row: LockRow, all: u64, hidden: u64) -> bool
     requires { length txns.now ≡ txn_words base }
-    ensures { result ≡ every_below base.slots (sharer_joined txns.now shared hidden) }
+    ensures { result ≡ every_below base.slots (slot_joined txns.now (lock_of row) all hidden) }
 {
-    if hidden == 0 {
-        return true;
-    }
-    if shared == 0 {
-        return true;
-    }
     let mut ok = true;
     let mut slot: u64 = 0;
     while slot < SLOTS {
-        ok = sharer_joined(txns, shared, hidden, Slot(slot)) & ok;
+        ok = slot_joined(txns, row, all, hidden, Slot(slot)) & ok;
         slot += 1;
     }
     ok
 }
 
-// Whether each slot is in all the sets of a word if it holds the lock exclusively, and in the hidden
-// ones if it shares it.
-fn slots_joined(txns: &[u64], row: LockRow, all: u64, hidden: u64) -> bool
-    requires { length txns.now ≡ txn_words base }
-    ensures { result ≡ every_below base.slots (slot_joined txns.now (lock_of row) all hidden) }
-{
-    owner_joined(txns, row.exclusive, all) & sharers_joined(txns, row.shared, hidden)
-}
-
 // Whether those who hold an item have joined the sets of those that have read it, and the sets in
-// which its newest version's creator is. Nobody has to for an item that nobody holds; those that have
-// read it are asked for only where somebody holds it exclusively.
+// which its newest version's creator is. Nobody has to for an item that nobody holds.
 fn holders_joined(txns: &[u64], locks: &[u64], versions: &[u64], item: Item) -> bool
     requires { (length txns.now ≡ txn_words base) × (length locks.now ≡ lock_words base) × (length versions.now ≡ version_words base) × (item.0 < base.items) }
     ensures { result ≡ joined_at base txns.now locks.now versions.now item.0 }
@@ -83,10 +51,7 @@ fn holders_joined(txns: &[u64], locks: &[u64], versions: &[u64], item: Item) -> 
     }
     let x = item.0;
     let hidden = versions[VERSION_ROW * (x as usize) + VERSION_HIDDEN_AT];
-    let mut readers: u64 = 0;
-    if row.exclusive != 0 {
-        readers = notes::have_read(txns, item);
-    }
+    let readers = notes::have_read(txns, item);
     slots_joined(txns, row, readers | hidden, hidden)
 }
 

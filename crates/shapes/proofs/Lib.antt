@@ -2,4 +2,3 @@
 pub mod Masks
 pub mod Seeing
 pub mod Passed
-pub mod Numbers

@@ -1,9 +1,9 @@
 -- What one pass over the transaction rows sees: their shape, the live updates, those that wait, the relaxed queries and their sets.
-use Rattle.std.specs.Prelude.{ℕ, zero, suc, ◌%◌, ◌^◌, ◌<◌, Bool, ◌&&◌, ◌||◌, not, List, T, eqb, leb, ltb}
+use Rattle.std.specs.Prelude.{ℕ, zero, suc, ◌^◌, Bool, ◌&&◌, ◌||◌, not, List, eqb, leb, ltb}
 use Rattle.std.specs.Int.Bits.{bit_or}
 use Rattle.names.specs.declared.Sizes.{Sizes}
 use Rattle.names.specs.Sizes.{base, last_word}
-use Rattle.rules.specs.Words.{bit, implies, every_below, slots_that}
+use Rattle.rules.specs.Words.{implies, every_below, slots_that}
 use Rattle.rules.specs.Tables.{last_number, clock, Txn, txn, live, live_update, live_settled, relaxed_in, a_query, no_lock, exclusive_lock}
 use Rattle.rules.specs.Tested.{tops_most, free_zero, listed, start_good, awaited_good, reads_good, notes_good}
 use Rattle.shapes.specs.declared.Seen.{Seen}
@@ -121,10 +121,3 @@ apart_from t i n = every_below i (λ r. not (eqb (txn t r).number n))
 
 unfoldable pub distinct_at : List ℕ → ℕ → Bool
 distinct_at t s = every_below s (λ r. implies (live (txn t s)) (not (eqb (txn t r).number (txn t s).number)))
-
--- the marks of numbers, and that the word m has those of the slots below i
-abbrev pub mark_count : ℕ
-mark_count = 64
-
-pub record Marked (t : List ℕ) (m i : ℕ) : Type 0 where
-  pub below : (r : ℕ) → r < i → T (bit m ((txn t r).number % mark_count))

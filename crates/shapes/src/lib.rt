@@ -7,7 +7,7 @@ ghost use Rattle.std.specs.Prelude.{◌≡◌, ◌<◌, length};
 ghost use Rattle.names.specs.Sizes.{base};
 ghost use Rattle.rules.specs.Tables.{txn_words, txn};
 ghost use Rattle.rules.specs.Tested.{distinct};
-ghost use Rattle.shapes.specs.Shape.{txn_of, free_ok, update_ok, query_ok, settled_ok, relaxed_ok, seen, apart_from, distinct_at, Marked};
+ghost use Rattle.shapes.specs.Shape.{txn_of, free_ok, update_ok, query_ok, settled_ok, relaxed_ok, seen, apart_from, distinct_at};
 
 use names::{
     CLOCK_AT, EXCLUSIVE_LOCK, LAST_NUMBER_AT, NO_LOCK, QUERY_KIND, RELAXED_KIND, SETTLED_KIND,
@@ -16,10 +16,6 @@ use names::{
 };
 
 const SLOTS: usize = names::SLOTS as usize;
-
-// The marks of numbers: as many as a word has bits, so that numbers given one after the other have
-// different ones.
-const MARKS: u64 = 64;
 
 // A word with a bit for each item.
 const EVERY_ITEM: u64 = 18446744073709551615;
@@ -204,17 +200,13 @@ fn apart(txns: &[u64], slot: usize, number: u64) -> bool
     ok
 }
 
-// If the slot is live, no slot below has its number. `marks` has a mark of each number below, which
-// others may share: they are gone through only where the number's own mark is there.
-fn distinct_at(txns: &[u64], marks: u64, slot: usize) -> bool
-    requires { (length txns.now ≡ txn_words base) × (slot < base.slots) × Marked txns.now marks slot }
+// If the slot is live, no slot below has its number.
+fn distinct_at(txns: &[u64], slot: usize) -> bool
+    requires { (length txns.now ≡ txn_words base) × (slot < base.slots) }
     ensures { result ≡ distinct_at txns.now slot }
 {
     let number = txns[TXN_HEAD + TXN_ROW * slot];
     if number == 0 {
-        return true;
-    }
-    if (marks >> (number % MARKS)) % 2 == 0 {
         return true;
     }
     apart(txns, slot, number)
@@ -226,11 +218,9 @@ pub fn distinct(txns: &[u64]) -> bool
     ensures { result ≡ distinct base txns.now }
 {
     let mut ok = true;
-    let mut marks: u64 = 0;
     let mut slot: usize = 0;
     while slot < SLOTS {
-        ok = distinct_at(txns, marks, slot) & ok;
-        marks = marks | (1 << (txns[TXN_HEAD + TXN_ROW * slot] % MARKS));
+        ok = distinct_at(txns, slot) & ok;
         slot += 1;
     }
     ok

@@ -3,4 +3,3 @@ pub mod Split
 pub mod Between
 pub mod Fill
 pub mod Tells
-pub mod Firsts

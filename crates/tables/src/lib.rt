@@ -14,7 +14,6 @@ use names::{CLOCK_AT, LOCK_WORDS, TXN_WORDS, VERSION_WORDS};
 use sets::sets_pass;
 use shapes::{distinct, rows};
 use stamps::stamps_pass;
-use starts::{GUARD, LANES};
 use waiting::waits_pass;
 
 // The test of all tables.
@@ -51,8 +50,7 @@ pub fn good(txns: &[u64], locks: &[u64], versions: &[u64]) -> bool
             return false;
         }
     }
-    let mut starts = [GUARD; LANES];
-    starts::put_in_order(txns, &mut starts);
+    let starts = starts::starts_in_order(txns);
     if !versions::all_good(versions, txns[CLOCK_AT], &starts, relaxed) {
         return false;
     }

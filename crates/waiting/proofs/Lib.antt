@@ -1,6 +1,5 @@
 -- Laws of the waits as words of slots.
 pub mod Marks
-pub mod Firsts
 pub mod Blocking
 pub mod Linking
 pub mod Rounds

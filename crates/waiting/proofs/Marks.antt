@@ -58,18 +58,13 @@ module _ (p : ℕ → Bool) (w i : ℕ) (k : i < base.slots) (m : Marks p w i) w
       or_false true = refl
       or_false false = refl
 
--- who stands ahead is a slot
-ahead-slot : (t : List ℕ) (k x p : ℕ) → length t ≡ txn_words base → (b : ℕ) → T (ahead x k p (txn t b)) → b < base.slots
-ahead-slot t k x p size b q = waiter_inside base t size b (awaits→ (txn t b) (awaitsOn→ x (txn t b) (ahead→ x k p (txn t b) q).0).0)
-
--- a word that says of each slot whether it stands ahead holds slots only
-pub ahead_at : (t : List ℕ) (k x p w : ℕ) → length t ≡ txn_words base → ((b : ℕ) → bit w b ≡ ahead x k p (txn t b)) → Ahead t k x p w
-ahead_at t k x p w size at = record { small = below_bits base.slots w (λ b q. ahead-slot t k x p size b (subst T (at b) q)); at = at }
-
 -- all slots were marked that stand ahead
 pub ahead_of : (t : List ℕ) (k x p w : ℕ) → length t ≡ txn_words base → Marks (λ b. ahead x k p (txn t b)) w base.slots → Ahead t k x p w
-ahead_of t k x p w size m = ahead_at t k x p w size at
+ahead_of t k x p w size m = record { small = below_bits base.slots w (λ b q. slot b (subst T (at b) q)); at = at }
   where
+    slot : (b : ℕ) → T (ahead x k p (txn t b)) → b < base.slots
+    slot b q = waiter_inside base t size b (awaits→ (txn t b) (awaitsOn→ x (txn t b) (ahead→ x k p (txn t b) q).0).0)
+
     at : (b : ℕ) → bit w b ≡ ahead x k p (txn t b)
     at b = go (ltb b base.slots) refl
       where
@@ -77,4 +72,4 @@ ahead_of t k x p w size m = ahead_at t k x p w size at
         go true e = m.at b (ltb-true b base.slots e)
         go false e =
             let n = ltb-false b base.slots e in
-            m.rest b n ∙ sym (is_false (ahead x k p (txn t b)) (λ q. let j = ahead-slot t k x p size b q in omega arith))
+            m.rest b n ∙ sym (is_false (ahead x k p (txn t b)) (λ q. let j = slot b q in omega arith))

@@ -6,7 +6,6 @@ use Rattle.rules.specs.Words.{bit, every_below}
 use Rattle.rules.specs.Tables.{txn, txn_words, Lock, lock, lock_words, holds, no_lock, shared_lock, exclusive_lock}
 use Rattle.rules.specs.Waits.{conflicts, ahead, blocks, waits_for}
 use Rattle.rules.specs.Tested.{awaiter_good}
-use Rattle.standing.specs.Told.{Told, places, on_item, before_rank, wants_exclusive}
 
 -- ---- what is known of the tables when the waits are read
 pub record Readable (t l : List ℕ) : Type 0 where
@@ -31,12 +30,6 @@ pub record Holders (h : Lock) (k w : ℕ) : Type 0 where
 pub record Ahead (t : List ℕ) (k x p w : ℕ) : Type 0 where
   pub small : w < 2 ^ base.slots
   pub at : (b : ℕ) → bit w b ≡ ahead x k p (txn t b)
-
--- those who wait are told apart: who waits on each item, who before each rank, who wants an item exclusively
-pub record Lines (t on before : List ℕ) (exclusive : ℕ) : Type 0 where
-  pub on_items : Told (on_item t) base.items on
-  pub before_ranks : Told (before_rank t) places before
-  pub wanting : (b : ℕ) → bit exclusive b ≡ wants_exclusive t b
 
 -- the word w holds the slots that block slot s's request, at the rank p, for a lock of kind k on item x
 pub record Blockers (t l : List ℕ) (k x p s w : ℕ) : Type 0 where

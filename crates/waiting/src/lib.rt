@@ -2,24 +2,22 @@
 // stands where it may in its line.
 //
 // Good tables can be read so, as proofs/Handed says.
-ghost use Rattle.std.specs.Prelude.{◌≡◌, ◌&&◌, ℕ, ◌<◌, ◌≤◌, ◌^◌, length, replicate};
+ghost use Rattle.std.specs.Prelude.{◌≡◌, ◌&&◌, ℕ, ◌<◌, ◌≤◌, ◌^◌, length};
 ghost use Rattle.names.specs.Sizes.{base};
 ghost use Rattle.rules.specs.Tables.{txn_words, txn};
 ghost use Rattle.rules.specs.Waits.{no_circle, ahead};
 ghost use Rattle.rules.specs.Tested.{ranks_good};
-ghost use Rattle.standing.specs.Told.{Told, places, on_item, before_rank, wants_exclusive};
-ghost use Rattle.waiting.specs.Waiting.{Readable, Awaiting, Holders, Ahead, Lines, Blockers, Links, awaiters_good, awaiter_ok};
+ghost use Rattle.waiting.specs.Waiting.{Readable, Awaiting, Holders, Ahead, Blockers, Links, awaiters_good, awaiter_ok};
 
 use names::{
     EXCLUSIVE_LOCK, Item, NO_LOCK, SHARED_LOCK, Slot, TXN_HEAD, TXN_ITEM_AT, TXN_LOCK_AT,
     TXN_RANK_AT, TXN_ROW,
 };
-use standing::{ITEMS, PLACES};
 
 const SLOTS: usize = names::SLOTS as usize;
 
-// What is known of those who await a lock: whether each may; whom each slot waits for, as a word of
-// slots.
+// What one pass over the rows that await a lock sees: whether each may await it; whom each slot waits
+// for, as a word of slots.
 #[derive(Drop)]
 pub struct Waiters {
     pub ok: bool,
@@ -59,12 +57,10 @@ fn is_ahead(txns: &[u64], slot: u64, wanted: u64, item: Item, rank: u64) -> bool
     let x = item.0;
     let at = TXN_HEAD + TXN_ROW * (slot as usize);
     let lock = txns[at + TXN_LOCK_AT];
-    if lock == NO_LOCK {
-        return false;
-    }
     let awaited = txns[at + TXN_ITEM_AT];
     let place = txns[at + TXN_RANK_AT];
-    (awaited == x) & ((place < rank) & ((wanted == EXCLUSIVE_LOCK) | (lock == EXCLUSIVE_LOCK)))
+    (!(lock == NO_LOCK) & (awaited == x))
+        & ((place < rank) & ((wanted == EXCLUSIVE_LOCK) | (lock == EXCLUSIVE_LOCK)))
 }
 
 // The word of the slots that wait on an item before a rank, in conflict with a request for the lock
@@ -84,67 +80,24 @@ pub fn ahead(txns: &[u64], wanted: u64, item: Item, rank: u64) -> u64
     word
 }
 
-// The same, where those who wait are told apart: by item, by rank, and who wants an item exclusively. A
-// rank that has no place is looked for slot by slot.
-fn first(
-    txns: &[u64],
-    on: &[u64],
-    before: &[u64],
-    exclusive: u64,
-    wanted: u64,
-    item: Item,
-    rank: u64,
-) -> u64
-    requires { (length txns.now ≡ txn_words base) × Lines txns.now on.now before.now exclusive × (item.0 < base.items) }
-    ensures { Ahead txns.now wanted item.0 rank result }
-{
-    if names::SLOTS < rank {
-        return ahead(txns, wanted, item, rank);
-    }
-    let x = item.0 as usize;
-    let q = rank as usize;
-    let all = on[x] & before[q];
-    if wanted == EXCLUSIVE_LOCK {
-        return all;
-    }
-    all & exclusive
-}
-
 // The word of the slots that block a request, at this rank, by `slot` for the lock `wanted` on an item.
-fn blockers(
-    txns: &[u64],
-    locks: &[u64],
-    on: &[u64],
-    before: &[u64],
-    exclusive: u64,
-    wanted: u64,
-    item: Item,
-    rank: u64,
-    slot: Slot,
-) -> u64
-    requires { Readable txns.now locks.now × Lines txns.now on.now before.now exclusive × (item.0 < base.items) × (slot.0 < base.slots) }
+fn blockers(txns: &[u64], locks: &[u64], wanted: u64, item: Item, rank: u64, slot: Slot) -> u64
+    requires { Readable txns.now locks.now × (item.0 < base.items) × (slot.0 < base.slots) }
     ensures { Blockers txns.now locks.now wanted item.0 rank slot.0 result }
 {
     let row = rows::lock_at(locks, item);
     let held = holders(row.shared, row.exclusive, wanted);
-    let earlier = first(txns, on, before, exclusive, wanted, item, rank);
-    let all = held | earlier;
+    let first = ahead(txns, wanted, item, rank);
+    let all = held | first;
     all ^ (all & (1 << slot.0))
 }
 
-// One pass over the rows that await a lock: whether each may; whom each slot waits for is left in links,
-// which the caller lends, all zero: an array handed back would be copied.
-fn linked(
-    txns: &[u64],
-    locks: &[u64],
-    on: &[u64],
-    before: &[u64],
-    exclusive: u64,
-    links: &mut [u64],
-) -> bool
-    requires { Readable txns.now locks.now × Lines txns.now on.now before.now exclusive × (links.old ≡ replicate base.slots 0) }
-    ensures { (result ≡ awaiters_good base txns.now locks.now) × Links txns.now locks.now links.new }
+// One pass over the rows that await a lock: whether each may, and whom each slot waits for.
+pub fn waits(txns: &[u64], locks: &[u64]) -> Waiters
+    requires { Readable txns.now locks.now }
+    ensures { (result.ok ≡ awaiters_good base txns.now locks.now) × Links txns.now locks.now result.links }
 {
+    let mut links = [0u64; SLOTS];
     let mut ok = true;
     let mut slot: usize = 0;
     while slot < SLOTS {
@@ -156,52 +109,22 @@ fn linked(
             let waiter = slot as u64;
             let row = rows::lock_at(locks, Item(item));
             ok = awaiter_ok(row.shared, row.exclusive, wanted, waiter) & ok;
-            links[slot] = blockers(
-                txns,
-                locks,
-                on,
-                before,
-                exclusive,
-                wanted,
-                Item(item),
-                rank,
-                Slot(waiter),
-            );
+            links[slot] = blockers(txns, locks, wanted, Item(item), rank, Slot(waiter));
         }
         slot += 1;
     }
-    ok
-}
-
-// Whether each who awaits a lock may, and whom each slot waits for. Those who wait are told apart
-// first, so that nobody's line is looked for slot by slot.
-pub fn waits(txns: &[u64], locks: &[u64]) -> Waiters
-    requires { Readable txns.now locks.now }
-    ensures { (result.ok ≡ awaiters_good base txns.now locks.now) × Links txns.now locks.now result.links }
-{
-    let mut on = [0u64; ITEMS];
-    let mut before = [0u64; PLACES];
-    let exclusive = standing::tell(txns, &mut on, &mut before);
-    standing::add_up(&mut before);
-    let mut links = [0u64; SLOTS];
-    let ok = linked(txns, locks, &on, &before, exclusive, &mut links);
     Waiters { ok, links }
 }
 
 // Whether each who awaits a lock may, each stands where it may in its line, and nobody waits in a
-// circle; `waiting` holds those who await. The words of who stands at each rank say whether the ranks
-// are good, and become those of who stands before it.
+// circle; `waiting` holds those who await.
 pub fn waits_pass(txns: &[u64], locks: &[u64], waiting: u64) -> bool
     requires { Readable txns.now locks.now × Awaiting txns.now waiting }
     ensures { result ≡ (awaiters_good base txns.now locks.now && (ranks_good base txns.now locks.now && no_circle base txns.now locks.now)) }
 {
-    let mut on = [0u64; ITEMS];
-    let mut at = [0u64; PLACES];
-    let exclusive = standing::tell(txns, &mut on, &mut at);
-    let ranks = ranked::ranks_ok(txns, locks, &on, &at);
-    standing::add_up(&mut at);
-    let mut links = [0u64; SLOTS];
-    let ok = linked(txns, locks, &on, &at, exclusive, &mut links);
+    let seen = waits(txns, locks);
+    let ok = seen.ok;
+    let links = seen.links;
     let free = circles::no_circle(&links, waiting);
-    ok & (ranks & free)
+    ok & (ranked::ranks_ok(txns, locks) & free)
 }

@@ -19,7 +19,6 @@ usage: fuzz [--runner PATH [--runner-arg WORD]...]
             [--verdict PATH [--verdict-arg WORD]...]
             [--cut PATH [--cut-arg WORD]...]
             [--fine PATH [--fine-arg WORD]...]
-            [--order PATH [--order-arg WORD]...]
             [--seed N] [--first-round N] (--seconds N | --rounds N)
 at least one program, and --seconds or --rounds, are needed";
 
@@ -44,7 +43,7 @@ fn main() {
     let quota = code::QUOTA_SPENT as usize;
     let past = code::PAST_WRITING as usize;
     let summary = format!(
-        "seed {}, {} rounds, {} lines, {} calls, {} cases, {} journals, {} choppings, {} cuts, {} orders, \
+        "seed {}, {} rounds, {} lines, {} calls, {} cases, {} journals, {} choppings, {} cuts, \
          code 11 in {} calls and {} cases, code 12 in {} calls and {} cases, {:.1} seconds",
         options.seed,
         stats.rounds,
@@ -54,7 +53,6 @@ fn main() {
         stats.journals.judged(),
         stats.cuts.files(),
         stats.fines.files(),
-        stats.orders.files(),
         stats.codes[quota],
         stats.case_codes[quota],
         stats.codes[past],
@@ -82,14 +80,12 @@ fn parse(mut words: impl Iterator<Item = String>) -> Result<Options, String> {
             "--verdict" => options.verdict = Some(program(value)),
             "--cut" => options.cut = Some(program(value)),
             "--fine" => options.fine = Some(program(value)),
-            "--order" => options.order = Some(program(value)),
             "--runner-arg" => add_argument(&mut options.runner, &word, value)?,
             "--tables-arg" => add_argument(&mut options.tables, &word, value)?,
             "--record-arg" => add_argument(&mut options.record, &word, value)?,
             "--verdict-arg" => add_argument(&mut options.verdict, &word, value)?,
             "--cut-arg" => add_argument(&mut options.cut, &word, value)?,
             "--fine-arg" => add_argument(&mut options.fine, &word, value)?,
-            "--order-arg" => add_argument(&mut options.order, &word, value)?,
             "--seed" => options.seed = number(&word, &value)?,
             "--first-round" => options.first_round = number(&word, &value)?,
             "--seconds" => options.seconds = Some(number(&word, &value)?),
@@ -104,7 +100,6 @@ fn parse(mut words: impl Iterator<Item = String>) -> Result<Options, String> {
         &options.verdict,
         &options.cut,
         &options.fine,
-        &options.order,
     ];
     if programs.iter().all(|program| program.is_none()) {
         return Err("no program to compare with".to_string());

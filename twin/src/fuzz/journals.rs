@@ -259,22 +259,11 @@ impl fmt::Display for Counts {
 }
 
 /// A file that goes when it is no longer needed.
-pub struct Place(PathBuf);
+struct Place(PathBuf);
 
 impl Place {
-    pub fn new(name: &str) -> Place {
-        Place(std::env::temp_dir().join(format!("twin-{}-{}", name, std::process::id())))
-    }
-
-    pub fn path(&self) -> String {
-        self.0.to_string_lossy().into_owned()
-    }
-
-    /// Bytes kept beside it for whoever looks into a difference.
-    pub fn kept(&self, bytes: &[u8]) -> String {
-        let kept = self.0.with_extension("kept");
-        drop(fs::write(&kept, bytes));
-        kept.display().to_string()
+    fn new() -> Place {
+        Place(std::env::temp_dir().join(format!("twin-journal-{}", std::process::id())))
     }
 }
 
@@ -293,8 +282,8 @@ pub fn round(
     verdict: Option<&Program>,
     stats: &mut Stats,
 ) -> Result<Option<String>, String> {
-    let place = Place::new("journal");
-    let path = place.path();
+    let place = Place::new();
+    let path = place.0.to_string_lossy().into_owned();
     let lines = input.split(|&byte| byte == b'\n');
     let calls: Vec<Call> = lines.filter_map(script::parse).collect();
     let journal = Journal::of_run(calls.iter().copied());
@@ -355,13 +344,14 @@ fn judged(verdict: &Program, place: &Place, bytes: &[u8]) -> Result<Option<Strin
     if run.failure.is_none() && run.output == format!("{}\n", expected).as_bytes() {
         return Ok(None);
     }
-    let kept = place.kept(bytes);
+    let kept = place.0.with_extension("kept");
+    drop(fs::write(&kept, bytes));
     Ok(Some(format!(
         "the twin says {}, the other {:?}, of {} bytes, kept in {}\n{}",
         expected,
         String::from_utf8_lossy(&run.output),
         bytes.len(),
-        kept,
+        kept.display(),
         failed(&run),
     )))
 }

@@ -1,6 +1,6 @@
 //! The fuzzer: the twin against another runner, against another program for
 //! tables set beforehand, against programs that write and judge journals, and against
-//! those that judge choppings, make the finest one and order a journal's transactions.
+//! those that judge choppings and make the finest one.
 
 pub mod actions;
 pub mod ages;
@@ -21,7 +21,6 @@ pub mod made;
 pub mod monitors;
 pub mod moods;
 pub mod odd_cases;
-pub mod orders;
 pub mod process;
 pub mod relaxed;
 pub mod relaxing;
@@ -56,7 +55,6 @@ pub struct Options {
     pub verdict: Option<Program>,
     pub cut: Option<Program>,
     pub fine: Option<Program>,
-    pub order: Option<Program>,
     pub seed: u64,
     pub first_round: u64,
     pub rounds: Option<u64>,
@@ -147,14 +145,8 @@ fn one_round(options: &Options, round: u64, stats: &mut Stats) -> Result<Option<
             return Ok(difference);
         }
     }
-    if let Some(fine) = &options.fine {
-        let difference = fines::round(&mut rng, fine, stats)?;
-        if difference.is_some() {
-            return Ok(difference);
-        }
-    }
-    match &options.order {
-        Some(order) => orders::round(&mut rng, order, stats),
+    match &options.fine {
+        Some(fine) => fines::round(&mut rng, fine, stats),
         None => Ok(None),
     }
 }

@@ -15,8 +15,7 @@ impl fmt::Display for Stats {
         if self.cases > 0 {
             self.show_cases(out)?;
         }
-        write!(out, "{}{}", self.journals, self.cuts)?;
-        write!(out, "{}{}", self.fines, self.orders)
+        write!(out, "{}{}{}", self.journals, self.cuts, self.fines)
     }
 }
 

@@ -2,8 +2,8 @@
 
 use super::scene::{Held, Scene, Txn};
 use super::{
-    ages, cuts, damage, empty, fines, fullness, in_line, journals, limit, odd_cases, orders,
-    relaxed, settled, spoil,
+    ages, cuts, damage, empty, fines, fullness, in_line, journals, limit, odd_cases, relaxed,
+    settled, spoil,
 };
 use crate::answer::{code, Answer};
 use crate::clauses::Clause;
@@ -151,7 +151,6 @@ pub struct Stats {
     pub journals: journals::Counts,
     pub cuts: cuts::Counts,
     pub fines: fines::Counts,
-    pub orders: orders::Counts,
     waited_value: [u64; SLOTS],
 }
 
@@ -188,7 +187,6 @@ impl Stats {
             journals: journals::Counts::default(),
             cuts: cuts::Counts::default(),
             fines: fines::Counts::default(),
-            orders: orders::Counts::default(),
             waited_value: [0; SLOTS],
         }
     }

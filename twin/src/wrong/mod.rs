@@ -11,7 +11,6 @@ mod empty;
 mod fines;
 mod judges;
 mod lines;
-mod orders;
 mod quota;
 mod relaxed;
 mod settled;
@@ -28,7 +27,6 @@ pub use empty::WrongEmpty;
 pub use fines::WrongFine;
 pub use judges::WrongJudge;
 pub use lines::{run, WrongLine};
-pub use orders::WrongOrder;
 pub use quota::WrongQuota;
 pub use relaxed::WrongRelaxed;
 pub use settled::WrongSettled;
@@ -40,9 +38,10 @@ pub use waits::WrongWait;
 use std::io::{self, BufRead, Write};
 
 use crate::answer::Answer;
+use crate::calls::Access;
 use crate::keeper::{Call, Keeper};
 use crate::script;
-use crate::sizes::{EXCLUSIVE, LOCK_ROW};
+use crate::sizes::{EXCLUSIVE, LOCK_ROW, QUERY, RELAXED, UPDATE};
 use crate::view::View;
 
 /// The one of this name.
@@ -66,7 +65,20 @@ fn view(keeper: &mut Keeper) -> View<'_> {
 
 /// The right call, without the test of the tables.
 fn right(view: &mut View, call: Call) -> Answer {
-    view.made(call)
+    match call {
+        Call::Update => view.begin(UPDATE),
+        Call::Query => view.begin(QUERY),
+        Call::Read { number, item } => view.access(number, item, Access::Read),
+        Call::Write {
+            number,
+            item,
+            value,
+        } => view.access(number, item, Access::Write(value)),
+        Call::Commit { number } => view.commit(number),
+        Call::Abort { number } => view.abort(number),
+        Call::Settle { number } => view.settle(number),
+        Call::Relaxed => view.begin(RELAXED),
+    }
 }
 
 /// The right call as if these held nothing exclusively; what nobody takes meanwhile

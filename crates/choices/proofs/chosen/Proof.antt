@@ -38,13 +38,13 @@ place-in-requires c κs =
     let a = c.before.before.args in
     subst (λ (r : List ℕ). ChoosableIn r (up_to a.start.0)) (sym (lent a.item.0 a.versions.now)) (found_in a.versions.now a.item.0 (up_to a.start.0) c.before.before.requires)
 
-is-place : (c : tie.After-place-in) → c.place_in_lem.result ≡ place (up_to c.before.before.before.args.start.0) (versions_of base c.before.before.before.args.versions.now c.before.before.before.args.item.0)
+is-place : (c : tie.After-place-in) → c.IsPlace-in.result ≡ place (up_to c.before.before.before.args.start.0) (versions_of base c.before.before.before.args.versions.now c.before.before.before.args.item.0)
 unfolding versions_of
 is-place c =
     let a = c.before.before.before.args in
-    c.place_in_lem.ensures ∙ ap (λ (r : List ℕ). place (up_to a.start.0) (versions_in base r)) (lent a.item.0 a.versions.now)
+    c.IsPlace-in.ensures ∙ ap (λ (r : List ℕ). place (up_to a.start.0) (versions_in base r)) (lent a.item.0 a.versions.now)
 
-counted : (c : tie.After-place-in) → c.place_in_lem.result < get_or (row (version_row base) c.before.before.before.args.item.0 c.before.before.before.args.versions.now) 0 0
+counted : (c : tie.After-place-in) → c.IsPlace-in.result < get_or (row (version_row base) c.before.before.before.args.item.0 c.before.before.before.args.versions.now) 0 0
 unfolding versions_of
 counted c =
     let a = c.before.before.before.args in
@@ -53,7 +53,7 @@ counted c =
     let e = is-place c in
     omega (arith, within (row (version_row base) x v) (up_to a.start.0) (found_in v x (up_to a.start.0) c.before.before.before.requires))
 
-room : (c : tie.After-place-in) → c.place_in_lem.result < base.places
+room : (c : tie.After-place-in) → c.IsPlace-in.result < base.places
 room c = let m = c.before.before.before.requires.sound.most in omega (arith, counted c)
 
 mul-t7 : tie.Need-overflow-mul-t7
@@ -80,7 +80,7 @@ returns c =
     let a = c.before.before.before.before.args in
     let v = a.versions.now in
     let x = a.item.0 in
-    let k = c.before.place_in_lem.result in (
+    let k = c.before.IsPlace-in.result in (
       value-word v x k (counted c.before) (room c.before) ∙ ap (λ (j : ℕ). (get_or (versions_of base v x) j no_version).value) (is-place c.before),
       add-one k ∙ ap suc (is-place c.before),
     )

@@ -1,25 +1,43 @@
--- `circles::lowest` meets its contract: the zeros below the lowest bit lead to it.
-use Prim.Native.Nat.{ℕ, ◌^◌, ◌<◌, ◌≤◌}
+-- `circles::lowest` meets its contract. The invariant: no bit below `slot` is set, so `slot` is below the bit that is.
+use Prim.Native.Nat.{ℕ, ◌+◌, ◌-◌, ◌<◌}
 use native.Mathlib.Omega.{arith}
-use lib.Count.{count_trailing_zeros, trailing_le}
+use borrow.Author.Rules.{rules}
+use borrow.Author.Count.{below_more}
 use lib.Dec.{T}
-use lib.Pow.{pow_mono}
 use Rattle.names.specs.Sizes.{base}
 use Rattle.rules.specs.Words.{bit}
-use Rattle.rules.proofs.Bits.{bit_below}
-use Rattle.circles.proofs.Zeros.{lowest-bit}
+use Rattle.words.proofs.SlotWords.{first-within, bit_off, bit_on}
 use Rattle.circles.proofs.lowest.Statement.{statement}
 use Rattle.circles.proofs.lowest.Tie as tie
 
-cast-result : tie.Need-overflow-cast-result
-cast-result c = let k = trailing_le 64 c.args.word in omega arith
+abbrev invariant-loop : tie.invariant-loop
+invariant-loop word slot₀ slot = (slot < base.slots) × ((k : ℕ) → k < slot → T (bit word k) → ⊥)
 
-returns : tie.Need-returns
-returns c =
-    let w = c.args.word in
-    let l : w < 2 ^ 64 = (let h = c.requires.1 in let m : 2 ^ base.slots ≤ 2 ^ 64 = pow_mono {i = base.slots} {j = 64} (omega arith) in omega arith) in
-    let t : T (bit w (count_trailing_zeros 64 w)) = lowest-bit 64 w c.requires.0 l in
-    (bit_below w (count_trailing_zeros 64 w) base.slots c.requires.1 t, t)
+abbrev decreases-loop : tie.decreases-loop
+decreases-loop word slot₀ slot = base.slots - slot
+
+loop-holds : tie.Need-loop-init invariant-loop decreases-loop
+loop-holds c = (omega arith, λ k l. absurd (omega arith))
+
+shr-loop : tie.Need-overflow-shr-loop invariant-loop decreases-loop
+shr-loop c = search rules
+
+add-slot : tie.Need-overflow-add-slot invariant-loop decreases-loop
+add-slot c = search rules
+
+loop-less : tie.Need-loop-smaller invariant-loop decreases-loop
+loop-less c = omega arith
+
+loop-again : tie.Need-loop-preserved invariant-loop decreases-loop
+loop-again c =
+    let word = c.before.before.args.word in
+    let slot = c.before.loop.slot in
+    let none = below_more (λ (k : ℕ). T (bit word k) → ⊥) slot c.before.loop.invariant.1 (bit_off word slot c.loop-test.true) in
+    (first-within base.slots word (slot + 1) c.before.before.requires.0 c.before.before.requires.1 none, none)
+
+returns : tie.Need-returns invariant-loop decreases-loop
+returns c = (c.before.loop.invariant.0, bit_on c.before.before.args.word c.before.loop.slot c.loop-test.false)
 
 pub lowest-spec : {M : Type 1} → statement M
-lowest-spec = tie.close (tie.spec cast-result returns)
+lowest-spec =
+    tie.close (tie.spec invariant-loop decreases-loop loop-holds shr-loop add-slot loop-less loop-again returns)

@@ -8,10 +8,10 @@ use Rattle.fine.proofs.main.Statement.{statement}
 use Rattle.fine.proofs.main.Tie as tie
 
 abbrev invariant-loop : tie.invariant-loop
-invariant-loop input₀ output fining₀ turns₀ t8 input fining turns = 8192 ≡ length input
+invariant-loop input₀ output fining₀ turns₀ t8 t9 input fining turns = 8192 ≡ length input
 
 abbrev decreases-loop : tie.decreases-loop
-decreases-loop input₀ output fining₀ turns₀ t8 input fining turns = turns
+decreases-loop input₀ output fining₀ turns₀ t8 t9 input fining turns = turns
 
 input-buffer-requires : tie.Need-input-buffer-requires invariant-loop decreases-loop
 input-buffer-requires c κs = search rules
@@ -73,17 +73,26 @@ end-requires c κs = search rules
 array-share-prefix-output : tie.Need-array-share-prefix-output invariant-loop decreases-loop
 array-share-prefix-output c = search rules
 
-slice-aggregate-printed : tie.Need-slice-aggregate-printed invariant-loop decreases-loop
-slice-aggregate-printed c =
+slice-aggregate-write-all : tie.Need-slice-aggregate-write-all invariant-loop decreases-loop
+slice-aggregate-write-all c =
     let u = c.before.before.end.ensures.0 in
     let o = c.before.output2.given in
     sym (length-take-le _ _ (omega arith))
 
-printed-requires : tie.Need-printed-requires invariant-loop decreases-loop
-printed-requires c κs = search rules
+write-all-requires : tie.Need-write-all-requires invariant-loop decreases-loop
+write-all-requires c κs = search rules
+
+slice-aggregate-fail-2 : tie.Need-slice-aggregate-fail-2 invariant-loop decreases-loop
+slice-aggregate-fail-2 c = search rules
+
+fail-requires-2 : tie.Need-fail-requires-2 invariant-loop decreases-loop
+fail-requires-2 c κs = search rules
 
 returns-2 : tie.Need-returns-2 invariant-loop decreases-loop
 returns-2 c = search rules
+
+returns-3 : tie.Need-returns-3 invariant-loop decreases-loop
+returns-3 c = search rules
 
 pub main_spec : {M : Type 1} → statement M
 main_spec =
@@ -111,6 +120,9 @@ main_spec =
     slice-aggregate-end
     end-requires
     array-share-prefix-output
-    slice-aggregate-printed
-    printed-requires
-    returns-2)
+    slice-aggregate-write-all
+    write-all-requires
+    slice-aggregate-fail-2
+    fail-requires-2
+    returns-2
+    returns-3)

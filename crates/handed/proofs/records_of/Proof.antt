@@ -15,7 +15,7 @@ new-requires : tie.Need-new-requires invariant-loop decreases-loop
 new-requires c κs = search rules
 
 loop-holds : tie.Need-loop-init invariant-loop decreases-loop
-loop-holds c = c.new.ensures.0 c.before.before.args.file.now c.before.before.requires.1
+loop-holds c = c.new.ensures c.before.before.args.file.now c.before.before.requires.1
 
 asks-requires : tie.Need-asks-requires invariant-loop decreases-loop
 asks-requires c κs = search rules

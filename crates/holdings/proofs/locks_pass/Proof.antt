@@ -1,6 +1,6 @@
 -- The rules' test of the locks and of the quota, by way of the live updates and of all who may hold.
 use Prim.Native.Nat.{ℕ}
-use mathlib.Core.Path.{◌≡◌, refl, sym, ap₂, ◌∙◌}
+use mathlib.Core.Path.{◌≡◌, sym, ap₂, ◌∙◌}
 use mathlib.Core.Bool.{◌&&◌}
 use mathlib.Core.List.{List}
 use native.Mathlib.Omega.{arith}
@@ -31,18 +31,15 @@ returns c =
     let z₁ : u ≡ 0 = omega (arith, or_add_and u w, and_le_r u w, and_le_l u w) in
     λ e f. c.none-held.ensures ∙ none_held-same l ∙ ap₂ (λ (u w : ℕ). locks_ok u w l) (sym z₁) (sym z) ∙ passed t l u w e f ∙ idle-few t l (sym (ap₂ bit_or e f) ∙ z)
 
-slice-aggregate-locks-ok : tie.Need-slice-aggregate-locks-ok
-slice-aggregate-locks-ok c = search rules
-
 locks-ok-requires : tie.Need-locks-ok-requires
 locks-ok-requires c κs =
-    let k = c.before.before.before.before.requires in
-    (k.1, or_lt base.slots _ _ k.2 k.3, refl)
+    let k = c.before.before.before.requires in
+    (k.1, or_lt base.slots _ _ k.2 k.3)
 
 returns-2 : tie.Need-returns-2
 returns-2 c =
-    let t = c.before.before.before.before.before.before.before.args.txns.now in
-    let l = c.before.before.before.before.before.before.before.args.locks.now in
+    let t = c.before.before.before.before.before.before.args.txns.now in
+    let l = c.before.before.before.before.before.before.args.locks.now in
     let h = c.before.before.locks-ok.ensures in
     λ e f. h.0 ∙ passed t l _ _ e f ∙ counted-few t l _ _ h.1 c.if2.true
 
@@ -54,8 +51,8 @@ quotas-ok-requires c κs = search rules
 
 returns-3 : tie.Need-returns-3
 returns-3 c =
-    let t = c.before.before.before.before.before.before.before.before.before.args.txns.now in
-    let l = c.before.before.before.before.before.before.before.before.before.args.locks.now in
+    let t = c.before.before.before.before.before.before.before.before.args.txns.now in
+    let l = c.before.before.before.before.before.before.before.before.args.locks.now in
     let h = c.before.before.before.before.locks-ok.ensures in
     λ e f. ap₂ ◌&&◌ (h.0 ∙ passed t l _ _ e f) c.quotas-ok.ensures ∙ counted_same t l _ _ h.1
 
@@ -65,7 +62,6 @@ locks-pass-spec =
     (tie.spec
     none-held-requires
     returns
-    slice-aggregate-locks-ok
     locks-ok-requires
     returns-2
     slice-aggregate-quotas-ok

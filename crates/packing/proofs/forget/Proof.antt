@@ -16,12 +16,12 @@ use Rattle.packing.proofs.forget.Tie as tie
 abbrev row : tie.After-place-in → List ℕ
 row c = c.before.before.before.before.before.args.row.now
 
-place_of : (c : tie.After-place-in) → (0 < c.place_in_lem.result) × (c.place_in_lem.result < count_in (row c))
+place_of : (c : tie.After-place-in) → (0 < c.IsPlace-in.result) × (c.IsPlace-in.result < count_in (row c))
 place_of c =
     let a = c.before.before.before.before.before.args in
     let p = c.before.before.before.before.before.requires in (
-      behind (row c) p.0 a.start a.below a.next p.1 c.before.before.if1.false c.place_in_lem.result c.place_in_lem.ensures,
-      inside (row c) p.0 a.start a.below a.next p.1 c.before.before.if1.false c.place_in_lem.result c.place_in_lem.ensures,
+      behind (row c) p.0 a.start a.below a.next p.1 c.before.before.if1.false c.IsPlace-in.result c.IsPlace-in.ensures,
+      inside (row c) p.0 a.start a.below a.next p.1 c.before.before.if1.false c.IsPlace-in.result c.IsPlace-in.ensures,
     )
 
 most : (c : tie.After-place-in) → count_in (row c) ≤ base.places
@@ -87,7 +87,7 @@ returns-2 c =
     let a = at.before.before.before.before.before.args in
     let p = at.before.before.before.before.before.requires in
     row_same (row at) p.0
-    ∙ ap (row_of base) (sym (all_stay (row at) p.0 a.start a.below a.next p.1 at.before.before.if1.false at.place_in_lem.result at.place_in_lem.ensures c.if2.true))
+    ∙ ap (row_of base) (sym (all_stay (row at) p.0 a.start a.below a.next p.1 at.before.before.if1.false at.IsPlace-in.result at.IsPlace-in.ensures c.if2.true))
 
 close-gap-requires : tie.Need-close-gap-requires
 close-gap-requires c κs =
@@ -103,7 +103,7 @@ returns-3 c =
     let a = at.before.before.before.before.before.args in
     let p = at.before.before.before.before.before.requires in
     c.before.before.close-gap.ensures
-    ∙ ap (row_of base) (sym (one-goes (row at) p.0 a.start a.below a.next p.1 at.before.before.if1.false at.place_in_lem.result at.place_in_lem.ensures c.before.before.before.before.if2.false))
+    ∙ ap (row_of base) (sym (one-goes (row at) p.0 a.start a.below a.next p.1 at.before.before.if1.false at.IsPlace-in.result at.IsPlace-in.ensures c.before.before.before.before.if2.false))
 
 pub forget-spec : {M : Type 1} → statement M
 forget-spec =

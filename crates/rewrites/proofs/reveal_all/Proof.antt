@@ -36,7 +36,7 @@ reveal-item-requires c κs =
       next-tidy a.versions.now a.slot.0 a.starts.now p l.versions l.i l.invariant.1 h,
       p.inside,
       next-found a.versions.now a.slot.0 a.starts.now p l.versions l.i l.invariant.1 h,
-      p.showing.ordered.order,
+      p.wide,
     )
 
 add-i : tie.Need-overflow-add-i invariant-loop decreases-loop

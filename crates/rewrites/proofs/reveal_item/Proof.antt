@@ -8,7 +8,7 @@ use Rattle.names.specs.Sizes.{base}
 use Rattle.rules.specs.Tables.{version_row, outside}
 use Rattle.rules.specs.Versions.{versions_in, row_of, place}
 use Rattle.packing.specs.Changed.{TidyRow, shown_to}
-use Rattle.starts.specs.Ordered.{Rises}
+use Rattle.starts.specs.Ordered.{lanes}
 use Rattle.choices.proofs.Lent.{wide, lent}
 use Rattle.rewrites.proofs.reveal_item.Statement.{statement}
 use Rattle.rewrites.proofs.reveal_item.Tie as tie
@@ -36,7 +36,7 @@ reveal-requires c κs =
     let a = c.before.before.before.args in
     let p = c.before.before.before.requires in
     subst
-    (λ (r : List ℕ). TidyRow r × (a.slot < base.slots) × (place (outside a.slot) (versions_in base r) < length (versions_in base r)) × Rises a.starts.now)
+    (λ (r : List ℕ). TidyRow r × (a.slot < base.slots) × (place (outside a.slot) (versions_in base r) < length (versions_in base r)) × (length a.starts.now ≡ lanes))
     (sym (lent a.x a.versions.now))
     (p.2, p.3, p.4, p.5)
 

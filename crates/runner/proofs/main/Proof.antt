@@ -10,10 +10,10 @@ use Rattle.runner.proofs.main.Statement.{statement}
 use Rattle.runner.proofs.main.Tie as tie
 
 abbrev invariant-loop : tie.invariant-loop
-invariant-loop input₀ output₀ runner₀ turns₀ t10 input output runner turns = (8192 ≡ length input) × (longest_reply * 8192 ≡ length output)
+invariant-loop input₀ output₀ runner₀ turns₀ input output runner turns = (8192 ≡ length input) × (longest_reply * 8192 ≡ length output)
 
 abbrev decreases-loop : tie.decreases-loop
-decreases-loop input₀ output₀ runner₀ turns₀ t10 input output runner turns = turns
+decreases-loop input₀ output₀ runner₀ turns₀ input output runner turns = turns
 
 input-buffer-requires : tie.Need-input-buffer-requires invariant-loop decreases-loop
 input-buffer-requires c κs = search rules
@@ -33,17 +33,8 @@ slice-aggregate-read c = c.before.before.loop.invariant.0
 read-requires : tie.Need-read-requires invariant-loop decreases-loop
 read-requires c κs = search rules
 
-slice-aggregate-fail : tie.Need-slice-aggregate-fail invariant-loop decreases-loop
-slice-aggregate-fail c = search rules
-
-fail-requires : tie.Need-fail-requires invariant-loop decreases-loop
-fail-requires c κs = search rules
-
-returns : tie.Need-returns invariant-loop decreases-loop
-returns c = search rules
-
 slice-aggregate-count : tie.Need-slice-aggregate-count invariant-loop decreases-loop
-slice-aggregate-count c = sym c.before.before.input2.given
+slice-aggregate-count c = sym c.before.input2.given
 
 count-requires : tie.Need-count-requires invariant-loop decreases-loop
 count-requires c κs = search rules
@@ -55,26 +46,23 @@ slice-aggregate-take : tie.Need-slice-aggregate-take invariant-loop decreases-lo
 slice-aggregate-take c = sym (length-take-le _ _ c.before.before.count.ensures.0.0)
 
 slice-aggregate-take-2 : tie.Need-slice-aggregate-take-2 invariant-loop decreases-loop
-slice-aggregate-take-2 c = c.before.before.before.before.before.before.before.before.before.before.loop.invariant.1
+slice-aggregate-take-2 c = c.before.before.before.before.before.before.before.before.before.loop.invariant.1
 
 take-requires : tie.Need-take-requires invariant-loop decreases-loop
 take-requires c κs =
-    let i = c.before.before.before.before.before.before.before.before.before.before.loop.invariant in
+    let i = c.before.before.before.before.before.before.before.before.before.loop.invariant in
     let n = c.before.before.before.count.ensures.0.0 in
-    let e = c.before.before.before.before.before.before.input2.given in
+    let e = c.before.before.before.before.before.input2.given in
     simp length-take (omega arith)
 
 array-share-prefix-output : tie.Need-array-share-prefix-output invariant-loop decreases-loop
 array-share-prefix-output c = let u = c.before.take.ensures.1.0 in let o = c.output2.given in omega arith
 
-slice-aggregate-printed : tie.Need-slice-aggregate-printed invariant-loop decreases-loop
-slice-aggregate-printed c = let u = c.before.before.take.ensures.1.0 in let o = c.before.output2.given in sym (length-take-le _ _ (omega arith))
+slice-aggregate-write-all : tie.Need-slice-aggregate-write-all invariant-loop decreases-loop
+slice-aggregate-write-all c = let u = c.before.before.take.ensures.1.0 in let o = c.before.output2.given in sym (length-take-le _ _ (omega arith))
 
-printed-requires : tie.Need-printed-requires invariant-loop decreases-loop
-printed-requires c κs = search rules
-
-returns-2 : tie.Need-returns-2 invariant-loop decreases-loop
-returns-2 c = search rules
+write-all-requires : tie.Need-write-all-requires invariant-loop decreases-loop
+write-all-requires c κs = search rules
 
 sub-turns : tie.Need-overflow-sub-turns invariant-loop decreases-loop
 sub-turns c = search rules
@@ -83,7 +71,7 @@ loop-less : tie.Need-loop-smaller invariant-loop decreases-loop
 loop-less c = omega arith
 
 loop-again : tie.Need-loop-preserved invariant-loop decreases-loop
-loop-again c = (sym c.before.before.before.before.before.before.before.before.before.before.before.before.input2.given, sym c.before.before.before.before.output2.given)
+loop-again c = (sym c.before.before.before.before.before.before.before.before.before.before.input2.given, sym c.before.before.before.output2.given)
 
 slice-aggregate-end : tie.Need-slice-aggregate-end invariant-loop decreases-loop
 slice-aggregate-end c = c.before.before.loop.invariant.1
@@ -94,14 +82,14 @@ end-requires c κs = let i = c.before.before.loop.invariant.1 in omega arith
 array-share-prefix-output-2 : tie.Need-array-share-prefix-output-2 invariant-loop decreases-loop
 array-share-prefix-output-2 c = let u = c.before.end.ensures.0 in let o = c.output5.given in omega arith
 
-slice-aggregate-printed-2 : tie.Need-slice-aggregate-printed-2 invariant-loop decreases-loop
-slice-aggregate-printed-2 c = let u = c.before.before.end.ensures.0 in let o = c.before.output5.given in sym (length-take-le _ _ (omega arith))
+slice-aggregate-write-all-2 : tie.Need-slice-aggregate-write-all-2 invariant-loop decreases-loop
+slice-aggregate-write-all-2 c = let u = c.before.before.end.ensures.0 in let o = c.before.output5.given in sym (length-take-le _ _ (omega arith))
 
-printed-requires-2 : tie.Need-printed-requires-2 invariant-loop decreases-loop
-printed-requires-2 c κs = search rules
+write-all-requires-2 : tie.Need-write-all-requires-2 invariant-loop decreases-loop
+write-all-requires-2 c κs = search rules
 
-returns-3 : tie.Need-returns-3 invariant-loop decreases-loop
-returns-3 c = search rules
+returns : tie.Need-returns invariant-loop decreases-loop
+returns c = search rules
 
 pub main_spec : {M : Type 1} → statement M
 main_spec =
@@ -115,9 +103,6 @@ main_spec =
     loop-holds
     slice-aggregate-read
     read-requires
-    slice-aggregate-fail
-    fail-requires
-    returns
     slice-aggregate-count
     count-requires
     array-share-prefix-input
@@ -125,15 +110,14 @@ main_spec =
     slice-aggregate-take-2
     take-requires
     array-share-prefix-output
-    slice-aggregate-printed
-    printed-requires
-    returns-2
+    slice-aggregate-write-all
+    write-all-requires
     sub-turns
     loop-less
     loop-again
     slice-aggregate-end
     end-requires
     array-share-prefix-output-2
-    slice-aggregate-printed-2
-    printed-requires-2
-    returns-3)
+    slice-aggregate-write-all-2
+    write-all-requires-2
+    returns)

@@ -1,13 +1,12 @@
 -- Nobody holds the item, or each slot is looked at.
 use Prim.Native.Nat.{ℕ}
 use mathlib.Core.Path.{◌≡◌, sym, ap, ap₂, ◌∙◌, subst}
-use mathlib.Core.Logic.{⊎_elim}
 use lib.Bits.{bit_or}
 use Rattle.names.specs.Sizes.{base}
 use Rattle.rules.specs.Words.{every_below}
-use Rattle.rules.specs.Tables.{Lock, lock, have_read}
+use Rattle.rules.specs.Tables.{Lock}
 use Rattle.sets.specs.Joined.{slot_joined, hidden_word}
-use Rattle.sets.proofs.Testing.{joined_free, joined_slots, unowned}
+use Rattle.sets.proofs.Testing.{joined_free, joined_slots}
 use borrow.Author.Rules.{rules}
 use Rattle.sets.proofs.holders_joined.Statement.{statement}
 use Rattle.sets.proofs.holders_joined.Tie as tie
@@ -41,18 +40,11 @@ slots-joined-requires c κs = search rules
 returns-2 : tie.Need-returns-2
 unfolding hidden_word
 returns-2 c =
-    let a = c.before.before.before.before.before.before.before.before.before.before.before.args in
-    let t = a.txns.now in
+    let a = c.before.before.before.before.before.before.before.before.before.args in
     let m = hidden_word base a.versions.now a.item.0 in
-    let h = c.before.before.before.before.before.before.before.lock-at in
-    let k = lock a.locks.now a.item.0 in
     c.slots-joined.ensures
-    ∙ ap (λ (h : Lock). every_below base.slots (slot_joined t h (bit_or c.before.before.if2.readers m) m)) h.ensures
-    ∙ ⊎_elim
-    (λ u. ap (λ (w : ℕ). every_below base.slots (slot_joined t k (bit_or w m) m)) (u.2 ∙ u.1.ensures))
-    (λ u. unowned t k (bit_or c.before.before.if2.readers m) (bit_or (have_read base t a.item.0) m) m (sym (ap (λ (h : Lock). h.exclusive) h.ensures) ∙ u.0.left))
-    c.before.before.if2.branch
-    ∙ joined_slots t a.locks.now a.versions.now a.item.0
+    ∙ ap₂ (λ (h : Lock) (w : ℕ). every_below base.slots (slot_joined a.txns.now h (bit_or w m) m)) c.before.before.before.before.before.lock-at.ensures c.before.have-read.ensures
+    ∙ joined_slots a.txns.now a.locks.now a.versions.now a.item.0
 
 pub holders-joined-spec : {M : Type 1} → statement M
 holders-joined-spec =

@@ -1,8 +1,8 @@
--- If the slot is live, no slot below has its number: its mark is not there, or all are looked at.
+-- If the slot is live, no slot below has its number.
 use mathlib.Core.Path.{◌∙◌}
-use Rattle.rules.specs.Tables.{txn}
-use Rattle.shapes.proofs.Numbers.{free-apart, unmarked_apart, live-apart}
 use borrow.Author.Rules.{rules}
+use Rattle.rules.specs.Tables.{txn}
+use Rattle.shapes.proofs.Seeing.{free-apart, live-apart}
 use Rattle.shapes.proofs.distinct_at.Statement.{statement}
 use Rattle.shapes.proofs.distinct_at.Tie as tie
 
@@ -22,19 +22,12 @@ returns : tie.Need-returns
 unfolding txn
 returns c = free-apart c.before.before.before.args.txns.now c.before.before.before.args.slot c.if1.true
 
-shr-if2 : tie.Need-overflow-shr-if2
-shr-if2 c = search rules
-
-returns-2 : tie.Need-returns-2
-unfolding txn
-returns-2 c = let s = c.before.before.before.before in unmarked_apart s.args.txns.now s.args.slot s.args.marks s.requires.2 c.if2.true
-
 apart-requires : tie.Need-apart-requires
 apart-requires c κs = search rules
 
-returns-3 : tie.Need-returns-3
+returns-2 : tie.Need-returns-2
 unfolding txn
-returns-3 c = c.apart.ensures ∙ live-apart c.before.before.before.before.before.args.txns.now c.before.before.before.before.before.args.slot c.before.before.if1.false
+returns-2 c = c.apart.ensures ∙ live-apart c.before.before.before.before.args.txns.now c.before.before.before.before.args.slot c.before.if1.false
 
 pub distinct-at-spec : {M : Type 1} → statement M
 distinct-at-spec =
@@ -45,7 +38,5 @@ distinct-at-spec =
     mul-number-2
     shared-slice-read-number
     returns
-    shr-if2
-    returns-2
     apart-requires
-    returns-3)
+    returns-2)

@@ -1,6 +1,6 @@
 -- The test of all tables: each part that fails makes them bad, and where all others pass those past their writing decide.
 use Prim.Native.Nat.{ℕ, ◌^◌, ◌<◌}
-use mathlib.Core.Path.{◌≡◌, refl, sym, ap, ◌∙◌, subst}
+use mathlib.Core.Path.{◌≡◌, sym, ap, ◌∙◌, subst}
 use mathlib.Core.Logic.{⊎_elim}
 use mathlib.Core.Bool.{◌&&◌}
 use mathlib.Core.List.{List}
@@ -99,11 +99,8 @@ returns-7 c =
     fails _ _ _
     (λ p. false_is (sym c.before.waits-pass.ensures ∙ not-true _ c.if8.true) (and_both (awaiters_good base _ _) _ p.awaiters (and_both (ranks_good base _ _) _ p.ranks p.free)))
 
-slice-aggregate-put-in-order : tie.Need-slice-aggregate-put-in-order
-slice-aggregate-put-in-order c = search rules
-
-put-in-order-requires : tie.Need-put-in-order-requires
-put-in-order-requires c κs = (c.before.before.before.before.before.before.before.before.before.before.if1.false, refl)
+starts-in-order-requires : tie.Need-starts-in-order-requires
+starts-in-order-requires c κs = c.before.before.before.before.before.before.before.before.before.if1.false
 
 shared-slice-read-all-good : tie.Need-shared-slice-read-all-good
 shared-slice-read-all-good c = search rules
@@ -112,37 +109,37 @@ slice-aggregate-all-good : tie.Need-slice-aggregate-all-good
 slice-aggregate-all-good c = search rules
 
 all-good-requires : tie.Need-all-good-requires
-all-good-requires c κs = (c.before.before.before.before.before.before.before.before.before.before.before.before.if3.false, c.before.before.before.put-in-order.ensures.order)
+all-good-requires c κs = (c.before.before.before.before.before.before.before.before.before.before.if3.false, c.before.before.starts-in-order.ensures.order)
 
 returns-8 : tie.Need-returns-8
 returns-8 c =
-    let t = txns c.before.before.before.before.before.before.before.before.before.before.before.before.before.before in
-    let e = ap (λ (s : Seen). s.relaxed) c.before.before.before.before.before.before.before.before.before.before.before.before.before.rows.ensures in
+    let t = txns c.before.before.before.before.before.before.before.before.before.before.before.before in
+    let e = ap (λ (s : Seen). s.relaxed) c.before.before.before.before.before.before.before.before.before.before.before.rows.ensures in
     fails _ _ _
     (λ p.
-    false_is (sym (versions-are t _ _ e c.before.before.before.before.before.put-in-order.ensures c.before.all_good.ensures) ∙ not-true _ c.if9.true) p.versions)
+    false_is (sym (versions-are t _ _ e c.before.before.before.before.starts-in-order.ensures c.before.all_good.ensures) ∙ not-true _ c.if9.true) p.versions)
 
 -- and the versions
 abbrev rows-there : tie.Else9 → tie.Else3
-rows-there c = c.before.before.before.before.before.before.before.before.before.before.before.before.before.before
+rows-there c = c.before.before.before.before.before.before.before.before.before.before.before.before
 
 abbrev versions : tie.Else9 → List ℕ
 versions c = (rows-there c).before.before.before.before.before.before.args.versions.now
 
 versions-passed : (c : tie.Else9) → T (versions_test (txns (rows-there c)) (versions c))
 versions-passed c =
-    let e = ap (λ (s : Seen). s.relaxed) c.before.before.before.before.before.before.before.before.before.before.before.before.before.rows.ensures in
+    let e = ap (λ (s : Seen). s.relaxed) c.before.before.before.before.before.before.before.before.before.before.before.rows.ensures in
     true_is
-    (sym (versions-are (txns (rows-there c)) _ _ e c.before.before.before.before.before.put-in-order.ensures c.before.all_good.ensures) ∙ not-false _ c.if9.false)
+    (sym (versions-are (txns (rows-there c)) _ _ e c.before.before.before.before.starts-in-order.ensures c.before.all_good.ensures) ∙ not-false _ c.if9.false)
 
 -- the rows, where the versions passed too
 rows-still : (c : tie.Else9) → T (rows_good base (txns (rows-there c)))
-rows-still c = rows-passed c.before.before.before.before.before.before.before.before.before.before.before.before
+rows-still c = rows-passed c.before.before.before.before.before.before.before.before.before.before
 
 sets-pass-requires : tie.Need-sets-pass-requires
 sets-pass-requires c κs =
     let rows = rows-there c in
-    let seen = c.before.before.before.before.before.before.before.before.before.before.before.before.before.rows.ensures in (
+    let seen = c.before.before.before.before.before.before.before.before.before.before.before.rows.ensures in (
       rows.before.before.if1.left,
       rows.before.if2.left,
       rows.if3.left,
@@ -181,27 +178,27 @@ parts-here :
     → Parts (txns (rows-there (versions-there d))) (locks (rows-there (versions-there d))) (versions (versions-there d))
 parts-here d x =
     let c = versions-there d in
-    let t = txns c.before.before.before.before.before.before.before.before.before.before.before.before.before.before in
-    let l = locks c.before.before.before.before.before.before.before.before.before.before.before.before.before.before in
+    let t = txns c.before.before.before.before.before.before.before.before.before.before.before.before in
+    let l = locks c.before.before.before.before.before.before.before.before.before.before.before.before in
     let rows = rows-still c in
-    let held = held-passed c.before.before.before.before.before.before.before.before.before.before in
-    let can = readable-here c.before.before.before.before.before.before.before.before.before.before in
-    let e = ap (λ (s : Seen). s.waiting) c.before.before.before.before.before.before.before.before.before.before.before.before.before.rows.ensures in
+    let held = held-passed c.before.before.before.before.before.before.before.before in
+    let can = readable-here c.before.before.before.before.before.before.before.before in
+    let e = ap (λ (s : Seen). s.waiting) c.before.before.before.before.before.before.before.before.before.before.before.rows.ensures in
     let waits : T (awaiters_good base t l && (ranks_good base t l && no_circle base t l)) =
     ⊎_elim
     (λ w. true_is (sym w.1.ensures ∙ not-false _ w.2.left))
     (λ w.
     let none : Awaiting t 0 = subst (λ (u : ℕ). Awaiting t u) (sym e ∙ w.left) (awaiting t rows) in
     and_both (awaiters_good base t l) _ (none_awaits t l can none) (and_both (ranks_good base t l) _ (none_ranked t l can none) (none_circles t l can none)))
-    c.before.before.before.before.before.before.before.if7.came in
+    c.before.before.before.before.before.if7.came in
     record {
-      txns_exact = c.before.before.before.before.before.before.before.before.before.before.before.before.before.before.before.before.if1.left;
-      locks_exact = c.before.before.before.before.before.before.before.before.before.before.before.before.before.before.before.if2.left;
-      versions_exact = c.before.before.before.before.before.before.before.before.before.before.before.before.before.before.if3.left;
+      txns_exact = c.before.before.before.before.before.before.before.before.before.before.before.before.before.before.if1.left;
+      locks_exact = c.before.before.before.before.before.before.before.before.before.before.before.before.before.if2.left;
+      versions_exact = c.before.before.before.before.before.before.before.before.before.before.before.before.if3.left;
       rows = rows;
       locks = and_left (locks_good base t l) _ held;
       quotas = and_right (locks_good base t l) _ held;
-      numbers = true_is (sym c.before.before.before.before.before.before.before.before.before.distinct.ensures ∙ not-false _ c.before.before.before.before.before.before.before.before.if6.left);
+      numbers = true_is (sym c.before.before.before.before.before.before.before.distinct.ensures ∙ not-false _ c.before.before.before.before.before.before.if6.left);
       awaiters = and_left (awaiters_good base t l) _ waits;
       ranks = and_left (ranks_good base t l) _ (and_right (awaiters_good base t l) _ waits);
       free = and_right (ranks_good base t l) _ (and_right (awaiters_good base t l) _ waits);
@@ -215,7 +212,7 @@ returns-10 : tie.Need-returns-10
 returns-10 c =
     let d = versions-there c.before in
     let G = tables (txns (rows-there d)) (locks (rows-there d)) (versions d) in
-    let x = none_stamped G (sym (ap (λ (s : Seen). s.settled) d.before.before.before.before.before.before.before.before.before.before.before.before.before.rows.ensures) ∙ c.if11.true) in
+    let x = none_stamped G (sym (ap (λ (s : Seen). s.settled) d.before.before.before.before.before.before.before.before.before.before.before.rows.ensures) ∙ c.if11.true) in
     decides _ _ _ (sym (is_true (settled_good base G) x)) (parts-here c.before)
 
 stamps-pass-requires : tie.Need-stamps-pass-requires
@@ -224,7 +221,7 @@ stamps-pass-requires c κs =
     let rows = rows-there d in (
       record {
         txns_exact = rows.before.before.if1.left;
-        seen = ap (λ (s : Seen). s.settled) d.before.before.before.before.before.before.before.before.before.before.before.before.before.rows.ensures;
+        seen = ap (λ (s : Seen). s.settled) d.before.before.before.before.before.before.before.before.before.before.before.rows.ensures;
       },
       record {
         locks_exact = rows.before.if2.left;
@@ -251,8 +248,7 @@ good-spec =
     returns-6
     waits-pass-requires
     returns-7
-    slice-aggregate-put-in-order
-    put-in-order-requires
+    starts-in-order-requires
     shared-slice-read-all-good
     slice-aggregate-all-good
     all-good-requires

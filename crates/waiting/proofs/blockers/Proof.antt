@@ -14,26 +14,26 @@ lock-at-requires : tie.Need-lock-at-requires
 lock-at-requires c κs = search rules
 
 holders-requires : tie.Need-holders-requires
-holders-requires c κs = let a = c.before.before.before.before.before.args in
-    let p = c.before.before.before.before.before.requires in (
-      subst (λ (n : ℕ). n < 2 ^ base.slots) (sym (ap (λ (h : Lock). h.shared) c.lock-at.ensures)) (shared-small a.txns.now a.locks.now p.0 a.item.0 p.2),
-      subst (λ (n : ℕ). n ≤ base.slots) (sym (ap (λ (h : Lock). h.exclusive) c.lock-at.ensures)) (exclusive-small a.txns.now a.locks.now p.0 a.item.0 p.2),
+holders-requires c κs = let a = c.before.before.before.args in
+    let p = c.before.before.before.requires in (
+      subst (λ (n : ℕ). n < 2 ^ base.slots) (sym (ap (λ (h : Lock). h.shared) c.lock-at.ensures)) (shared-small a.txns.now a.locks.now p.0 a.item.0 p.1),
+      subst (λ (n : ℕ). n ≤ base.slots) (sym (ap (λ (h : Lock). h.exclusive) c.lock-at.ensures)) (exclusive-small a.txns.now a.locks.now p.0 a.item.0 p.1),
     )
 
-first-requires : tie.Need-first-requires
-first-requires c κs = search rules
+ahead-requires : tie.Need-ahead-requires
+ahead-requires c κs = search rules
 
 shl-result : tie.Need-overflow-shl-result
 shl-result c = search rules
 
 returns : tie.Need-returns
-returns c = let a = c.before.before.before.before.before.before.before.before.args in
+returns c = let a = c.before.before.before.before.before.before.args in
     let h = c.before.before.before.lock-at in
     let v = c.before.before.holders in
-    blockers-of a.txns.now a.locks.now a.wanted a.item.0 a.rank a.slot.0 v.result c.before.first.result c.before.before.before.before.before.before.before.before.requires.3
+    blockers-of a.txns.now a.locks.now a.wanted a.item.0 a.rank a.slot.0 v.result c.before.ahead.result c.before.before.before.before.before.before.requires.2
     (subst (λ (o : Lock). Holders o a.wanted v.result) h.ensures (v.ensures h.result.working))
-    c.before.first.ensures
+    c.before.ahead.ensures
 
 pub blockers-spec : {M : Type 1} → statement M
 blockers-spec =
-    tie.close (tie.spec lock-at-requires holders-requires first-requires shl-result returns)
+    tie.close (tie.spec lock-at-requires holders-requires ahead-requires shl-result returns)

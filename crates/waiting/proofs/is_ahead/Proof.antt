@@ -1,6 +1,6 @@
 -- Three words of a row say whether it stands ahead.
-use borrow.Author.Tests.{eq-eqb, ne_eqb}
-use Rattle.rules.specs.Tables.{txn, no_lock}
+use mathlib.Core.Path.{refl}
+use Rattle.rules.specs.Tables.{txn}
 use Rattle.rules.specs.Waits.{ahead, awaits_on, awaits}
 use borrow.Author.Rules.{rules}
 use Rattle.waiting.proofs.is_ahead.Statement.{statement}
@@ -21,10 +21,6 @@ mul-lock c = search rules
 shared-slice-read-lock : tie.Need-shared-slice-read-lock
 shared-slice-read-lock c = search rules
 
-returns : tie.Need-returns
-unfolding ahead awaits_on awaits txn
-returns c = rw (eq-eqb _ no_lock c.if1.true)
-
 add-awaited : tie.Need-overflow-add-awaited
 add-awaited c = search rules
 
@@ -43,9 +39,9 @@ mul-place c = search rules
 shared-slice-read-place : tie.Need-shared-slice-read-place
 shared-slice-read-place c = search rules
 
-returns-2 : tie.Need-returns-2
+returns : tie.Need-returns
 unfolding ahead awaits_on awaits txn
-returns-2 c = rw (ne_eqb _ no_lock c.before.before.if1.false)
+returns c = refl
 
 pub is-ahead-spec : {M : Type 1} → statement M
 is-ahead-spec =
@@ -56,11 +52,10 @@ is-ahead-spec =
     add-lock
     mul-lock
     shared-slice-read-lock
-    returns
     add-awaited
     mul-awaited
     shared-slice-read-awaited
     add-place
     mul-place
     shared-slice-read-place
-    returns-2)
+    returns)

@@ -13,19 +13,19 @@ use Rattle.starts.specs.Ordered.{InOrder}
 use Rattle.endings.proofs.Queries.{relaxed-showing, relaxed_reveals}
 
 -- where the starts of those who stay are known: the tables as they came, and the transactions that are left
-abbrev G : tie.After-put-in-order → Tables
-G c = let f = c.before.before.before.before.before.before.before.before.before.before.before.before.before in tables f.args.txns.now f.requires.0.locks f.args.versions.now
+abbrev G : tie.After-starts-in-order → Tables
+G c = let f = c.before.before.before.before.before.before.before.before.before.before.before.before in tables f.args.txns.now f.requires.0.locks f.args.versions.now
 
-abbrev slot : tie.After-put-in-order → ℕ
-slot c = c.before.before.before.before.before.before.before.before.before.before.before.before.before.args.query.0
+abbrev slot : tie.After-starts-in-order → ℕ
+slot c = c.before.before.before.before.before.before.before.before.before.before.before.before.args.query.0
 
-left_is : (c : tie.After-put-in-order) → c.before.before.before.before.before.leave.new.0 ≡ set_txn (forgotten base (slot c) (G c).txns) (slot c) no_txn
+left_is : (c : tie.After-starts-in-order) → c.before.before.before.before.leave.new.0 ≡ set_txn (forgotten base (slot c) (G c).txns) (slot c) no_txn
 left_is c =
-    c.before.before.before.before.before.leave.ensures
-    ∙ ap (λ (t : List ℕ). set_txn t (slot c) no_txn) c.before.before.before.before.before.before.before.before.before.forget.ensures
+    c.before.before.before.before.leave.ensures
+    ∙ ap (λ (t : List ℕ). set_txn t (slot c) no_txn) c.before.before.before.before.before.before.before.before.forget.ensures
 
-ordered : (c : tie.After-put-in-order) → InOrder (starts base (set_txn (forgotten base (slot c) (G c).txns) (slot c) no_txn)) c.put-in-order.new.1.0
-ordered c = subst (λ (t : List ℕ). InOrder (starts base t) c.put-in-order.new.1.0) (left_is c) c.put-in-order.ensures
+ordered : (c : tie.After-starts-in-order) → InOrder (starts base (set_txn (forgotten base (slot c) (G c).txns) (slot c) no_txn)) c.starts-in-order.result
+ordered c = subst (λ (t : List ℕ). InOrder (starts base t) c.starts-in-order.result) (left_is c) c.starts-in-order.ensures
 
 forget-requires : tie.Need-forget-requires
 forget-requires c κs = search rules
@@ -33,19 +33,16 @@ forget-requires c κs = search rules
 leave-requires : tie.Need-leave-requires
 leave-requires c κs = search rules
 
-slice-aggregate-put-in-order : tie.Need-slice-aggregate-put-in-order
-slice-aggregate-put-in-order c = search rules
-
-put-in-order-requires : tie.Need-put-in-order-requires
-put-in-order-requires c κs = search rules
+starts-in-order-requires : tie.Need-starts-in-order-requires
+starts-in-order-requires c κs = search rules
 
 slice-aggregate-reveal-all : tie.Need-slice-aggregate-reveal-all
 slice-aggregate-reveal-all c = search rules
 
 reveal-all-requires : tie.Need-reveal-all-requires
 reveal-all-requires c κs =
-    let at = c.before.before.before in
-    let p = at.before.before.before.before.before.before.before.before.before.before.before.before.before.requires in
+    let at = c.before.before in
+    let p = at.before.before.before.before.before.before.before.before.before.before.before.before.requires in
     relaxed_reveals (G at) p.0.good (slot at) p.1 p.2 _ (ordered at)
 
 same_length : tie.Need-same-length
@@ -56,8 +53,8 @@ same-length-2 c = search rules
 
 returns : tie.Need-returns
 returns c =
-    let at = c.before.before.before.before.before.before in
-    let p = at.before.before.before.before.before.before.before.before.before.before.before.before.before.requires in
+    let at = c.before.before.before.before.before in
+    let p = at.before.before.before.before.before.before.before.before.before.before.before.before.requires in
     record {
       txns = left_is at;
       versions = c.before.before.reveal-all.ensures _ (relaxed-showing (G at) p.0.good (slot at) p.1 p.2 _ (ordered at));
@@ -69,8 +66,7 @@ relaxed-leaves-spec =
     (tie.spec
     forget-requires
     leave-requires
-    slice-aggregate-put-in-order
-    put-in-order-requires
+    starts-in-order-requires
     slice-aggregate-reveal-all
     reveal-all-requires
     same_length

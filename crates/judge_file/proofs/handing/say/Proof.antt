@@ -15,11 +15,11 @@ line-requires c κs = search rules
 array-share-prefix-out : tie.Need-array-share-prefix-out
 array-share-prefix-out c = search rules
 
-slice-aggregate-printed : tie.Need-slice-aggregate-printed
-slice-aggregate-printed c = sym (length-take-le _ _ (omega (arith, c.before.before.line.ensures.0, c.before.out2.given)))
+slice-aggregate-write-all : tie.Need-slice-aggregate-write-all
+slice-aggregate-write-all c = sym (length-take-le _ _ (omega (arith, c.before.before.line.ensures.0, c.before.out2.given)))
 
-printed-requires : tie.Need-printed-requires
-printed-requires c κs = search rules
+write-all-requires : tie.Need-write-all-requires
+write-all-requires c κs = search rules
 
 returns : tie.Need-returns
 returns c = search rules
@@ -31,6 +31,6 @@ say-spec =
     slice-aggregate-line
     line-requires
     array-share-prefix-out
-    slice-aggregate-printed
-    printed-requires
+    slice-aggregate-write-all
+    write-all-requires
     returns)

@@ -1,5 +1,9 @@
 -- The first count, and then the second.
-use Rattle.std.proofs.Common.{◌≡◌, ℕ, ◌<◌, ◌≤◌, List, ap, ◌∙◌, arith, rules}
+use Prim.Native.Nat.{ℕ, ◌≤◌, ◌<◌}
+use mathlib.Core.Path.{◌≡◌, ap, ◌∙◌}
+use mathlib.Core.List.{List}
+use native.Mathlib.Omega.{arith}
+use borrow.Author.Rules.{rules}
 use Rattle.journal.specs.Words.{word_size, word_at}
 use Rattle.journal.specs.Format.{call_count, answer_count}
 use Rattle.judging.specs.Counted.{part}

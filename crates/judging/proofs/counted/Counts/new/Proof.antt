@@ -1,5 +1,5 @@
 -- A file has room for two counts, or is short.
-use Rattle.std.proofs.Common.{rules}
+use borrow.Author.Rules.{rules}
 use Rattle.judging.proofs.Counting.{too_short, born}
 use Rattle.judging.proofs.counted.Counts.new.Statement.{statement}
 use Rattle.judging.proofs.counted.Counts.new.Tie as tie

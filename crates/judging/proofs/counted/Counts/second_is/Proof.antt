@@ -1,5 +1,5 @@
 -- Both counts are known.
-use Rattle.std.proofs.Common.{refl}
+use mathlib.Core.Path.{refl}
 use Rattle.judging.proofs.Counting.{both}
 use Rattle.judging.proofs.counted.Counts.second_is.Statement.{statement}
 use Rattle.judging.proofs.counted.Counts.second_is.Tie as tie

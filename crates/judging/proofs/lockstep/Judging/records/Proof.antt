@@ -1,6 +1,8 @@
 -- A piece of the calls and of the answers, from the tables that the pieces before it left.
-use Rattle.std.proofs.Common.{ℕ, ◌-◌, refl, ap, rules}
+use Prim.Native.Nat.{ℕ, ◌-◌}
+use mathlib.Core.Path.{refl, ap}
 use Rattle.judging.proofs.Seeing.{next}
+use borrow.Author.Rules.{rules}
 use Rattle.judging.proofs.lockstep.Judging.records.Statement.{statement}
 use Rattle.judging.proofs.lockstep.Judging.records.Tie as tie
 
@@ -22,22 +24,14 @@ next-piece-requires c κs = search rules
 sub-rest : tie.Need-overflow-sub-rest
 sub-rest c = search rules
 
-wrapping-add-u64-requires : tie.Need-wrapping-add-u64-requires
-wrapping-add-u64-requires c κs = search rules
-
-wrapping-add-u64-requires-2 : tie.Need-wrapping-add-u64-requires-2
-wrapping-add-u64-requires-2 c κs = search rules
-
 returns : tie.Need-returns
 returns c =
-    let n = c.before.before in
-    let p = n.before.before.before.before in
+    let p = c.before.before.before.before in
     let s = p.before.before.before.before.before.before.before.before.before.before in
-    let a = s.args in
-    let fewer = ap (λ (k : ℕ). a.self.left - k) n.next-piece.ensures in (
-      fewer,
+    let a = s.args in (
+      ap (λ (k : ℕ). a.self.left - k) c.next-piece.ensures,
       λ file h pc pr.
-          next file a.self h a.calls.now a.answers.now _ refl fewer s.requires.0 s.requires.1 c.before.wrapping-add-u64.ensures c.wrapping-add-u642.ensures p.piece.ensures pc pr,
+          next file a.self h a.calls.now a.answers.now _ refl (ap (λ (k : ℕ). a.self.left - k) c.next-piece.ensures) s.requires.0 s.requires.1 p.piece.ensures pc pr,
     )
 
 pub records-spec : {M : Type 1} → statement M
@@ -50,6 +44,4 @@ records-spec =
     piece-requires
     next-piece-requires
     sub-rest
-    wrapping-add-u64-requires
-    wrapping-add-u64-requires-2
     returns)

@@ -1,2 +1,0 @@
--- The places of a file.
-pub mod Places

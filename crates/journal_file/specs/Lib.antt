@@ -1,2 +1,0 @@
--- What is known of a file that was begun.
-pub mod Begun

@@ -1,2 +1,0 @@
--- Call after call, the nodes of all calls are kept.
-pub mod Listing

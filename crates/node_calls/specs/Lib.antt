@@ -1,2 +1,0 @@
--- The calls of a piece of a journal.
-pub mod Calls

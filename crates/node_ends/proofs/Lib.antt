@@ -1,4 +1,0 @@
--- Rows as they were read, and who becomes a node.
-pub mod Found
-pub mod Ending
-pub mod Listing

@@ -1,2 +1,0 @@
--- From fresh tables, piece after piece.
-pub mod Running

@@ -1,2 +1,0 @@
--- What a run that is made again keeps.
-pub mod Ran

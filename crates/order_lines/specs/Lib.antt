@@ -1,2 +1,0 @@
--- What stands in the buffer.
-pub mod Put

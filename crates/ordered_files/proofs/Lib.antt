@@ -1,2 +1,0 @@
--- Of every file, and of the journal of every run.
-pub mod Orders

@@ -1,2 +1,0 @@
--- How the machine keeps to a file.
-pub mod Life

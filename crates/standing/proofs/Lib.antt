@@ -1,3 +1,0 @@
--- Laws of those who wait, told apart.
-pub mod Sorting
-pub mod Adding

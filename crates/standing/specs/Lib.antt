@@ -1,2 +1,0 @@
--- Who waits, told apart.
-pub mod Told

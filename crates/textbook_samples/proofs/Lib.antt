@@ -1,2 +1,0 @@
--- What the graph of small runs is.
-pub mod Passes

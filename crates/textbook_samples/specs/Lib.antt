@@ -1,2 +1,0 @@
--- Small runs on which the graph of the textbooks is computed.
-pub mod Samples
