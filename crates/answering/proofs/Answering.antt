@@ -77,8 +77,8 @@ pub record Going (piece : List ℕ) (h₀ : Held) (out₀ : List ℕ) (h : Held)
   pub after : left h (drop at piece) ≡ left h₀ piece
   pub put : Putting (answers_in h₀ piece) (answers_in h (drop at piece)) out₀ out used
 
-pub going-first : (piece : List ℕ) (h : Held) (out : List ℕ) → numbers h ≤ most_numbers → Going piece h out h out 0 0
-going-first piece h out n =
+pub going_first : (piece : List ℕ) (h : Held) (out : List ℕ) → numbers h ≤ most_numbers → Going piece h out h out 0 0
+going_first piece h out n =
     record { within = omega arith; small = omega (arith, n); size = refl; after = refl; put = putting_first (answers_in h piece) out }
 
 module _ {piece : List ℕ} {h₀ : Held} {out₀ : List ℕ} {h : Held} {out : List ℕ} {used at : ℕ}
@@ -118,9 +118,9 @@ module _ {piece : List ℕ} {h₀ : Held} {out₀ : List ℕ} {h : Held} {out : 
       unfolding found_by
       line-unended = gather-unended (drop at piece) h (held_by words r.scan) (rw all at (sym g.found) ∙ rw e refl)
 
-      pub going-past : Going piece h₀ out₀ (held_by words r.scan) out used (length piece)
+      pub going_past : Going piece h₀ out₀ (held_by words r.scan) out used (length piece)
       unfolding answers_in left
-      going-past =
+      going_past =
           let l = line-unended in
           let past : drop (length piece) piece ≡ [] = drop_of_length-le piece {i = length piece} (omega arith) in
           record {

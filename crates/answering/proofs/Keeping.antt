@@ -11,9 +11,9 @@ use Rattle.case_lines.specs.Answers.{answer_at_end}
 use Rattle.answering.specs.Life.{answers_at_end}
 
 -- a line that is begun is answered
-pub last-answered : (h : Held) {out m : List ℕ} {used : ℕ} → begun h ≡ true → Wrote out 0 (answer_at_end h) m used → take used m ≡ answers_at_end h
+pub last_answered : (h : Held) {out m : List ℕ} {used : ℕ} → begun h ≡ true → Wrote out 0 (answer_at_end h) m used → take used m ≡ answers_at_end h
 unfolding answers_at_end
-last-answered h t w = front w ∙ rw t
+last_answered h t w = front w ∙ rw t
 
 -- where none is begun, nothing is put out
 pub none_answered : (h : Held) (out : List ℕ) → begun h ≡ false → take 0 out ≡ answers_at_end h

@@ -10,7 +10,7 @@ use Rattle.names.specs.declared.Slot.{Slot}
 use Rattle.names.specs.declared.Item.{Item}
 use Rattle.names.specs.declared.ItemOf.TheVariants.{Known, Unknown}
 use Rattle.rules.specs.Tables.{Tables, txn, slot_of, shared_lock, exclusive_lock, an_update, query_kind}
-use Rattle.rules.specs.Locks.{to_read, toWrite}
+use Rattle.rules.specs.Locks.{to_read, to_write}
 use Rattle.rules.specs.Answers.{Refused, UnknownTransaction, UnknownItem, QueryMayNotWrite, StillWaiting, QuotaSpent, PastWriting}
 use Rattle.rules.specs.Step.{read_by, write_by, access, start_read, awaits_other, writes_further, writes_past}
 use Rattle.rows.specs.Founds.{found_at}
@@ -102,7 +102,7 @@ module _ (G : Tables) (n x : ℕ) where
                     further_is ∙ q,
                   )
 
-              pub write-asks : r ≡ false → access base toWrite s.0 y.0 v G ≡ write_by base n x v G
+              pub write-asks : r ≡ false → access base to_write s.0 y.0 v G ≡ write_by base n x v G
               unfolding write_by
               write-asks q =
                   rw (

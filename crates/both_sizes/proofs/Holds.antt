@@ -6,9 +6,9 @@ use Rattle.rules.specs.Tables.{lock, holds_shared}
 use Rattle.rules.proofs.Bits.{below_bits}
 use Rattle.rules.proofs.Fresh.{fresh-good}
 use Rattle.rules.proofs.Keeps.{keeps}
-use Rattle.rules.proofs.Answered.{code-exactly}
+use Rattle.rules.proofs.Answered.{code_exactly}
 use Rattle.rules.proofs.Outcomes.{granted-changes}
-use Rattle.rules.proofs.Queries.{version-read, ended_trims, committed_trims, settled_trims_lem}
+use Rattle.rules.proofs.Queries.{version_read, ended_trims, committed_trims, settled_trims_lem}
 use Rattle.history.proofs.Demand.{demand_3_sizes, reads_sizes, beside_sizes, relaxed_sizes, weighed_sizes}
 use Rattle.line.proofs.Served.{served_in_runs}
 use Rattle.plays.specs.Plays.{AllPass}
@@ -25,10 +25,10 @@ facts S e =
     record {
       fresh_good = fresh-good S e.room;
       stays_good = keeps S e.places;
-      codes = code-exactly S;
+      codes = code_exactly S;
       changes = granted-changes S e.places;
       holders = holders_fit S;
-      looked = version-read S;
+      looked = version_read S;
       end_trims = ended_trims S e.places;
       commit_trims = committed_trims S e.places;
       settled_trims = settled_trims_lem S e.places;

@@ -11,7 +11,7 @@ use Rattle.rules.specs.Words.{some_below}
 use Rattle.rules.specs.Tables.{txn, live_settled, lock, holds_exclusive}
 use Rattle.rules.specs.Step.{holds_back, held_back}
 use Rattle.rules.proofs.Tests.{and_left, and_right, and_both, is_false, eq_make, ne_make, ne_use, iff_eq}
-use Rattle.rules.proofs.Counts.{someBelow→, →someBelow}
+use Rattle.rules.proofs.Counts.{some_below→, →some_below}
 
 module _ (t l : List ℕ) (x s : ℕ) where
   abbrev test : ℕ → Bool
@@ -34,7 +34,7 @@ module _ (t l : List ℕ) (x s : ℕ) where
   unfolding held_back
   back_none d =
       sym (is_false (some_below base.slots (holds_back t l x s)) (λ h.
-      let w = someBelow→ base.slots (holds_back t l x s) h in
+      let w = some_below→ base.slots (holds_back t l x s) h in
       let k = says w.0 w.2 in
       d w.0 w.1 k.0 k.1 k.2))
 
@@ -45,9 +45,9 @@ module _ (t l : List ℕ) (x s : ℕ) where
   back_one b i d e k =
       iff_eq (leb (txn t b).start (txn t s).start) (some_below base.slots (holds_back t l x s))
       (λ h.
-      →someBelow base.slots (holds_back t l x s) b i
+      →some_below base.slots (holds_back t l x s) b i
       (and_both (not (eqb s b)) _ (ne_make s b d) (and_both (eqb (lock l x).exclusive (suc b)) _ (eq_make (lock l x).exclusive (suc b) e) (and_both (live_settled (txn t b)) _ k h))))
       (λ h.
-      let w = someBelow→ base.slots (holds_back t l x s) h in
+      let w = some_below→ base.slots (holds_back t l x s) h in
       let m = says w.0 w.2 in
       subst (λ (n : ℕ). T (leb (txn t n).start (txn t s).start)) (let z = m.1 in let q : w.0 ≡ b = omega arith in q) m.3)

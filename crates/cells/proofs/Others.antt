@@ -12,9 +12,9 @@ use Rattle.rules.specs.Words.{bit, some_below, without_bit}
 use Rattle.rules.specs.Tables.{tables, txn, Lock, lock, holds_shared, holds_exclusive}
 use Rattle.rules.specs.Good.{Good}
 use Rattle.rules.specs.Waits.{awaits_on, ahead, rank_for}
-use Rattle.rules.specs.Locks.{Asked, to_read, toWrite, Held, exclusively, sharing, nothing, wanted, decide, another_shares, another_excludes, another_ahead}
+use Rattle.rules.specs.Locks.{Asked, to_read, to_write, Held, exclusively, sharing, nothing, wanted, decide, another_shares, another_excludes, another_ahead}
 use Rattle.rules.proofs.Tests.{and_left, and_right, and_both, ne_make, ne_use, eq_make, is_false, false_is}
-use Rattle.rules.proofs.Counts.{someBelow→, →someBelow}
+use Rattle.rules.proofs.Counts.{some_below→, →some_below}
 use Rattle.rules.proofs.Bits.{bit_none, bit_below, below_power, one_bit_at, without_bit_here, without_bit_there}
 use Rattle.words.proofs.SlotWords.{has_bit, sans_at, shifted, one_shifted}
 use Rattle.words.proofs.Turns.{iff_eq}
@@ -43,12 +43,12 @@ module _ (h : Lock) (s : ℕ) (k : SlotsOnly h) where
           let b : ℕ = r.0 in
           let d = other b r.2 in
           let f : T (bit h.shared b) = subst T (without_bit_there h.shared s b (λ e. d (sym e))) r.2 in
-          →someBelow base.slots (λ b. not (eqb s b) && bit h.shared b) b (bit_below h.shared b base.slots k.shared f)
+          →some_below base.slots (λ b. not (eqb s b) && bit h.shared b) b (bit_below h.shared b base.slots k.shared f)
           (and_both (not (eqb s b)) _ (ne_make s b d) f)
 
       back : T (another_shares base h s) → T (not (eqb w 0))
       back t =
-          let r = someBelow→ base.slots (λ b. not (eqb s b) && bit h.shared b) t in
+          let r = some_below→ base.slots (λ b. not (eqb s b) && bit h.shared b) t in
           let b : ℕ = r.0 in
           let d = ne_use s b (and_left (not (eqb s b)) _ r.2) in
           let f = and_right (not (eqb s b)) _ r.2 in
@@ -64,7 +64,7 @@ module _ (h : Lock) (s : ℕ) (k : SlotsOnly h) where
       some zero q n d = absurd (n refl)
       some (suc b) q n d =
           let l = k.exclusive in
-          →someBelow base.slots (λ b. not (eqb s b) && eqb h.exclusive (suc b)) b (omega arith)
+          →some_below base.slots (λ b. not (eqb s b) && eqb h.exclusive (suc b)) b (omega arith)
           (and_both (not (eqb s b)) _ (ne_make s b (λ e. d (omega arith))) (eq_make h.exclusive (suc b) q))
 
       forth : T (not (eqb h.exclusive 0) && not (eqb h.exclusive (s + 1))) → T (another_excludes base h s)
@@ -74,18 +74,18 @@ module _ (h : Lock) (s : ℕ) (k : SlotsOnly h) where
 
       back : T (another_excludes base h s) → T (not (eqb h.exclusive 0) && not (eqb h.exclusive (s + 1)))
       back t =
-          let r = someBelow→ base.slots (λ b. not (eqb s b) && eqb h.exclusive (suc b)) t in
+          let r = some_below→ base.slots (λ b. not (eqb s b) && eqb h.exclusive (suc b)) t in
           let b : ℕ = r.0 in
           let d = ne_use s b (and_left (not (eqb s b)) _ r.2) in
           let e : h.exclusive ≡ suc b = eqb→eq h.exclusive (suc b) (and_right (not (eqb s b)) _ r.2) in
           and_both (not (eqb h.exclusive 0)) _ (ne_make h.exclusive 0 (λ z. omega arith)) (ne_make h.exclusive (s + 1) (λ z. d (omega arith)))
 
 -- an earlier waiter besides s
-pub ahead-is :
+pub ahead_is :
     (t l : List ℕ) (k x s w : ℕ) → s < base.slots → Ahead t k x (rank_for base t l s x) w
     → not (eqb (bit_xor w (bit_and w (one_shifted s))) 0) ≡ another_ahead base t l k x s
 unfolding another_ahead
-ahead-is t l k x s w i h = rw (shifted s (omega arith)) (iff_eq (not (eqb v 0)) (some_below base.slots p) forth back)
+ahead_is t l k x s w i h = rw (shifted s (omega arith)) (iff_eq (not (eqb v 0)) (some_below base.slots p) forth back)
   where
     v : ℕ
     v = bit_xor w (bit_and w (2 ^ s))
@@ -99,12 +99,12 @@ ahead-is t l k x s w i h = rw (shifted s (omega arith)) (iff_eq (not (eqb v 0)) 
         let b : ℕ = r.0 in
         let f = subst T (sans_at w (2 ^ s) b) r.2 in
         let g = and_left (bit w b) _ f in
-        →someBelow base.slots p b (bit_below w b base.slots h.small g)
+        →some_below base.slots p b (bit_below w b base.slots h.small g)
         (and_both (not (eqb s b)) _ (subst (λ (c : Bool). T (not c)) (one_bit_at s b) (and_right (bit w b) _ f)) (subst T (h.at b) g))
 
     back : T (some_below base.slots p) → T (not (eqb v 0))
     back u =
-        let r = someBelow→ base.slots p u in
+        let r = some_below→ base.slots p u in
         let b : ℕ = r.0 in
         let f : T (bit v b) =
         subst T (sym (sans_at w (2 ^ s) b))
@@ -117,10 +117,10 @@ unfolding somebody_on another_ahead ahead
 none_ahead t l k x s e =
     is_false (another_ahead base t l k x s)
     (λ u.
-    let r = someBelow→ base.slots (λ b. not (eqb s b) && ahead x k (rank_for base t l s x) (txn t b)) u in
+    let r = some_below→ base.slots (λ b. not (eqb s b) && ahead x k (rank_for base t l s x) (txn t b)) u in
     let b : ℕ = r.0 in
     false_is e
-    (→someBelow base.slots (λ b. awaits_on x (txn t b)) b r.1 (and_left (awaits_on x (txn t b)) _ (and_right (not (eqb s b)) _ r.2))))
+    (→some_below base.slots (λ b. awaits_on x (txn t b)) b r.1 (and_left (awaits_on x (txn t b)) _ (and_right (not (eqb s b)) _ r.2))))
 
 -- ---- who needs no further lock
 pub needs_is : (a h : ℕ) → a < 2 → h < 3 → (not (eqb h 0) && (not (eqb h 1) || eqb a 1)) ≡ needs_lock (asked_of a) (held_of h)
@@ -138,11 +138,11 @@ needs_is (suc (suc a)) h i j = absurd (omega arith)
 pub no_line : (a : Asked) (h : Held) (s e r : Bool) → needs_lock a h ≡ false → decide a h s e false ≡ decide a h s e r
 unfolding decide
 no_line to_read exclusively s e r n = refl
-no_line toWrite exclusively s e r n = refl
+no_line to_write exclusively s e r n = refl
 no_line to_read sharing s e r n = refl
-no_line toWrite sharing s e r n = absurd (false_is n tt)
+no_line to_write sharing s e r n = absurd (false_is n tt)
 no_line to_read nothing s e r n = absurd (false_is n tt)
-no_line toWrite nothing s e r n = absurd (false_is n tt)
+no_line to_write nothing s e r n = absurd (false_is n tt)
 
 -- ---- on good tables
 pub lock_slots : (t l v : List ℕ) → Good base (tables t l v) → (x : ℕ) → x < base.items → SlotsOnly (lock l x)

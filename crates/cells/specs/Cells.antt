@@ -2,12 +2,12 @@
 use Rattle.std.specs.Prelude.{ℕ, zero, suc, ◌^◌, ◌≤◌, ◌<◌, Bool, true, false}
 use Rattle.names.specs.Sizes.{base}
 use Rattle.rules.specs.Tables.{Lock}
-use Rattle.rules.specs.Locks.{Asked, to_read, toWrite, Held, exclusively, sharing, nothing}
+use Rattle.rules.specs.Locks.{Asked, to_read, to_write, Held, exclusively, sharing, nothing}
 
 -- 0 asks to read, 1 to write
 abbrev pub asked_of : ℕ → Asked
 asked_of zero = to_read
-asked_of (suc n) = toWrite
+asked_of (suc n) = to_write
 
 -- 0 holds exclusively, 1 shares, 2 holds nothing
 abbrev pub held_of : ℕ → Held
@@ -19,7 +19,7 @@ held_of (suc (suc n)) = nothing
 abbrev pub needs_lock : Asked → Held → Bool
 needs_lock a exclusively = false
 needs_lock to_read sharing = false
-needs_lock toWrite sharing = true
+needs_lock to_write sharing = true
 needs_lock a nothing = true
 
 -- a lock whose holders are slots

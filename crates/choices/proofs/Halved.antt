@@ -14,7 +14,7 @@ use Rattle.rules.specs.Words.{row, bit}
 use Rattle.rules.specs.Tables.{version_row, masks_at, Reader, up_to, outside}
 use Rattle.rules.specs.Versions.{Version, no_version, versions_in, versions_of, sees, place, hidden_now}
 use Rattle.rules.proofs.Tests.{true_is, false_is, and_both, eq_make, not_make, not_use}
-use Rattle.rules.proofs.Choice.{Falls, Nests, length-versions_in, older-seen, place-fits}
+use Rattle.rules.proofs.Choice.{Falls, Nests, length-versions_in, older_seen, place-fits}
 use Rattle.rules.proofs.Reading.{place_is}
 use Rattle.rules.proofs.Rows.{row_word}
 use Rattle.choices.specs.Pairs.{count_in, stamp_in, hidden_in}
@@ -47,7 +47,7 @@ module _ (r : List ℕ) (q : Reader) (f : ChoosableIn r q) where
   -- who may read a version may read the older ones
   older : (i j : ℕ) → i ≤ j → j < count_in r → T (sees q (at r i)) → T (sees q (at r j))
   unfolding Falls Nests
-  older i j l h = older-seen (versions_in base r) f.sound.fall f.sound.nest q i j l (omega (arith, length-versions_in base r))
+  older i j l h = older_seen (versions_in base r) f.sound.fall f.sound.nest q i j l (omega (arith, length-versions_in base r))
 
   -- at first these are all places: the last version is the oldest, so whoever finds one may read it
   pub begin : Halved r q 0 (count_in r - 1)
@@ -132,9 +132,9 @@ shown_to_lem r s k h d =
     subst T (sym (seen-outside r k s h)) (not_make (bit (hidden_in r k) s) (λ t. d (eqb→eq (hidden_in r k / 2 ^ s % 2) 1 t)))
 
 -- the loop ends where one place is left, or no look: then too one place is left
-pub looked-enough :
+pub looked_enough :
     (lo hi looks : ℕ) → halvings base.places (hi - lo) + looks ≤ most_looks → (ltb lo hi && ltb looks most_looks) ≡ false → hi ≤ lo
-looked-enough lo hi looks m e = go (ltb lo hi) refl (ltb looks most_looks) refl
+looked_enough lo hi looks m e = go (ltb lo hi) refl (ltb looks most_looks) refl
   where
     none : (n : ℕ) → halvings base.places n ≤ 0 → n ≡ 0
     none zero h = refl

@@ -18,14 +18,14 @@ use Rattle.choices.specs.Pairs.{count_in, stamp_in, value_in, hidden_in}
 abbrev pub version_at : List ℕ → ℕ → Version
 version_at r k = record { stamp = stamp_in r k; value = value_in r k; hidden = hidden_in r k }
 
-versions-at :
+versions_at :
     (n : ℕ) (l m : List ℕ) (k : ℕ) → k < n
     → get_or (versions_from n l m) k no_version ≡ record { stamp = get_or l (k * 2) 0; value = get_or l (k * 2 + 1) 0; hidden = get_or m k 0 }
 unfolding versions_from
-versions-at zero l m k h = absurd (not-suc-le-zero h)
-versions-at (suc n) l m zero h = refl
-versions-at (suc n) l m (suc k) h =
-    versions-at n (drop 2 l) (drop 1 m) k (le_of_suc-le-suc h)
+versions_at zero l m k h = absurd (not-suc-le-zero h)
+versions_at (suc n) l m zero h = refl
+versions_at (suc n) l m (suc k) h =
+    versions_at n (drop 2 l) (drop 1 m) k (le_of_suc-le-suc h)
     ∙ (λ i.
     record {
       stamp = (get_or-drop 2 l (k * 2) 0 ∙ ap (λ (m : ℕ). get_or l m 0) (let e : 2 + k * 2 ≡ suc k * 2 = omega arith in e)) i;
@@ -36,7 +36,7 @@ versions-at (suc n) l m (suc k) h =
 pub version_in : (r : List ℕ) (k : ℕ) → k < count_in r → get_or (versions_in base r) k no_version ≡ version_at r k
 unfolding versions_in
 version_in r k h =
-    versions-at (count_in r) (drop 1 r) (drop (masks_at base) r) k h
+    versions_at (count_in r) (drop 1 r) (drop (masks_at base) r) k h
     ∙ (λ i.
     record {
       stamp = (get_or-drop 1 r (k * 2) 0 ∙ ap (λ (m : ℕ). get_or r m 0) (let e : 1 + k * 2 ≡ k * 2 + 1 = omega arith in e)) i;

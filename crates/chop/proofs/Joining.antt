@@ -15,7 +15,7 @@ use Rattle.rules.proofs.Tests.{and_both, and_left, and_right, or_cases, or_left,
 use Rattle.rules.proofs.Circles.{get_d_tabulate, length_tabulate}
 use Rattle.words.proofs.SlotWords.{or_at, no_bit}
 use Rattle.graph.specs.Ways.{linked}
-use Rattle.graph.proofs.Sets.{those_in, those-below, those_pass, those-small}
+use Rattle.graph.proofs.Sets.{those_in, those_below, those_pass, those-small}
 use Rattle.graph.proofs.Ways.{Room}
 use Rattle.chop.specs.Pieces.{Piece, piece, siblings, clash, conflict, joins}
 use Rattle.chop.specs.Judgement.{siblings_of, conflicts_of, links_of, others}
@@ -54,7 +54,7 @@ module _ (ps : List Piece) where
 
   pub siblings_in : (b a : ℕ) → T (bit (siblings_of ps b) a) → (a < length ps) × T (siblings ps b a)
   unfolding siblings_of
-  siblings_in b a t = (those-below (length ps) (siblings ps b) a t, those_pass (length ps) (siblings ps b) a t)
+  siblings_in b a t = (those_below (length ps) (siblings ps b) a t, those_pass (length ps) (siblings ps b) a t)
 
   pub siblings-small : (b : ℕ) → siblings_of ps b < 2 ^ length ps
   unfolding siblings_of
@@ -66,7 +66,7 @@ module _ (ps : List Piece) where
 
   pub conflicts_in : (b a : ℕ) → T (bit (conflicts_of ps b) a) → (a < length ps) × T (conflict ps b a)
   unfolding conflicts_of
-  conflicts_in b a t = (those-below (length ps) (conflict ps b) a t, those_pass (length ps) (conflict ps b) a t)
+  conflicts_in b a t = (those_below (length ps) (conflict ps b) a t, those_pass (length ps) (conflict ps b) a t)
 
   link_word : ℕ → ℕ
   link_word a = bit_or (siblings_of ps a) (conflicts_of ps a)

@@ -31,10 +31,10 @@ tabulate_more (suc n) i f =
     ap (λ l. f i ∷ l) (tabulate_more n (suc i) f ∙ ap (λ (k : ℕ). tabulate_from (suc i) n f ++ (f k ∷ [])) (suc-add i n ∙ sym (add-suc i n)))
 
 -- one turn of a loop that writes f 0, f 1, .. into a list
-pub tabulate-turn :
+pub tabulate_turn :
     (f : ℕ → ℕ) (n x : ℕ) (out : List ℕ) → n < length out → take n out ≡ tabulate_from 0 n f → x ≡ f n
     → take (n + 1) (set out n x) ≡ tabulate_from 0 (n + 1) f
-tabulate-turn f n x out l e q =
+tabulate_turn f n x out l e q =
     ap (λ (k : ℕ). take k (set out n x)) (add-one n)
     ∙ take-suc-set out n x l
     ∙ ap (λ (xs : List ℕ). xs ++ (x ∷ [])) e

@@ -13,7 +13,7 @@ use Rattle.rules.proofs.Tests.{or_left, or_right}
 use Rattle.rules.proofs.Counts.{split-le, count-le}
 use Rattle.graph.specs.Near.{distance, way_from, path}
 use Rattle.graph.proofs.Counted.{count-more}
-use Rattle.graph.proofs.Ways.{Room, near-only, near-room, near-below}
+use Rattle.graph.proofs.Ways.{Room, near-only, near-room, near_below}
 use Rattle.graph.proofs.Paths.{Away, away_same, distance_away, way-length, way-first, way_away, way-linked, way-last, away_most}
 use Rattle.chop.specs.Pieces.{Piece, piece, most, siblings, conflict, joins}
 use Rattle.chop.specs.Circles.{Circle, at, after}
@@ -83,7 +83,7 @@ module _ (ps : List Piece) (few : length ps ≤ most) (b : ℕ) (known : b < len
   inside : (i : ℕ) → i ≤ d → (get_or way i 0 < length ps) × (get_or way i 0 ≢ b)
   inside i l =
       let t = (along i l).inside in (
-        let m = near-below w room goal R (d - i) (get_or way i 0) t in let e = links-length ps in omega arith,
+        let m = near_below w room goal R (d - i) (get_or way i 0) t in let e = links-length ps in omega arith,
         others_in ps b (get_or way i 0) (near-room w room goal R (d - i) (get_or way i 0) t),
       )
 

@@ -72,8 +72,8 @@ same-circle : (l k : List ℕ) → refused l ≡ refused k → l ≡ k
 same-circle l k e = cc
 
 -- ---- the promises
-pub refused-exactly : RefusedExactly
-refused-exactly ps few = (λ r. go r (ways ps), λ r. back r (ways ps))
+pub refused_exactly : RefusedExactly
+refused_exactly ps few = (λ r. go r (ways ps), λ r. back r (ways ps))
   where
     go : (l : List ℕ) × (judgement ps ≡ refused l) → Ways ps → (l : List ℕ) × Circle ps l
     go r (many l e) = absurd (omega arith)
@@ -101,8 +101,8 @@ circle-fits ps l e = go (ways ps)
     go (shows f k C m g) = subst (λ (x : List ℕ). length x ≤ most) (same-circle k l (sym g ∙ e)) m
     go (none f n g) = absurd (differ_none l (sym g ∙ e))
 
-pub accepted-exactly : AcceptedExactly
-accepted-exactly ps = (λ e. go e (ways ps), λ r. back r (ways ps))
+pub accepted_exactly : AcceptedExactly
+accepted_exactly ps = (λ e. go e (ways ps), λ r. back r (ways ps))
   where
     go : judgement ps ≡ accepted → Ways ps → (length ps ≤ most) × ((l : List ℕ) → Circle ps l → ⊥)
     go e (many m f) = absurd (differ_accepted (sym f ∙ e))
@@ -114,8 +114,8 @@ accepted-exactly ps = (λ e. go e (ways ps), λ r. back r (ways ps))
     back r (shows f l C m g) = absurd (r.1 l C)
     back r (none f n g) = g
 
-pub too_many-exactly : TooManyExactly
-too_many-exactly ps = (λ e. go e (ways ps), judgement-many ps)
+pub too_many_exactly : TooManyExactly
+too_many_exactly ps = (λ e. go e (ways ps), judgement-many ps)
   where
     go : judgement ps ≡ too_many_pieces → Ways ps → most < length ps
     go e (many m f) = m
@@ -153,8 +153,8 @@ pub one_outcome : OneOutcome
 one_outcome ps v e = answer_tells v (judgement ps) e
 
 -- ---- a clash is a common item
-pub clash-exactly : ClashExactly
-clash-exactly p q = (λ t. there t, λ r. back r.0 r.1)
+pub clash_exactly : ClashExactly
+clash_exactly p q = (λ t. there t, λ r. back r.0 r.1)
   where
     there : T (clash p q) → (x : ℕ) × Common p q x
     there t =

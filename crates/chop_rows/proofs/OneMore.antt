@@ -113,8 +113,8 @@ module _ (words : List ℕ) (n m : Notes) (i : ℕ) (G : Going words n i) (M : O
   pub going_on : i < row_count words → m.count ≤ most → Going words m (i + 1)
   going_on l h = record { within = omega arith; count = h; pieces = M.pieces h ∙ is; room = M.room }
 
-  pub going-out : i < row_count words → most < m.count → NotesOf words m
-  going-out l h =
+  pub going_out : i < row_count words → most < m.count → NotesOf words m
+  going_out l h =
       let c = M.count in
       let e = ap length is in
       let k = rows_keep words (row_count words - (i + 1)) (i + 1) in

@@ -280,5 +280,5 @@ pairs_distinct words = (gathered words (row_count words)).apart
 pub in_order_lem : InOrder
 in_order_lem words = (gathered words (row_count words)).order
 
-pub items-exactly : ItemsExactly
-items-exactly words k x l = ((gathered words (row_count words)).reads k l x, (gathered words (row_count words)).writes k l x)
+pub items_exactly : ItemsExactly
+items_exactly words k x l = ((gathered words (row_count words)).reads k l x, (gathered words (row_count words)).writes k l x)

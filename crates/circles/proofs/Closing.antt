@@ -13,10 +13,10 @@ use Rattle.circles.specs.Links.{linked, NoCircle, Leads}
 use Rattle.circles.proofs.Within.{first_step}
 
 -- the words have the same links: the same circles
-pub no-circle-same :
+pub no_circle-same :
     (w : List ℕ) (F : ℕ → ℕ → Bool) → ((a b : ℕ) → F a b ≡ linked w a b) → NoCircle w ↔ ((a : ℕ) → Walk F a a → ⊥)
 unfolding NoCircle
-no-circle-same w F same =
+no_circle-same w F same =
     (λ n a v. n a (walk_map (λ a b e. subst T (same a b) e) v), λ n a v. n a (walk_map (λ a b e. subst T (sym (same a b)) e) v))
 
 -- F has the links of E, but for those from s: a walk along F up to where it comes to s is a walk along E

@@ -18,7 +18,7 @@ use Rattle.rules.proofs.Bits.{bit_below}
 use Rattle.circles.specs.Links.{linked, Waiting, NoCircle}
 use Rattle.circles.specs.Peel.{peeled, Keeps, Swept}
 use Rattle.words.proofs.SlotWords.{and_at, sans_at, no_bit, has_bit, alone-only, sans_lt, sans_le}
-use Rattle.circles.proofs.Within.{circle-next, circle-of}
+use Rattle.circles.proofs.Within.{circle-next, circle_of}
 
 -- ---- one slot
 peel_le : (w : List ℕ) (m a : ℕ) → peeled w m a ≤ m
@@ -48,11 +48,11 @@ peel_keeps w m a k b v = go (eqb (bit_and (get_or w a 0) m) 0) refl
         no_bit c (subst (λ (h : ℕ). T (bit h c)) (eqb-true (bit_and (get_or w a 0) m) 0 e) y))))
 
 -- nothing went: the slot waits for one of those left
-peel-stuck :
+peel_stuck :
     (w : List ℕ) (left m a : ℕ) → m ≤ left → peeled w m a ≡ left
     → (m ≡ left) × (T (bit left a) → bit_and (get_or w a 0) left ≡ 0 → ⊥)
 unfolding peeled
-peel-stuck w left m a l q = (same, λ t n. bad t n)
+peel_stuck w left m a l q = (same, λ t n. bad t n)
   where
     same : m ≡ left
     same = let c = peel_le w m a in omega arith
@@ -79,16 +79,16 @@ module _ (w : List ℕ) (left : ℕ) (seen : ℕ → Type 0) where
   pub sweep_end : (m : ℕ) → ((a : ℕ) → a < base.slots → seen a) → Sweeping w left m seen → Swept w left m
   sweep_end m f s = record { less = s.less; keeps = s.keeps; stuck = λ q a l t z. s.stuck q a (f a l) t z }
 
-  pub sweep-step :
+  pub sweep_step :
       (m a : ℕ) (more : ℕ → Type 0) → ((b : ℕ) → more b → (b ≡ a) ⊎ seen b) → Sweeping w left m seen
       → {r : ℕ} → r ≡ peeled w m a → Sweeping w left r more
-  sweep-step m a more d s {r} e =
+  sweep_step m a more d s {r} e =
       subst (λ (x : ℕ). Sweeping w left x more) (sym e)
       (record {
         less = let c = peel_le w m a in let l = s.less in omega arith;
         keeps = λ k. peel_keeps w m a (s.keeps k);
         stuck = λ q b h t n.
-            let c = peel-stuck w left m a s.less q in
+            let c = peel_stuck w left m a s.less q in
             ⊎_elim (λ (x : b ≡ a).
             c.1 (subst (λ (y : ℕ). T (bit left y)) x t) (ap (λ (y : ℕ). bit_and (get_or w y 0) left) (sym x) ∙ n))
             (λ x. s.stuck c.0 b x t n) (d b h);
@@ -119,12 +119,12 @@ unfolding NoCircle Keeps
 nothing_left w left k z = (λ _ a v. no_bit a (subst (λ (m : ℕ). T (bit m a)) z (k a v)), λ _. tt)
 
 -- something is left and nothing can be peeled: a circle
-pub something-left :
+pub something_left :
     (w : List ℕ) (left : ℕ) → left < 2 ^ base.slots → left ≢ 0
     → ((a : ℕ) → a < base.slots → T (bit left a) → bit_and (get_or w a 0) left ≡ 0 → ⊥)
     → T false ↔ NoCircle w
 unfolding NoCircle linked
-something-left w left h n f = (λ x. absurd x, λ none. none circle.0 circle.1)
+something_left w left h n f = (λ x. absurd x, λ none. none circle.0 circle.1)
   where
     next : (a : ℕ) → T (bit left a) → (b : ℕ) × T (bit left b) × Walk (linked w) a b
     next a t =
@@ -137,4 +137,4 @@ something-left w left h n f = (λ x. absurd x, λ none. none circle.0 circle.1)
     circle : (c : ℕ) × Walk (linked w) c c
     circle =
         let s = has_bit base.slots left h n in
-        circle-of {E = linked w} base.slots (bit left) (λ a t. bit_below left a base.slots h t) next s.0 s.2
+        circle_of {E = linked w} base.slots (bit left) (λ a t. bit_below left a base.slots h t) next s.0 s.2

@@ -57,10 +57,10 @@ module _ {E : ℕ → ℕ → Bool} where
 
   -- where each of some slots below n leads to one of them there is a circle: by leaving out the highest, its walks joined to those
   -- that lead to it
-  pub circle-of :
+  pub circle_of :
       (n : ℕ) (p : ℕ → Bool) → ((a : ℕ) → T (p a) → a < n) → Closed E p → (a : ℕ) → T (p a) → (c : ℕ) × Walk E c c
-  circle-of zero p within next a t = absurd (not-suc-le-zero (within a t))
-  circle-of (suc n) p within next a t = go (p n) refl (λ p w f a t. circle-of n p w f a t)
+  circle_of zero p within next a t = absurd (not-suc-le-zero (within a t))
+  circle_of (suc n) p within next a t = go (p n) refl (λ p w f a t. circle_of n p w f a t)
     where
       lower : (a : ℕ) → a < suc n → a ≢ n → a < n
       lower a l d = ⊎_elim (λ (h : a < n). h) (λ (q : a ≡ n). absurd (d q)) (split-le a n l)

@@ -39,9 +39,9 @@ too_many_lem : put_out (pieces 33) ≡ too_many_words
 unfolding put_out line_of said_lines first_bad bad_from said_in verdict_on unknown_in bad_text capped verdict_line lines_of lines_from said said_of said_at hear_all hear silence onward noted words_of words_from hash uncommented is_name is_item same every some worth decimal digits_in pieces
 too_many_lem = refl
 
-too_many-first : put_out (pieces 32 ++ (97 ∷ 32 ∷ 114 ∷ 101 ∷ 97 ∷ 100 ∷ 115 ∷ 32 ∷ 54 ∷ 52 ∷ [])) ≡ too_many_words
+too_many_first : put_out (pieces 32 ++ (97 ∷ 32 ∷ 114 ∷ 101 ∷ 97 ∷ 100 ∷ 115 ∷ 32 ∷ 54 ∷ 52 ∷ [])) ≡ too_many_words
 unfolding put_out line_of said_lines first_bad bad_from said_in verdict_on unknown_in bad_text capped verdict_line lines_of lines_from said said_of said_at hear_all hear silence onward noted words_of words_from hash uncommented is_name is_item same every some worth decimal digits_in pieces
-too_many-first = refl
+too_many_first = refl
 
 bad-first : put_out (pieces 33 ++ (97 ∷ 32 ∷ 114 ∷ 101 ∷ 97 ∷ 100 ∷ 115 ∷ 32 ∷ 54 ∷ 52 ∷ 10 ∷ 97 ∷ 32 ∷ 97 ∷ [])) ≡ 98 ∷ 97 ∷ 100 ∷ 32 ∷ 108 ∷ 105 ∷ 110 ∷ 101 ∷ 32 ∷ 51 ∷ 53 ∷ 10 ∷ []
 unfolding put_out line_of said_lines first_bad bad_from said_in verdict_on unknown_in bad_text capped verdict_line lines_of lines_from said said_of said_at hear_all hear silence onward noted words_of words_from hash uncommented is_name is_item same every some worth decimal digits_in pieces

@@ -53,18 +53,18 @@ module _ (t l v : List ℕ) where
   unfolding done
   waits-done s k x em eu et er = rw (er, et, eu, em)
 
-  pub version-done :
+  pub version_done :
       (s : Slot) (x : Item) {w j : ℕ} {r : Answer} {u t' : List ℕ} → w ≡ (choice (reader_in t s.0) (versions_of base v x.0)).value
       → j ≡ suc (place (reader_in t s.0) (versions_of base v x.0)) → u ≡ read_noted t l s.0 x.0 → t' ≡ counted u s.0 j → r ≡ found w j
       → outcome r t' l v ≡ done base (ReadsVersion s x) (tables t l v)
   unfolding done version_read
-  version-done s x ew ej eu et er = rw (er, et, eu, ew, ej)
+  version_done s x ew ej eu et er = rw (er, et, eu, ew, ej)
 
-  pub own-done :
+  pub own_done :
       (s : Slot) (x : Item) {w : ℕ} {r : Answer} {t' : List ℕ} → t' ≡ cleared base t s.0 → w ≡ (lock l x.0).working → r ≡ found w 0
       → outcome r t' l v ≡ done base (ReadsOwn s x) (tables t l v)
   unfolding done
-  own-done s x et ew er = rw (er, et, ew)
+  own_done s x et ew er = rw (er, et, ew)
 
   pub newest-done :
       (s : Slot) (x : Item) {w : ℕ} {r : Answer} {t' : List ℕ} → t' ≡ cleared base t s.0 → w ≡ newest base v x.0 → r ≡ found w 1

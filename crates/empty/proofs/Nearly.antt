@@ -11,7 +11,7 @@ use Rattle.rules.specs.Versions.{newest}
 use Rattle.rules.specs.Answers.{Outcome, granted, refuses, Deadlock}
 use Rattle.empty.specs.Calls.{is_begin}
 use Rattle.empty.specs.Programs.{Input, Meets}
-use Rattle.empty.specs.Empty.{is_two_or_ten, Empty, answers_two_or_ten, grants_all, always_reads_zero, changes_nothing, storesNowhere, makesUpLooked}
+use Rattle.empty.specs.Empty.{is_two_or_ten, Empty, answers_two_or_ten, grants_all, always_reads_zero, changes_nothing, stores_nowhere, makes_up_looked}
 use Rattle.empty.proofs.Runs.{right}
 
 pub rules_meet : Meets right
@@ -48,13 +48,13 @@ pub answers-only : Empty (λ i. leaving (right i) i.before)
 answers-only = changes_nothing λ i. refl
 
 -- a begin does what f does, which may copy all items; the version rows are else as they were
-pub copies-at-begin :
+pub copies_at_begin :
     (f : Input → Tables)
     → Empty (λ i.
     leaving (right i)
     (cond (is_begin i.call) (f i)
     (tables (right i).after.txns (right i).after.locks i.before.versions)))
-copies-at-begin f = storesNowhere λ i l x. go i x (is_begin i.call) l
+copies_at_begin f = stores_nowhere λ i l x. go i x (is_begin i.call) l
   where
     go :
         (i : Input) (x : ℕ) (z : Bool) → T (not z)
@@ -66,4 +66,4 @@ copies-at-begin f = storesNowhere λ i l x. go i x (is_begin i.call) l
     go i x false l = refl
 
 pub always_looks_at_one : Empty (λ i. answering (right i) (with_looked (right i).answer 1))
-always_looks_at_one = makesUpLooked (λ c G v. 1) λ i. refl
+always_looks_at_one = makes_up_looked (λ c G v. 1) λ i. refl

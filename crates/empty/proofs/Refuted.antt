@@ -5,7 +5,7 @@ use lib.Dec.{T}
 use Rattle.rules.specs.Tables.{Tables, last_number}
 use Rattle.rules.specs.Answers.{granted}
 use Rattle.empty.specs.Programs.{Input, Program, Meets}
-use Rattle.empty.specs.Empty.{is_two_or_ten, without_versions, Empty, answers_two_or_ten, grants_all, always_reads_zero, changes_nothing, storesNowhere, makesUpLooked}
+use Rattle.empty.specs.Empty.{is_two_or_ten, without_versions, Empty, answers_two_or_ten, grants_all, always_reads_zero, changes_nothing, stores_nowhere, makes_up_looked}
 use Rattle.empty.proofs.Runs.{right, begin_fresh, begin_fresh_answer, begin_fresh_last, begin_fresh_next}
 use Rattle.empty.proofs.Runs.{read_held, read_held_good, read_held_answer, read_committed, read_committed_reads, read_committed_answer}
 use Rattle.empty.proofs.Runs.{commit_written, commit_written_later, commit_written_was, commit_written_is}
@@ -32,10 +32,10 @@ no_empty_program P (always_reads_zero h) m =
 no_empty_program P (changes_nothing h) m =
     let same : (right begin_fresh).after ≡ begin_fresh.before = rw (is_right P m begin_fresh) at (h begin_fresh) in
     omega (arith, ap (λ (G : Tables). last_number G.txns) same, begin_fresh_last, begin_fresh_next)
-no_empty_program P (storesNowhere h) m =
+no_empty_program P (stores_nowhere h) m =
     omega
     (arith, rw (is_right P m commit_written) at (h commit_written commit_written_later 7), commit_written_was, commit_written_is)
-no_empty_program P (makesUpLooked f h) m =
+no_empty_program P (makes_up_looked f h) m =
     let past : 2 ≡ f read_past.call (without_versions read_past.before) 0 =
     rw (is_right P m read_past, read_past_answer) at (h read_past) in
     let beside : 1 ≡ f read_beside.call (without_versions read_beside.before) 0 =

@@ -28,12 +28,12 @@ pub data Empty (P : Program) : Type 0 where
   changes_nothing : ((i : Input) → (P i).after ≡ i.before) → Empty P
   -- "One that copies all 64 items at begin and stores later writes nowhere": a begin may do what it likes, and no other call changes
   -- an item's newest value in the version rows
-  storesNowhere :
+  stores_nowhere :
       ((i : Input) → T (not (is_begin i.call)) → (x : ℕ) →
       newest base (P i).after.versions x ≡ newest base i.before.versions x)
       → Empty P
   -- "One that makes up looked": without a look at the version rows, from all else and the value that it answers
-  makesUpLooked :
+  makes_up_looked :
       (f : Call → Tables → ℕ → ℕ)
       → ((i : Input) → (P i).answer.looked ≡ f i.call (without_versions i.before) (P i).answer.value)
       → Empty P

@@ -31,25 +31,25 @@ module _ (t l v : List ℕ) where
   unfolding done committed committed_under
   commits-done s ec em et el ev er = rw (er, et, el, ev, em, ec)
 
-  pub aborts-done :
+  pub aborts_done :
       (s : Slot) {r : Answer} {t' l' : List ℕ} → t' ≡ set_txn (closed_up base t s.0) s.0 no_txn → l' ≡ release base s.0 l → r ≡ plain
       → outcome r t' l' v ≡ done base (Aborts s) (tables t l v)
   unfolding done aborted
-  aborts-done s et el er = rw (er, et, el)
+  aborts_done s et el er = rw (er, et, el)
 
   -- request E7: what an abort leaves, and the clock is answered
-  pub empty-done :
+  pub empty_done :
       (s : Slot) {n : ℕ} {r a : Answer} {t' l' : List ℕ} → n ≡ clock t → outcome a t' l' v ≡ done base (Aborts s) (tables t l v) → r ≡ numbered n
       → outcome r t' l' v ≡ done base (CommitsEmpty s) (tables t l v)
   unfolding done
-  empty-done s en e er = rw (er, en) (ap (λ (o : Outcome). record { answer = numbered (clock t); after = o.after }) e)
+  empty_done s en e er = rw (er, en) (ap (λ (o : Outcome). record { answer = numbered (clock t); after = o.after }) e)
 
-  pub settles-done :
+  pub settles_done :
       (s : Slot) {c : ℕ} {r : Answer} {t' l' : List ℕ} → c ≡ clock t + 1
       → t' ≡ set_txn (set t clock_at c) s.0 (new_txn (txn t s.0).number a_settled c) → l' ≡ unshare base s.0 l → r ≡ numbered c
       → outcome r t' l' v ≡ done base (Settles s) (tables t l v)
   unfolding done settled
-  settles-done s ec et el er = rw (er, et, el, ec)
+  settles_done s ec et el er = rw (er, et, el, ec)
 
   -- one past its writing
   pub settled-commits-done :
@@ -59,9 +59,9 @@ module _ (t l v : List ℕ) where
   unfolding done settled_committed committed_under
   settled-commits-done s ec em et el ev er = rw (er, et, el, ev, em, ec)
 
-  pub settled-aborts-done :
+  pub settled_aborts_done :
       (s : Slot) {r : Answer} {t' l' v' : List ℕ} → t' ≡ set_txn t s.0 no_txn → l' ≡ release base s.0 l
       → v' ≡ rewritten base (readers base (set_txn t s.0 no_txn)) (λ x vs. vs) v → r ≡ plain
       → outcome r t' l' v' ≡ done base (AbortsSettled s) (tables t l v)
   unfolding done settled_aborted
-  settled-aborts-done s et el ev er = rw (er, et, el, ev)
+  settled_aborts_done s et el ev er = rw (er, et, el, ev)

@@ -15,8 +15,8 @@ use Rattle.rules.specs.Good.{Good}
 use Rattle.rules.specs.Step.{with_new, settled_aborted}
 use Rattle.rules.proofs.Tests.{true_is, or_right}
 use Rattle.rules.proofs.Trim.{kept_top, kept-newest, kept_fixed, kept_read}
-use Rattle.rules.proofs.Leaving.{over, new_over-kept}
-use Rattle.rules.proofs.Rewrites.{rewritten-twice, versions-rewritten}
+use Rattle.rules.proofs.Leaving.{over, new_over_kept}
+use Rattle.rules.proofs.Rewrites.{rewritten_twice, versions-rewritten}
 use Rattle.rules.proofs.ChangedVersions.{left-readers}
 use Rattle.rules.proofs.Ends.{settled-abort-good}
 use Rattle.starts.specs.Starts.{starts}
@@ -54,7 +54,7 @@ module _ (G : Tables) (g : Good base G) (s : ℕ) (inside : s < base.slots) (pas
       (x : ℕ) → x < base.items → T (holds_exclusive (lock G.locks x) s)
       → (i : ℕ) → T (bit (hidden_at (versions_of base G.versions x) 0) i) → T (bit (txn G.txns s).later_for i)
   unfolding hidden_now holds
-  joins x k h i b = g.sets_good.holdsHidden x s i k (or_right (holds_shared (lock G.locks x) s) _ h) b
+  joins x k h i b = g.sets_good.holds_hidden x s i k (or_right (holds_shared (lock G.locks x) s) _ h) b
 
   -- no relaxed query lives beside it, so that it is in no set
   known : (i : ℕ) → T (bit (txn G.txns s).later_for i) → T (bit (relaxed_in base gone) i)
@@ -96,7 +96,7 @@ module _ (G : Tables) (g : Good base G) (s : ℕ) (inside : s < base.slots) (pas
       ≡ rewritten base (readers base (set_txn G.txns s no_txn)) (with_new G.locks s (txn G.txns s).start (txn G.txns s).later_for) G.versions
   unfolding with_new
   twice =
-      rewritten-twice base left (with_new G.locks s stamp sets) G.versions few g.versions_exact
+      rewritten_twice base left (with_new G.locks s stamp sets) G.versions few g.versions_exact
       (λ x i. go x i (holds_exclusive (lock G.locks x) s) refl)
     where
       go :
@@ -105,7 +105,7 @@ module _ (G : Tables) (g : Good base G) (s : ℕ) (inside : s < base.slots) (pas
           ≡ kept left (with_new G.locks s stamp sets x (versions_of base G.versions x))
       go x i true e =
           let new : Version = record { stamp = stamp; value = (lock G.locks x).working; hidden = sets } in
-          rw e (new_over-kept left new (versions_of base G.versions x) (over new (versions_of base G.versions x) (newer x i (true_is e)) (joins x i (true_is e))))
+          rw e (new_over_kept left new (versions_of base G.versions x) (over new (versions_of base G.versions x) (newer x i (true_is e)) (joins x i (true_is e))))
       go x i false e = rw e (kept_fixed left (kept left (versions_of base G.versions x)) (kept_read left (versions_of base G.versions x)))
 
   -- once it left: what can be committed to, for whom, and what comes of that

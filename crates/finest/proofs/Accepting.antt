@@ -11,7 +11,7 @@ use Rattle.rules.specs.Words.{bit}
 use mathlib.Core.Bool.{not}
 use lib.Dec.{eqb}
 use Rattle.rules.proofs.Tests.{or_cases, same?}
-use Rattle.graph.proofs.Sets.{those-below}
+use Rattle.graph.proofs.Sets.{those_below}
 use Rattle.graph.specs.Ways.{Way, here, link}
 use Rattle.chop.specs.Pieces.{Piece, siblings, conflict, joins}
 use Rattle.chop.specs.Judgement.{links_of, others}
@@ -29,7 +29,7 @@ use Rattle.finest.proofs.Judging.{no_meeting_accepted}
 -- who is among the others is known
 others_below : (n b k : ℕ) → T (bit (others n b) k) → k < n
 unfolding others
-others_below n b k s = those-below n (λ a. not (eqb a b)) k s
+others_below n b k s = those_below n (λ a. not (eqb a b)) k s
 
 module _ (os : List Operation) (F : Fits os) (b : ℕ) (l : b < length (leaders os (finest_cut os))) where
   abbrev cut : List ℕ

@@ -8,7 +8,7 @@ use lib.ListN.{length, get_or}
 use lib.Dec.{ltb}
 use borrow.Author.Tests.{ltb-true, ltb-false}
 use Rattle.rules.proofs.Tests.{false_is, not_make}
-use Rattle.rules.proofs.Counts.{→someBelow}
+use Rattle.rules.proofs.Counts.{→some_below}
 use Rattle.finest.specs.Operations.{Operation, most, items, Fits}
 use Rattle.finest.specs.Finest.{finest_cut}
 use Rattle.finest.specs.Rows.{operations_in, some_unknown, some_malformed, Outcome, too_many_operations, unknown_item, malformed, cut, rows_cut}
@@ -37,7 +37,7 @@ module _ (words : List ℕ) where
       go false e =
           absurd
           (false_is u
-          (→someBelow (length words / 4) (λ k. not (ltb (get_or words (k * 4 + 1) 0) items)) i l (not_make (ltb (get_or words (i * 4 + 1) 0) items) (false_is e))))
+          (→some_below (length words / 4) (λ k. not (ltb (get_or words (k * 4 + 1) 0) items)) i l (not_make (ltb (get_or words (i * 4 + 1) 0) items) (false_is e))))
 
   fits : length words / 4 ≤ most → some_unknown words ≡ false → Fits (operations_in words)
   fits l u =

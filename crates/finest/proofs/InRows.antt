@@ -26,27 +26,27 @@ module _ (words : List ℕ) (i j : ℕ) (a : i < length words / 4) (b : j < leng
   pub same_test : eqb (get_or words (i * 4) 0) (get_or words (j * 4) 0) ≡ same_program (operations_in words) i j
   same_test = ap₂ (λ (x y : Operation). eqb x.program y.program) (sym (operation_at_lem words i a)) (sym (operation_at_lem words j b))
 
-  pub undo-test :
+  pub undo_test :
       (leb i j && (eqb (get_or words (i * 4) 0) (get_or words (j * 4) 0) && eqb (get_or words (j * 4 + 3) 0) 1))
       ≡ (leb i j && (same_program (operations_in words) i j && (operation (operations_in words) j).marked))
-  undo-test = ap₂ (λ (x y : Operation). leb i j && (eqb x.program y.program && y.marked)) (sym (operation_at_lem words i a)) (sym (operation_at_lem words j b))
+  undo_test = ap₂ (λ (x y : Operation). leb i j && (eqb x.program y.program && y.marked)) (sym (operation_at_lem words i a)) (sym (operation_at_lem words j b))
 
-  pub conflict-test :
+  pub conflict_test :
       (not (eqb (get_or words (i * 4) 0) (get_or words (j * 4) 0))
       && (eqb (get_or words (i * 4 + 1) 0) (get_or words (j * 4 + 1) 0) && (eqb (get_or words (i * 4 + 2) 0) 1 || eqb (get_or words (j * 4 + 2) 0) 1)))
       ≡ conflicting (operations_in words) i j
   unfolding conflicting
-  conflict-test =
+  conflict_test =
       ap₂ (λ (x y : Operation). not (eqb x.program y.program) && (eqb x.item y.item && (x.writes || y.writes)))
       (sym (operation_at_lem words i a)) (sym (operation_at_lem words j b))
 
   -- the test for a link, with the set of those that may be undone
-  pub link-test :
+  pub link_test :
       (undo t : ℕ) → undo ≡ those (length words / 4) (may_undo (operations_in words))
       → (conflicting (operations_in words) i j || (eqb (get_or words (i * 4) 0) (get_or words (j * 4) 0) && (not (eqb (get_or words (i * 4) 0) t) || (eqb i j || (eqb (get_or words (i * 4) 0) (get_or words (j * 4) 0) && (bit undo i && bit undo j))))))
       ≡ linked_for (operations_in words) t i j
   unfolding linked_for one_block
-  link-test undo t e =
+  link_test undo t e =
       ap₂ (λ (x y : Operation). conflicting os i j || (eqb x.program y.program && (not (eqb x.program t) || (eqb i j || (eqb x.program y.program && (bit undo i && bit undo j))))))
       (sym (operation_at_lem words i a)) (sym (operation_at_lem words j b))
       ∙ ap₂ (λ (u v : Bool). conflicting os i j || (same_program os i j && (not (eqb (program_of os i) t) || (eqb i j || (same_program os i j && (u && v))))))

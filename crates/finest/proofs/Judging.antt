@@ -11,7 +11,7 @@ use Rattle.chop.specs.Pieces.{Piece, most}
 use Rattle.chop.specs.Verdicts.{Verdict, refused, accepted}
 use Rattle.chop.specs.Judgement.{links_of, turning, circle_at, judgement}
 use Rattle.chop.specs.Promises.{Meeting}
-use Rattle.chop.proofs.Theorems.{accepted-exactly, closes_exactly}
+use Rattle.chop.proofs.Theorems.{accepted_exactly, closes_exactly}
 use Rattle.chop.proofs.Verdicts.{turning_closes, closes_turning, verdict-refused, verdict-accepted, judgement-few}
 
 differ : (v : Verdict) (l : List ℕ) → v ≡ accepted → v ≡ refused l → ⊥
@@ -19,7 +19,7 @@ differ v l e f = let z : ◌≡◌ {A = ℕ} 0 1 = cc in omega arith
 
 pub no_meeting : (ps : List Piece) → judgement ps ≡ accepted → (b : ℕ) → b < length ps → Meeting ps b → ⊥
 no_meeting ps e b l M =
-    let few = ((accepted-exactly ps).0 e).0 in
+    let few = ((accepted_exactly ps).0 e).0 in
     let t = closes_turning ps (links_of ps) b l ((closes_exactly ps b few).1 M) in
     differ (judgement ps) (circle_at ps (links_of ps) (turning ps (links_of ps))) e
     (judgement-few ps few ∙ verdict-refused ps (links_of ps) (turning ps (links_of ps)) refl t)

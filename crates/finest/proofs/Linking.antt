@@ -13,7 +13,7 @@ use Rattle.rules.proofs.Circles.{get_d_tabulate, length_tabulate}
 use Rattle.graph.specs.Sets.{those}
 use Rattle.graph.specs.Ways.{linked, Way, here, link}
 use Rattle.graph.specs.Near.{joined}
-use Rattle.graph.proofs.Sets.{those_in, those-below, those_pass, those-small}
+use Rattle.graph.proofs.Sets.{those_in, those_below, those_pass, those-small}
 use Rattle.graph.proofs.Ways.{Room}
 use Rattle.graph.proofs.Settling.{way-joined, joined-way}
 use Rattle.finest.specs.Operations.{Operation, program_of, same_program, one_block, conflicting}
@@ -87,7 +87,7 @@ module _ (os : List Operation) (t : ℕ) where
 
   pub all_in : (i : ℕ) → T (bit (all (length os)) i) → i < length os
   unfolding all
-  all_in i s = those-below (length os) (λ i. true) i s
+  all_in i s = those_below (length os) (λ i. true) i s
 
   pub all_room : (i : ℕ) → i < length os → Room (links_for os t) (all (length os)) i
   unfolding all

@@ -10,11 +10,11 @@ use lib.ListN.{length, get_or, length-map}
 use lib.Dec.{T, eqb, eqb→eq}
 use Rattle.rules.specs.Words.{bit}
 use Rattle.rules.proofs.Tests.{and_both, and_left, and_right, or_cases, or_left, or_right, eq_make, ne_make, ne_use, not_make, true_is, false_is}
-use Rattle.rules.proofs.Counts.{someBelow→, →someBelow}
+use Rattle.rules.proofs.Counts.{some_below→, →some_below}
 use Rattle.graph.proofs.Sets.{those_in, those_pass}
 use Rattle.chop.specs.Pieces.{Piece, piece, no_piece, siblings, clash, conflict}
 use Rattle.chop.specs.Promises.{Common}
-use Rattle.chop.proofs.Theorems.{clash-exactly}
+use Rattle.chop.proofs.Theorems.{clash_exactly}
 use Rattle.finest.specs.Operations.{Operation, items, operation, program_of, same_program, conflicting, Fits}
 use Rattle.finest.specs.Choppings.{together, leaders, touched, touches, piece_by, pieces_under}
 use Rattle.finest.proofs.Linking.{conflict-apart}
@@ -41,7 +41,7 @@ module _ (os : List Operation) (c : List ℕ) where
   touch_in : (w : Bool) (i x : ℕ) → T (bit (touches os c w i) x) → Touch w i x
   unfolding touches touched
   touch_in w i x t =
-      let s = someBelow→ (length os) _ (those_pass items _ x t) in
+      let s = some_below→ (length os) _ (those_pass items _ x t) in
       let j = s.0 in
       let u = s.2 in
       let v = and_right (together os c i j) _ u in
@@ -57,7 +57,7 @@ module _ (os : List Operation) (c : List ℕ) where
   unfolding touches touched
   in_touch w i x l H =
       those_in items _ x l
-      (→someBelow (length os) _ H.by H.known
+      (→some_below (length os) _ H.by H.known
       (and_both (together os c i H.by) _ H.inside (and_both (eqb (operation os H.by).item x) _ (eq_make _ _ H.item) H.so)))
 
   -- ---- two operations in conflict, of the pieces of i and of j
@@ -70,11 +70,11 @@ module _ (os : List Operation) (c : List ℕ) where
     pub there_inside : T (together os c j there)
     pub clashes : T (conflicting os here there)
 
-  conflict-make :
+  conflict_make :
       (y z x : ℕ) → program_of os y ≢ program_of os z → (operation os y).item ≡ x → (operation os z).item ≡ x
       → T ((operation os y).writes || (operation os z).writes) → T (conflicting os y z)
   unfolding conflicting
-  conflict-make y z x d e f w =
+  conflict_make y z x d e f w =
       and_both (not (same_program os y z)) _ (ne_make _ _ d)
       (and_both (eqb (operation os y).item (operation os z).item) _ (eq_make _ _ (e ∙ sym f)) w)
 
@@ -95,7 +95,7 @@ module _ (os : List Operation) (c : List ℕ) where
             there_known = K.known;
             here_inside = H.inside;
             there_inside = K.inside;
-            clashes = conflict-make H.by K.by x
+            clashes = conflict_make H.by K.by x
                 (λ e. d (together-program os c i H.by H.inside ∙ e ∙ sym (together-program os c j K.by K.inside))) H.item K.item u;
           }
 
@@ -151,10 +151,10 @@ module _ (os : List Operation) (c : List ℕ) where
   unfolding piece_by
   piece-program k l = ap (λ (p : Piece). p.transaction) (piece_is k l)
 
-  pub siblings-make :
+  pub siblings_make :
       (j k : ℕ) → j < length (leaders os c) → k < length (leaders os c) → j ≢ k → program_of os (head os c j) ≡ program_of os (head os c k)
       → T (siblings (pieces_under os c) j k)
-  siblings-make j k l m d e =
+  siblings_make j k l m d e =
       and_both (not (eqb j k)) _ (ne_make j k d) (eq_make _ _ (piece-program j l ∙ e ∙ sym (piece-program k m)))
 
   pub siblings-are :
@@ -170,7 +170,7 @@ module _ (os : List Operation) (c : List ℕ) where
       let ps = pieces_under os c in
       let d = ne_use (piece ps j).transaction (piece ps k).transaction (and_left (not (eqb (piece ps j).transaction (piece ps k).transaction)) _ t) in
       let u : T (clash (piece ps j) (piece ps k)) = and_right (not (eqb (piece ps j).transaction (piece ps k).transaction)) _ t in
-      let r = (clash-exactly (piece ps j) (piece ps k)).0 u in
+      let r = (clash_exactly (piece ps j) (piece ps k)).0 u in
       common_clash (head os c j) (head os c k) r.0
       (λ e. d (piece-program j l ∙ e ∙ sym (piece-program k m)))
       (subst (λ (q : Piece). Common (piece_by os c (head os c j)) q r.0) (piece_is k m)
@@ -189,4 +189,4 @@ module _ (os : List Operation) (c : List ℕ) where
       (λ e.
       conflict-apart os K.here K.there K.clashes
       (sym (together-program os c (head os c j) K.here K.here_inside) ∙ sym (piece-program j l) ∙ e ∙ piece-program k m ∙ together-program os c (head os c k) K.there K.there_inside)))
-      ((clash-exactly (piece ps j) (piece ps k)).1 ((operation os K.here).item, D))
+      ((clash_exactly (piece ps j) (piece ps k)).1 ((operation os K.here).item, D))

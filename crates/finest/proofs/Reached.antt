@@ -16,7 +16,7 @@ use Rattle.words.proofs.SlotWords.{and_at, no_bit}
 use Rattle.graph.specs.Sets.{those, lowest}
 use Rattle.graph.specs.Ways.{Way, here, link}
 use Rattle.graph.specs.Near.{joined}
-use Rattle.graph.proofs.Sets.{those_in, those-below, those_pass, lowest_in, lowest-least}
+use Rattle.graph.proofs.Sets.{those_in, those_below, those_pass, lowest_in, lowest-least}
 use Rattle.finest.specs.Operations.{Operation, operation, program_of, same_program, may_undo, one_block, conflicting, Fits}
 use Rattle.finest.specs.Finest.{linked_for, links_for, all, piece_at, finest_cut}
 use Rattle.finest.specs.Choppings.{together}
@@ -84,8 +84,8 @@ module _ (os : List Operation) (t : ℕ) where
       let s = reached_on os t a b a l m l (linked_turned a b (links_in os t a b l e)) (reached_self os t a l) in
       carried a l (reached-way os t b c m (returned v)).1 s
 
-  pub reached-below : (i j : ℕ) → i < length os → T (reached os t i j) → j < length os
-  reached-below i j l s = way-start (reached-way os t i j l s).1
+  pub reached_below : (i j : ℕ) → i < length os → T (reached os t i j) → j < length os
+  reached_below i j l s = way-start (reached-way os t i j l s).1
 
   pub reached_turned : (i j : ℕ) → i < length os → T (reached os t i j) → T (reached os t j i)
   reached_turned i j l s = returned (reached-way os t i j l s).1
@@ -114,7 +114,7 @@ module _ (os : List Operation) (F : Fits os) where
       let u = subst T (and_at (those (length os) (same_program os i)) (joined (links_for os (program_of os i)) (all (length os)) i) j) t in
       let p = and_left (bit (those (length os) (same_program os i)) j) _ u in
       record {
-        known = those-below (length os) (same_program os i) j p;
+        known = those_below (length os) (same_program os i) j p;
         program = eqb→eq _ _ (those_pass (length os) (same_program os i) j p);
         reach = and_right (bit (those (length os) (same_program os i)) j) _ u;
       }

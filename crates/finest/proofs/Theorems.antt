@@ -38,8 +38,8 @@ only_ours os F c respects ok finest i j l m =
     (λ t. finest (finest_cut os) (ours_respects os F) (ours_accepted os F) i j l m t)
     (λ t. ours_finest os F c respects ok i j l m t)
 
-pub pieces-are_classes : PiecesAreClasses
-pieces-are_classes os F i j l m = (there, back)
+pub pieces_are_classes : PiecesAreClasses
+pieces_are_classes os F i j l m = (there, back)
   where
     there : T (together os (finest_cut os) i j) → Class os (program_of os i) i j
     there t =

@@ -20,7 +20,7 @@ use Rattle.finest.specs.Finest.{links_for, all}
 use Rattle.finest.specs.Choppings.{together, leaders, pieces_under, Accepted, RespectsRollback}
 use Rattle.finest.proofs.Linking.{Linked, by_conflict, by_whole, by_block, conflict-apart, linked_is, links_in, all_in}
 use Rattle.finest.proofs.Together.{together-program, together_self, together_turned, together_on, head, home}
-use Rattle.finest.proofs.Pieces.{pieces-length, siblings-make, clash-conflict}
+use Rattle.finest.proofs.Pieces.{pieces-length, siblings_make, clash-conflict}
 use Rattle.finest.proofs.Reached.{conflict_turned}
 use Rattle.finest.proofs.Judging.{no_meeting}
 
@@ -103,7 +103,7 @@ module _ (os : List Operation) (F : Fits os) (c : List ℕ) (respects : Respects
             links = P.links;
             sibling_known = seen q (at_known z m);
             other_known = seen P.other P.other_known;
-            sibling_is = siblings-make os c mine q (at_known i known) (at_known z m) (λ s. d (sym s))
+            sibling_is = siblings_make os c mine q (at_known i known) (at_known z m) (λ s. d (sym s))
                 (together-program os c (head os c mine) i (at_with i known) ∙ sym e ∙ sym (together-program os c (head os c q) z (at_with z m)));
             other_is = P.other_is;
             way = P.way;
@@ -151,7 +151,7 @@ module _ (os : List Operation) (F : Fits os) (c : List ℕ) (respects : Respects
           outside f
           (on (at z m) (at y l) (at_known z m) (at_known y l) (other_place y l (stranger y f))
           (or_left (siblings (pieces_under os c) (at z m) (at y l)) (conflict (pieces_under os c) (at z m) (at y l))
-          (siblings-make os c (at z m) (at y l) (at_known z m) (at_known y l) n
+          (siblings_make os c (at z m) (at y l) (at_known z m) (at_known y l) n
           (together-program os c (head os c (at z m)) z (at_with z m) ∙ sym e ∙ sym (together-program os c (head os c (at y l)) y (at_with y l)))))
           O)
 

@@ -49,11 +49,11 @@ pub length_cut : (os : List Operation) → length (finest_cut os) ≡ length os
 unfolding finest_cut
 length_cut os = length_tabulate (length os) 0 _
 
-pub named-is :
+pub named_is :
     (words names : List ℕ) → names ≡ finest_cut (operations_in words) ++ replicate (most - length words / 4) 0
     → ◌≡◌ {A = Named} (record { finding = Cut; count = length words / 4; names = names }) (shows Cut (finest_cut (operations_in words)))
 unfolding shows
-named-is words names e =
+named_is words names e =
     let q = length_cut (operations_in words) ∙ length-operations words in
     let f = e ∙ ap (λ (n : ℕ). finest_cut (operations_in words) ++ replicate (most - n) 0) (sym q) in
     λ k. record { finding = Cut; count = sym q k; names = f k }

@@ -10,7 +10,7 @@ use lib.Seq.{ext_get_or}
 use borrow.Author.Tests.{lt-ltb, leb-false, eq-eqb}
 use Rattle.rules.specs.Words.{some, some_below}
 use Rattle.rules.proofs.Tests.{false_is, true_is}
-use Rattle.rules.proofs.Counts.{someBelow→}
+use Rattle.rules.proofs.Counts.{some_below→}
 use Rattle.op_lines.specs.Says.{Operation}
 use Rattle.finest.specs.Operations as finest
 use Rattle.finest.specs.Rows.{operation_at, operations_in, some_unknown, some_malformed}
@@ -97,7 +97,7 @@ none_pass n p f = go (some_below n p) refl
   where
     go : (t : Bool) → some_below n p ≡ t → t ≡ false
     go false e = refl
-    go true e = let s = someBelow→ n p (true_is e) in absurd (false_is (f s.0 s.1) s.2)
+    go true e = let s = some_below→ n p (true_is e) in absurd (false_is (f s.0 s.1) s.2)
 
 pub not_malformed : (qs : List finest.Operation) → some_malformed (row_words qs) ≡ false
 unfolding some_malformed

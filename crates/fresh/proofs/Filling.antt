@@ -79,9 +79,9 @@ one_counted before after x i r =
         (get_or-set_same after (row_words * x) 1 0 (let s = r.size in omega arith))
     go y b (inr d) = get_or-set_other after (row_words * x) (row_words * y) 1 0 (λ q. d (omega arith)) ∙ r.done y (omega arith)
 
-pub all-counted :
+pub all_counted :
     (before after : List ℕ) (x : ℕ) → length before ≡ version_words base → base.items ≤ x → Counted before after x → after ≡ with_counts base before
-all-counted before after x e b r =
+all_counted before after x e b r =
     ext_get_or 0 after (with_counts base before) (r.size ∙ sym (length-with_counts base before e))
     (λ j i. word j (let s = r.size in omega arith) (j % row_words) refl)
   where

@@ -6,7 +6,7 @@ use mathlib.Core.Bool.{Bool, true, false, cond}
 use native.Mathlib.Omega.{arith}
 use lib.Dec.{T}
 use Rattle.rules.specs.Words.{count_below}
-use Rattle.rules.proofs.Counts.{split-le, count-fewer}
+use Rattle.rules.proofs.Counts.{split-le, count_fewer}
 
 pub count-more :
     (n : ℕ) (p q : ℕ → Bool) (x : ℕ) → ((i : ℕ) → i < n → T (p i) → T (q i)) → x < n → T (q x) → (T (p x) → ⊥)
@@ -29,4 +29,4 @@ count-more (suc n) p q x f l t non = go (split-le x n l) (λ k. count-more n p q
     go : (x < n) ⊎ (x ≡ n) → (x < n → count_below n p < count_below n q) → count_below (suc n) p < count_below (suc n) q
     go (inl k) g = below (p n) (q n) (f n (omega arith)) (g k)
     go (inr e) g =
-        last (p n) (q n) (subst (λ (y : ℕ). T (q y)) e t) (subst (λ (y : ℕ). T (p y) → ⊥) e non) (count-fewer n p q (λ i h. f i (omega arith)))
+        last (p n) (q n) (subst (λ (y : ℕ). T (q y)) e t) (subst (λ (y : ℕ). T (p y) → ⊥) e non) (count_fewer n p q (λ i h. f i (omega arith)))

@@ -48,11 +48,11 @@ module _ (w : List ℕ) (room goal from count : ℕ) (old : List ℕ) where
             ∙ drop-drop 1 place old;
       }
 
-  pub lay-end :
+  pub lay_end :
       (out : List ℕ) (at left place : ℕ) → count < length old → left ≡ 0 → Laying out at left place
       → set out place at ≡ way_from w room goal count from ++ drop (count + 1) old
   unfolding way_from
-  lay-end out at left place fits z L =
+  lay_end out at left place fits z L =
       let p : place ≡ count = (let s = L.sum in omega arith) in
       let b : place < length out = (let s = L.sum in let z = L.size in omega arith) in
       let r : drop (suc place) out ≡ drop (suc place) old =

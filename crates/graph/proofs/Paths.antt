@@ -19,7 +19,7 @@ use Rattle.graph.specs.Sets.{lowest}
 use Rattle.graph.specs.Ways.{linked, Way}
 use Rattle.graph.specs.Near.{near, joined, distance, way_from}
 use Rattle.graph.proofs.Sets.{lowest_in}
-use Rattle.graph.proofs.Ways.{Room, grown_cases, near-room, near-below, near-only, near-links, way-near}
+use Rattle.graph.proofs.Ways.{Room, grown_cases, near-room, near_below, near-only, near-links, way-near}
 use Rattle.graph.proofs.Settling.{new_below}
 
 module _ (w : List ℕ) (room goal : ℕ) (R : Room w room goal) (few : length w ≤ 64) where
@@ -82,7 +82,7 @@ module _ (w : List ℕ) (room goal : ℕ) (R : Room w room goal) (few : length w
           below_bits 64 m
           (λ b t.
           let u = and_right (bit (get_or w a 0) b) (bit (near w room goal k) b) (subst T (and_at (get_or w a 0) (near w room goal k) b) t) in
-          let l = near-below w room goal R k b u in
+          let l = near_below w room goal R k b u in
           omega arith)
 
       go :

@@ -59,21 +59,21 @@ pub those-more : (n : ℕ) (p : ℕ → Bool) → those (n + 1) p ≡ cond (p n)
 unfolding those
 those-more n p = rw add-one
 
-pub those-below : (n : ℕ) (p : ℕ → Bool) (i : ℕ) → T (bit (those n p) i) → i < n
-those-below n p i t = go (ltb i n) refl
+pub those_below : (n : ℕ) (p : ℕ → Bool) (i : ℕ) → T (bit (those n p) i) → i < n
+those_below n p i t = go (ltb i n) refl
   where
     go : (c : Bool) → ltb i n ≡ c → i < n
     go true e = ltb-true i n e
     go false e = absurd (false_is (those-out n p i (ltb-false i n e)) t)
 
 pub those_pass : (n : ℕ) (p : ℕ → Bool) (i : ℕ) → T (bit (those n p) i) → T (p i)
-those_pass n p i t = subst T (those_at n p i (those-below n p i t)) t
+those_pass n p i t = subst T (those_at n p i (those_below n p i t)) t
 
 pub those_in : (n : ℕ) (p : ℕ → Bool) (i : ℕ) → i < n → T (p i) → T (bit (those n p) i)
 those_in n p i l t = subst T (sym (those_at n p i l)) t
 
 pub those-small : (n : ℕ) (p : ℕ → Bool) → those n p < 2 ^ n
-those-small n p = below_bits n (those n p) (those-below n p)
+those-small n p = below_bits n (those n p) (those_below n p)
 
 -- the same tests make the same set
 pub those-same : (n : ℕ) (p q : ℕ → Bool) → ((i : ℕ) → i < n → p i ≡ q i) → those n p ≡ those n q
@@ -128,6 +128,6 @@ unfolding lowest
 lowest-least m k h t = first-least (bit m) k 0 64 (omega arith) h t
 
 -- one turn of a loop that gathers those that pass
-pub those-turn :
+pub those_turn :
     (p : ℕ → Bool) (n out r : ℕ) → out ≡ those n p → r ≡ cond (p n) (bit_or out (2 ^ n)) out → r ≡ those (n + 1) p
-those-turn p n out r o e = e ∙ ap (λ (m : ℕ). cond (p n) (bit_or m (2 ^ n)) m) o ∙ sym (those-more n p)
+those_turn p n out r o e = e ∙ ap (λ (m : ℕ). cond (p n) (bit_or m (2 ^ n)) m) o ∙ sym (those-more n p)

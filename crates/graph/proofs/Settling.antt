@@ -10,11 +10,11 @@ use lib.Dec.{T, ltb}
 use borrow.Author.Tests.{ltb-true, ltb-false}
 use Rattle.rules.specs.Words.{bit, some_below, count_below}
 use Rattle.rules.proofs.Tests.{and_both, and_left, and_right, true_is, false_is, not_make, not_use}
-use Rattle.rules.proofs.Counts.{someBelow→, →someBelow, count-le, count-fewer}
+use Rattle.rules.proofs.Counts.{some_below→, →some_below, count-le, count_fewer}
 use Rattle.graph.specs.Ways.{linked, Way}
 use Rattle.graph.specs.Near.{near, joined}
 use Rattle.graph.proofs.Counted.{count-more}
-use Rattle.graph.proofs.Ways.{Room, grown_cases, room-below, near_goal, near-room, near-below, near-keeps, near-links, near_up, way-near, near-way}
+use Rattle.graph.proofs.Ways.{Room, grown_cases, room_below, near_goal, near-room, near_below, near-keeps, near-links, near_up, way-near, near-way}
 
 module _ (w : List ℕ) (room goal : ℕ) (R : Room w room goal) where
   -- a link more than k reaches non vertex more
@@ -43,7 +43,7 @@ module _ (w : List ℕ) (room goal : ℕ) (R : Room w room goal) where
   pub new_more : (k a : ℕ) → T (bit (near w room goal (suc k)) a) → (T (bit (near w room goal k) a) → ⊥) → count k < count (suc k)
   new_more k a t non =
       count-more (length w) (bit (near w room goal k)) (bit (near w room goal (suc k))) a (λ i l. near-keeps w room goal R k i)
-      (near-below w room goal R (suc k) a t) t non
+      (near_below w room goal R (suc k) a t) t non
 
   newer : ℕ → ℕ → Bool
   newer k a = bit (near w room goal (suc k)) a && not (bit (near w room goal k) a)
@@ -55,7 +55,7 @@ module _ (w : List ℕ) (room goal : ℕ) (R : Room w room goal) where
     where
       go : (c : Bool) → some_below (length w) (newer k) ≡ c → Still k ⊎ (count k < count (suc k))
       go true e =
-          let r = someBelow→ (length w) (newer k) (true_is e) in
+          let r = some_below→ (length w) (newer k) (true_is e) in
           let a = bit (near w room goal (suc k)) r.0 in
           let b = bit (near w room goal k) r.0 in
           inr (new_more k r.0 (and_left a (not b) r.2) (not_use b (and_right a (not b) r.2)))
@@ -66,14 +66,14 @@ module _ (w : List ℕ) (room goal : ℕ) (R : Room w room goal) where
           still a t false h =
               absurd
               (false_is e
-              (→someBelow (length w) (newer k) a (near-below w room goal R (suc k) a t)
+              (→some_below (length w) (newer k) a (near_below w room goal R (suc k) a t)
               (and_both (bit (near w room goal (suc k)) a) (not (bit (near w room goal k) a)) t (not_make (bit (near w room goal k) a) (false_is h)))))
 
   -- after k links there are more than k vertices, or all are reached
   pub filled : (k : ℕ) → (suc k ≤ count k) ⊎ Still k
   filled zero =
       inl
-      (let m = count-more (length w) (λ i. false) (bit (near w room goal 0)) goal (λ i l t. absurd t) (room-below w room goal R goal R.inside) (near_goal w room goal R) (λ t. t) in
+      (let m = count-more (length w) (λ i. false) (bit (near w room goal 0)) goal (λ i l t. absurd t) (room_below w room goal R goal R.inside) (near_goal w room goal R) (λ t. t) in
       omega arith)
   filled (suc k) = go (filled k) (moves k)
     where
@@ -114,6 +114,6 @@ module _ (w : List ℕ) (room goal : ℕ) (R : Room w room goal) where
       go : (suc k ≤ count k) ⊎ Still k → suc (suc k) ≤ count_below (length w) (bit room)
       go (inl f) =
           let m = new_more k a t non in
-          let r = count-fewer (length w) (bit (near w room goal (suc k))) (bit room) (λ i l. near-room w room goal R (suc k) i) in
+          let r = count_fewer (length w) (bit (near w room goal (suc k))) (bit room) (λ i l. near-room w room goal R (suc k) i) in
           omega arith
       go (inr s) = absurd (non (s a t))

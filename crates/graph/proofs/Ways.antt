@@ -16,7 +16,7 @@ use Rattle.words.proofs.SlotWords.{alone-only}
 use Rattle.graph.specs.Sets.{meets}
 use Rattle.graph.specs.Ways.{linked, Way, here, link}
 use Rattle.graph.specs.Near.{grown, near}
-use Rattle.graph.proofs.Sets.{those_pass, those-below, those_in, meets_at, at_meets}
+use Rattle.graph.proofs.Sets.{those_pass, those_below, those_in, meets_at, at_meets}
 
 -- a room of vertices, and a goal in it
 pub record Room (w : List ℕ) (room goal : ℕ) : Type 0 where
@@ -33,9 +33,9 @@ module _ (w : List ℕ) (room m : ℕ) where
   joining : ℕ → Bool
   joining a = bit m a || (bit room a && meets (get_or w a 0) m)
 
-  pub grown-below : (a : ℕ) → T (bit (grown w room m) a) → a < length w
+  pub grown_below : (a : ℕ) → T (bit (grown w room m) a) → a < length w
   unfolding grown
-  grown-below a t = those-below (length w) _ a t
+  grown_below a t = those_below (length w) _ a t
 
   pub grown_cases : (a : ℕ) → T (bit (grown w room m) a) → T (bit m a) ⊎ (T (bit room a) × ((b : ℕ) × T (linked w a b) × T (bit m b)))
   unfolding grown linked joining
@@ -62,8 +62,8 @@ module _ (w : List ℕ) (room m : ℕ) where
 
 -- ---- near a goal
 module _ (w : List ℕ) (room goal : ℕ) (R : Room w room goal) where
-  pub room-below : (a : ℕ) → T (bit room a) → a < length w
-  room-below a t = bit_below room a (length w) R.small t
+  pub room_below : (a : ℕ) → T (bit room a) → a < length w
+  room_below a t = bit_below room a (length w) R.small t
 
   pub near_goal : T (bit (near w room goal 0) goal)
   unfolding near
@@ -85,17 +85,17 @@ module _ (w : List ℕ) (room goal : ℕ) (R : Room w room goal) where
       go (inl s) f = f s
       go (inr s) f = s.0
 
-  pub near-below : (k a : ℕ) → T (bit (near w room goal k) a) → a < length w
-  near-below k a t = room-below a (near-room k a t)
+  pub near_below : (k a : ℕ) → T (bit (near w room goal k) a) → a < length w
+  near_below k a t = room_below a (near-room k a t)
 
   -- one link more reaches no less
   pub near-keeps : (k a : ℕ) → T (bit (near w room goal k) a) → T (bit (near w room goal (suc k)) a)
   unfolding near
-  near-keeps k a t = grown-keeps w room (near w room goal k) a (near-below k a t) t
+  near-keeps k a t = grown-keeps w room (near w room goal k) a (near_below k a t) t
 
   pub near-links : (k a b : ℕ) → T (bit room a) → T (linked w a b) → T (bit (near w room goal k) b) → T (bit (near w room goal (suc k)) a)
   unfolding near
-  near-links k a b r e t = grown-links w room (near w room goal k) a b (room-below a r) r e t
+  near-links k a b r e t = grown-links w room (near w room goal k) a b (room_below a r) r e t
 
   pub near_up : (j k a : ℕ) → T (bit (near w room goal j) a) → T (bit (near w room goal (j + k)) a)
   near_up j zero a t = subst (λ (i : ℕ). T (bit (near w room goal i) a)) (let e : j ≡ j + 0 = omega arith in e) t

@@ -14,10 +14,10 @@ use Rattle.history.specs.Happened.{Access}
 use Rattle.history.specs.Serial.{Entry, insert, one_by_one, Absent, numbers_of}
 use Rattle.history.proofs.Plain.{Array, zeros, agrees, final}
 use Rattle.history.proofs.Replay.{Within, local_agrees}
-use Rattle.history.proofs.Order.{all_map, all_both, all_insert, absent_insert, once-insert, sorted_insert, below-insert, array_at, insert-array}
+use Rattle.history.proofs.Order.{all_map, all_both, all_insert, absent_insert, once-insert, sorted_insert, below_insert, array_at, insert_array}
 use Rattle.history.proofs.Invariant.{View, Fair, Row, Locks, Free, Own, Slot, Inv, reader}
 use Rattle.history.proofs.Turns.{Left}
-use Rattle.history.proofs.Kept.{free-kept, chosen, pending-kept, clear_kept}
+use Rattle.history.proofs.Kept.{free-kept, chosen, pending_kept, clear_kept}
 
 module _
     (items : ℕ) (es : List Entry) (log : ℕ → List Access) (W W' : View) (F : Fair items W) (J : Inv items es log W)
@@ -50,7 +50,7 @@ module _
 
     -- ---- the arrays: ahead of it as before; behind it as before, but for what it holds
     ahead : (q : ℕ) → q ≤ 2 * t → array_at q (insert e es) log ≡ array_at q es log
-    ahead q l = ap (λ (ns : List ℕ). final (one_by_one log ns) zeros) (below-insert q e l es)
+    ahead q l = ap (λ (ns : List ℕ). final (one_by_one log ns) zeros) (below_insert q e l es)
 
     unchanged : (y : ℕ) → D y → final (log (W.number s)) (array_at (2 * t) es log) y ≡ array_at (2 * t) es log y
     unchanged y d = ends (array_at (2 * t) es log) y d.0 ∙ rw (is_false (W.writes s y) d.1)
@@ -59,7 +59,7 @@ module _
         (q : ℕ) → 2 * t < q
         → ((y : ℕ) → D y → array_at q (insert e es) log y ≡ array_at q es log y)
         × ((y : ℕ) → (D y → ⊥) → array_at q (insert e es) log y ≡ final (log (W.number s)) (array_at (2 * t) es log) y)
-    behind q l = insert-array D log e q l es zeros J.sorted O.vacant O.clear unchanged
+    behind q l = insert_array D log e q l es zeros J.sorted O.vacant O.clear unchanged
 
     after : (q : ℕ) → 2 * t < q → (x : ℕ) → x < items → array_at q (insert e es) log x ≡ cond (W.writes s x) (W.working x) (array_at q es log x)
     after q l x b = go (W.writes s x) refl
@@ -154,7 +154,7 @@ module _
             ends = λ j c x b. rw R.number_is (old.ends (λ z. j (R.kind_is ∙ z)) c x b ∙ chosen items W W' r K x b (c x));
             pending = λ j.
                 rw R.number_is
-                (pending-kept items W W' r K (log (W.number r)) still (old.pending (sym R.kind_is ∙ j)));
+                (pending_kept items W W' r K (log (W.number r)) still (old.pending (sym R.kind_is ∙ j)));
             own = λ j. own_on (sym R.kind_is ∙ j);
             snapped = λ j i x b. rw R.start_is (snapped_on a' j i x b);
             placed = λ j.

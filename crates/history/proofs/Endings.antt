@@ -18,14 +18,14 @@ use Rattle.rules.proofs.ChangedVersions.{committed-versions, settled-commit-vers
 use Rattle.rules.proofs.EqualRows.{live-number, number-live, update-live, settled-live}
 use Rattle.rules.proofs.Callers.{Caller}
 use Rattle.history.specs.Happened.{Happening, update_committed, empty_committed, settled_under, only_ended, names}
-use Rattle.history.proofs.Turns.{Left, Turn, commits, commitsEmpty, settles, commitsSettled, ends}
+use Rattle.history.proofs.Turns.{Left, Turn, commits, commits_empty, settles, commits_settled, ends}
 use Rattle.history.proofs.Tables.{SameRow, same_row, SameHold, same_hold, release_hold, unshared_hold}
-use Rattle.history.proofs.Leaving.{read_at, reads-newest, start_in_lem, under_here, under_there, under_newest, under-reads}
+use Rattle.history.proofs.Leaving.{read_at, reads-newest, start_in_lem, under_here, under_there, under_newest, under_reads}
 use Rattle.history.proofs.Leaving.{aborted_here, aborted_there, aborted-last, aborted-clock, ended_here, ended_there, ended-last, ended-clock}
-use Rattle.history.proofs.Leaving.{ended-newest, ended-reads, dropped_here, dropped_there, dropped_last, dropped_clock, dropped_newest, dropped-reads}
+use Rattle.history.proofs.Leaving.{ended-newest, ended-reads, dropped_here, dropped_there, dropped_last, dropped_clock, dropped_newest, dropped_reads}
 use Rattle.history.proofs.Leaving.{settled-commit-last, settled-commit-clock, ticked, ticked_size, ticked_rows, committed-last, committed-clock}
 use Rattle.history.proofs.Leaving.{settled_here, settled_there, settled-last, settled-clock}
-use Rattle.history.proofs.Seen.{seen, row_by, locks_by, by_start_lem, sees-by, free_dead}
+use Rattle.history.proofs.Seen.{seen, row_by, locks_by, by_start_lem, sees_by, free_dead}
 
 module _ (S : Sizes) (G : Tables) (g : Good S G) (enough : S.slots ≤ S.places) (n s : ℕ) (C : Caller S G n s) where
   abbrev t : List ℕ
@@ -64,16 +64,16 @@ module _ (S : Sizes) (G : Tables) (g : Good S G) (enough : S.slots ≤ S.places)
   pub abort_turn : {c : Call} → T (names n c) → TurnTo (aborted S s G) c (only_ended n)
   abort_turn a =
       ends n s C.name a aborted-left
-      (λ r d. sees-by S G (aborted S s G) r g (aborted_there S G g s i r d) (λ x b j q. unfold aborted in refl))
+      (λ r d. sees_by S G (aborted S s G) r g (aborted_there S G g s i r d) (λ x b j q. unfold aborted in refl))
       (λ x b. unfold aborted in refl) (aborted-clock S G g s i)
 
   -- request E7: who holds nothing exclusively commits without a stamp of its own
-  pub empty-turn :
+  pub empty_turn :
       {c : Call} → T (names n c) → T (live_update (txn t s)) → ((x : ℕ) → x < S.items → holds_exclusive (lock l x) s ≡ false)
       → TurnTo (aborted S s G) c (empty_committed n (clock t))
-  empty-turn a k w =
-      commitsEmpty n s C.name a (update-live (txn t s) k).1 w aborted-left
-      (λ r d. sees-by S G (aborted S s G) r g (aborted_there S G g s i r d) (λ x b j q. unfold aborted in refl))
+  empty_turn a k w =
+      commits_empty n s C.name a (update-live (txn t s) k).1 w aborted-left
+      (λ r d. sees_by S G (aborted S s G) r g (aborted_there S G g s i r d) (λ x b j q. unfold aborted in refl))
       (λ x b. unfold aborted in refl) (aborted-clock S G g s i)
 
   -- no version comes, and the rows are trimmed
@@ -82,15 +82,15 @@ module _ (S : Sizes) (G : Tables) (g : Good S G) (enough : S.slots ≤ S.places)
       ends n s C.name a
       (left_by (ended S s G) (ended_here S enough G g s i) (ended_there S enough G g s i)
       (λ r x d b. unfold ended in same_hold (lock l x) (lock l x) r refl) (ended-last S enough G g s i))
-      (λ r d. sees-by S G (ended S s G) r g (ended_there S enough G g s i r d) (λ x b j q. ended-reads S enough G g s i r j q d x b))
+      (λ r d. sees_by S G (ended S s G) r g (ended_there S enough G g s i r d) (λ x b j q. ended-reads S enough G g s i r j q d x b))
       (ended-newest S enough G g s i) (ended-clock S enough G g s i)
 
-  pub settled-abort_turn : {c : Call} → T (names n c) → TurnTo (settled_aborted S s G) c (only_ended n)
-  settled-abort_turn a =
+  pub settled_abort_turn : {c : Call} → T (names n c) → TurnTo (settled_aborted S s G) c (only_ended n)
+  settled_abort_turn a =
       ends n s C.name a
       (left_by (settled_aborted S s G) (dropped_here S enough G g s i) (λ r d. same_row (dropped_there S enough G g s i r d))
       (λ r x d b. unfold settled_aborted in release_hold S G g s r x b d) (dropped_last S enough G g s i))
-      (λ r d. sees-by S G (settled_aborted S s G) r g (same_row (dropped_there S enough G g s i r d)) (λ x b j q. dropped-reads S enough G g s i r j q d x b))
+      (λ r d. sees_by S G (settled_aborted S s G) r g (same_row (dropped_there S enough G g s i r d)) (λ x b j q. dropped_reads S enough G g s i r j q d x b))
       (dropped_newest S enough G g s i) (dropped_clock S enough G g s i)
 
   -- ---- commits
@@ -111,13 +111,13 @@ module _ (S : Sizes) (G : Tables) (g : Good S G) (enough : S.slots ≤ S.places)
     gone-row = under_there S G g s i u (ticked_size S G g s i) c₁ (ticked_rows S G g s i)
 
     -- its stamp is above every start
-    sees-on :
+    sees_on :
         (r : ℕ) → r ≢ s → (x : ℕ) → x < S.items → r < S.slots → T (by_start (txn (committed S s G).txns r))
         → read_at S (committed S s G).versions (txn t r).start x ≡ read_at S v (txn t r).start x
-    sees-on r d x b j q =
+    sees_on r d x b j q =
         let h : T (by_start (txn t r)) = subst (λ (o : Txn). T (by_start o)) (gone-row r d) q in
         let le : (txn t r).start ≤ clock t = (g.txn_good r j).reader_start h in
-        under-reads S G g s i u (ticked_size S G g s i) c₁ (committed S s G).versions (txn t s).later_for (readers S t) x
+        under_reads S G g s i u (ticked_size S G g s i) c₁ (committed S s G).versions (txn t s).later_for (readers S t) x
         (committed-versions S G g enough s i k x b) (txn t r).start (start_in_lem S t r j h)
         ∙ rw (lt-leb c₁ (txn t r).start (omega arith)) (neither (holds_exclusive (lock l x) s) _ _)
 
@@ -126,7 +126,7 @@ module _ (S : Sizes) (G : Tables) (g : Good S G) (enough : S.slots ≤ S.places)
         commits n s C.name a (update-live (txn t s) k).1
         (left_by (committed S s G) (unfold committed in under_here S G g s i u (ticked_size S G g s i) c₁)
         (λ r d. same_row (gone-row r d)) (λ r x d b. unfold committed committed_under in release_hold S G g s r x b d) (committed-last S G g s i))
-        (λ r d. sees-by S G (committed S s G) r g (same_row (gone-row r d)) (sees-on r d))
+        (λ r d. sees_by S G (committed S s G) r g (same_row (gone-row r d)) (sees_on r d))
         (λ x b.
         under_newest S G g s i u (ticked_size S G g s i) c₁ (committed S s G).versions (txn t s).later_for (readers S t) x (committed-versions S G g enough s i k x b))
         (committed-clock S G g s i)
@@ -150,12 +150,12 @@ module _ (S : Sizes) (G : Tables) (g : Good S G) (enough : S.slots ≤ S.places)
     sees-past r x d b j h =
         let e : (txn G₁.txns r).start ≡ (txn t r).start = ap (λ (o : Txn). o.start) (past_row r d) in
         ap (λ (m : ℕ). read_at S G₁.versions m x) e
-        ∙ under-reads S G g s i t g.txns_exact q₁ G₁.versions 0 (readers S G₁.txns) x (settled-commit-versions S G g enough s i k x b) (txn t r).start
+        ∙ under_reads S G g s i t g.txns_exact q₁ G₁.versions 0 (readers S G₁.txns) x (settled-commit-versions S G g enough s i k x b) (txn t r).start
         (subst (λ (m : ℕ). Memᴰ (up_to m) (readers S G₁.txns)) e (start_in_lem S G₁.txns r j h))
 
-    pub settled-commit_turn : {c : Call} → T (names n c) → TurnTo (settled_committed S s G) c (update_committed n (txn t s).start)
-    settled-commit_turn a =
-        commitsSettled n s C.name a (settled-live (txn t s) k).1
+    pub settled_commit_turn : {c : Call} → T (names n c) → TurnTo (settled_committed S s G) c (update_committed n (txn t s).start)
+    settled_commit_turn a =
+        commits_settled n s C.name a (settled-live (txn t s) k).1
         (left_by G₁ (unfold settled_committed in under_here S G g s i t g.txns_exact q₁) (λ r d. same_row (past_row r d))
         (λ r x d b. unfold settled_committed committed_under in release_hold S G g s r x b d) (settled-commit-last S G g s i))
         (λ r x d b h. sees-past r x d b h.0.0 (by_start_lem S G G₁ r g (same_row (past_row r d)) h).1)
@@ -170,7 +170,7 @@ module _ (S : Sizes) (G : Tables) (g : Good S G) (enough : S.slots ≤ S.places)
         update = ((i, C.alive), (update-live (txn t s) k).1);
         rows = λ r d. row_by S G (settled S s G) r (rows r d);
         locks = λ r d. locks_by S G (settled S s G) r (λ x b. rw (locks x b) (unshared_hold s (lock l x) r d));
-        sees = λ r d. sees-by S G (settled S s G) r g (rows r d) (λ x b j q. unfold settled in refl);
+        sees = λ r d. sees_by S G (settled S s G) r g (rows r d) (λ x b j q. unfold settled in refl);
         current = λ x b. unfold settled in refl;
         last = settled-last S G g s i;
         clock = settled-clock S G g s i;

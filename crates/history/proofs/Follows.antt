@@ -16,16 +16,16 @@ use Rattle.rules.specs.Step.{step}
 use Rattle.rules.proofs.Tests.{is_true, is_false, eq_make}
 use Rattle.rules.proofs.Keeps.{keeps}
 use Rattle.history.specs.Runs.{run, end_of, Every}
-use Rattle.history.specs.Happened.{SoFar, Access, got, put, Happening, queryBegan, accessed, did, happened, begun_with, happenings_after, all_of, names}
+use Rattle.history.specs.Happened.{SoFar, Access, got, put, Happening, query_began, accessed, did, happened, begun_with, happenings_after, all_of, names}
 use Rattle.history.specs.Serial.{Entry, access_of, granted_to}
 use Rattle.history.specs.Undisturbed.{commit_of, commit_in, last_put, Gives}
 use Rattle.history.proofs.Plain.{Array, store, final}
 use Rattle.history.proofs.Invariant.{View, Fair, Inv, settled}
-use Rattle.history.proofs.Turns.{Gets, by_lock, by_own, by_start, by_set, Turn, quiet, updateBegins, queryBegins, relaxedBegins, reads, writes, commits, commitsEmpty, settles, commitsSettled, ends}
+use Rattle.history.proofs.Turns.{Gets, by_lock, by_own, by_start, by_set, Turn, quiet, update_begins, query_begins, relaxed_begins, reads, writes, commits, commits_empty, settles, commits_settled, ends}
 use Rattle.history.proofs.Marked.{Known}
 use Rattle.history.proofs.Preserved.{turn_step}
 use Rattle.history.proofs.Seen.{seen, seen_fair}
-use Rattle.history.proofs.Happens.{step_turn, granted-turn, step-known}
+use Rattle.history.proofs.Happens.{step_turn, granted_turn, step-known}
 use Rattle.history.proofs.Standing.{Unknown, left-unknown}
 use Rattle.history.proofs.Replies.{unknown-answer, unknown-step}
 use Rattle.history.proofs.Reading.{Fixed, Open, began_open, began_fixed, fixed_read, open_read, fixed_on, Next, open_on, over, stays, aborted, committed}
@@ -43,15 +43,15 @@ module _ (items : ℕ) (W W' : View) (F : Fair items W) (m : ℕ) where
   pub commit-unknown : {c : Call} {h : Happening} → Turn items W W' c h → T (commit_of m h) → Unknown m W'
   unfolding commit_of
   commit-unknown (quiet A) t = absurd t
-  commit-unknown (updateBegins s B k f) t = absurd t
-  commit-unknown (queryBegins s B q z e) t = absurd t
-  commit-unknown (relaxedBegins s B q e) t = absurd t
+  commit-unknown (update_begins s B k f) t = absurd t
+  commit-unknown (query_begins s B q z e) t = absurd t
+  commit-unknown (relaxed_begins s B q e) t = absurd t
   commit-unknown (reads n s x v e b A g) t = absurd t
   commit-unknown (writes n s x v e b P) t = absurd t
   commit-unknown (commits n s e a k L o f i) t = left-unknown items W W' m F s (e ∙ eqb→eq n m t) L
-  commit-unknown (commitsEmpty n s e a k w L o f i) t = left-unknown items W W' m F s (e ∙ eqb→eq n m t) L
+  commit-unknown (commits_empty n s e a k w L o f i) t = left-unknown items W W' m F s (e ∙ eqb→eq n m t) L
   commit-unknown (settles n s e B) t = absurd t
-  commit-unknown (commitsSettled n s e a k L o f i) t = left-unknown items W W' m F s (e ∙ eqb→eq n m t) L
+  commit-unknown (commits_settled n s e a k L o f i) t = left-unknown items W W' m F s (e ∙ eqb→eq n m t) L
   commit-unknown (ends n s e a L o f i) t = absurd t
 
   -- an unknown one neither commits nor is granted anything
@@ -67,15 +67,15 @@ module _ (items : ℕ) (W W' : View) (F : Fair items W) (m : ℕ) where
   pub unknown_quiet : {c : Call} {h : Happening} → Unknown m W → Turn items W W' c h → (commit_of m h ≡ false) × (access_of m h ≡ [])
   unfolding commit_of access_of
   unknown_quiet U (quiet A) = (refl, refl)
-  unknown_quiet U (updateBegins s B k f) = (refl, refl)
-  unknown_quiet U (queryBegins s B q z e) = (refl, refl)
-  unknown_quiet U (relaxedBegins s B q e) = (refl, refl)
+  unknown_quiet U (update_begins s B k f) = (refl, refl)
+  unknown_quiet U (query_begins s B q z e) = (refl, refl)
+  unknown_quiet U (relaxed_begins s B q e) = (refl, refl)
   unknown_quiet U (reads n s x v e b A g) = (refl, rw (not_it U s n e (caller s x v g)))
   unknown_quiet U (writes n s x v e b P) = (refl, rw (not_it U s n e P.alive))
   unknown_quiet U (commits n s e a k L o f i) = (not_it U s n e L.alive, refl)
-  unknown_quiet U (commitsEmpty n s e a k w L o f i) = (not_it U s n e L.alive, refl)
+  unknown_quiet U (commits_empty n s e a k w L o f i) = (not_it U s n e L.alive, refl)
   unknown_quiet U (settles n s e B) = (refl, refl)
-  unknown_quiet U (commitsSettled n s e a k L o f i) = (not_it U s n e L.alive, refl)
+  unknown_quiet U (commits_settled n s e a k L o f i) = (not_it U s n e L.alive, refl)
   unknown_quiet U (ends n s e a L o f i) = (refl, refl)
 
 -- only items are read
@@ -84,12 +84,12 @@ item-read items W W' x (reads n s y v e b A g) = b
 
 -- a query begins
 module _ (items x : ℕ) (bx : x < items) (W W' : View) (F : Fair items W) where
-  pub begin-open :
-      {c : Call} {n : ℕ} → Turn items W W' c (queryBegan n) → (b : ℕ) → settled W b → T (W.writes b x) → Open n x (W.number b) (W.current x) W'
-  begin-open (queryBegins s B q z sees) = began_open items x bx W W' F s B q z sees
+  pub begin_open :
+      {c : Call} {n : ℕ} → Turn items W W' c (query_began n) → (b : ℕ) → settled W b → T (W.writes b x) → Open n x (W.number b) (W.current x) W'
+  begin_open (query_begins s B q z sees) = began_open items x bx W W' F s B q z sees
 
-  pub begin_fixed : {c : Call} {n : ℕ} → Turn items W W' c (queryBegan n) → ((b : ℕ) → settled W b → T (W.writes b x) → ⊥) → Fixed n x (W.current x) W'
-  begin_fixed (queryBegins s B q z sees) = began_fixed items x bx W W' F s B q z sees
+  pub begin_fixed : {c : Call} {n : ℕ} → Turn items W W' c (query_began n) → ((b : ℕ) → settled W b → T (W.writes b x) → ⊥) → Fixed n x (W.current x) W'
+  begin_fixed (query_begins s B q z sees) = began_fixed items x bx W W' F s B q z sees
 
 -- ---- a run, of the calls cs
 module _ (S : Sizes) (enough : S.slots ≤ S.places) where
@@ -97,20 +97,20 @@ module _ (S : Sizes) (enough : S.slots ≤ S.places) where
   after c G = (step S c G).after
 
   -- the turn of a granted read
-  read-turn :
+  read_turn :
       (n x : ℕ) (c : Call) (G : Tables) → Good S G → (us : SoFar) → Known S.items us (seen S G) → c ≡ Read n x → (step S c G).answer.code ≡ granted
       → Turn S.items (seen S G) (seen S (after c G)) c (accessed n (got x (step S c G).answer.value))
   unfolding did
-  read-turn n x c G g us K e z =
+  read_turn n x c G g us K e z =
       subst (λ (h : Happening). Turn S.items (seen S G) (seen S (after c G)) c h)
-      (ap (λ (d : Call). did (some (λ n. names n c) us.updates) (some (λ n. names n c) us.stamped) d (step S c G).answer) e) (granted-turn S enough c G g us K z)
+      (ap (λ (d : Call). did (some (λ n. names n c) us.updates) (some (λ n. names n c) us.stamped) d (step S c G).answer) e) (granted_turn S enough c G g us K z)
 
   module _ (n x : ℕ) where
     pub outside-run : (v : ℕ) → S.items ≤ x → (cs : List Call) (us : SoFar) (G : Tables) → Good S G → Known S.items us (seen S G) → Every (Gives n x v) (run S cs G)
     unfolding run Every
     outside-run v o [] us G g K = tt
     outside-run v o (c ∷ cs) us G g K = (
-      λ e z. absurd (let b = item-read S.items (seen S G) (seen S (after c G)) x (read-turn n x c G g us K e z) in omega arith),
+      λ e z. absurd (let b = item-read S.items (seen S G) (seen S (after c G)) x (read_turn n x c G g us K e z) in omega arith),
       outside-run v o cs _ (after c G) (keeps S enough c G g) (step-known S enough c G g us K),
     )
 
@@ -125,14 +125,14 @@ module _ (S : Sizes) (enough : S.slots ≤ S.places) where
       unknown-run v cs (after c G) (keeps S enough c G g) (unknown-step S enough n c G g U),
     )
 
-    pub fixed-run :
+    pub fixed_run :
         (v : ℕ) → x < S.items → (cs : List Call) (us : SoFar) (G : Tables) → Good S G → Known S.items us (seen S G) → Fixed n x v (seen S G)
         → Every (Gives n x v) (run S cs G)
     unfolding run Every
-    fixed-run v bx [] us G g K H = tt
-    fixed-run v bx (c ∷ cs) us G g K H = (
-      λ e z. fixed_read S.items (seen S G) (seen S (after c G)) (seen_fair S G g) n x bx H (read-turn n x c G g us K e z),
-      go (fixed-run v bx cs _ (after c G) (keeps S enough c G g) (step-known S enough c G g us K))
+    fixed_run v bx [] us G g K H = tt
+    fixed_run v bx (c ∷ cs) us G g K H = (
+      λ e z. fixed_read S.items (seen S G) (seen S (after c G)) (seen_fair S G g) n x bx H (read_turn n x c G g us K e z),
+      go (fixed_run v bx cs _ (after c G) (keeps S enough c G g) (step-known S enough c G g us K))
           (fixed_on S.items (seen S G) (seen S (after c G)) (seen_fair S G g) n x bx H (step_turn S enough c G g us K)),
     )
       where
@@ -181,15 +181,15 @@ module _ (S : Sizes) (enough : S.slots ≤ S.places) where
       unfolding commit_in granted_to all_of
       outcome-commit l h hs e a f = rw (e, a, f) (ap (λ (k : List Access). last_put x k v) (sym (append-nil l)))
 
-      pub open-run :
+      pub open_run :
           x < S.items → (cs : List Call) (us : SoFar) (es : List Entry) (log : ℕ → List Access) (G : Tables) → Good S G → Known S.items us (seen S G)
           → Inv S.items es log (seen S G) → Open n x m v (seen S G)
           → Every (Gives n x (outcome (log m) (happenings_after us (run S cs G)))) (run S cs G)
       unfolding run Every happenings_after
-      open-run bx [] us es log G g K J H = tt
-      open-run bx (c ∷ cs) us es log G g K J H = (
-        λ e z. absurd (open_read S.items (seen S G) (seen S (after c G)) (seen_fair S G g) n x bx H (read-turn n x c G g us K e z)),
-        go (open-run bx cs _ _ _ (after c G) g' K' (turn_step S.items es log (seen S G) (seen S (after c G)) (seen_fair S G g) J t))
+      open_run bx [] us es log G g K J H = tt
+      open_run bx (c ∷ cs) us es log G g K J H = (
+        λ e z. absurd (open_read S.items (seen S G) (seen S (after c G)) (seen_fair S G g) n x bx H (read_turn n x c G g us K e z)),
+        go (open_run bx cs _ _ _ (after c G) g' K' (turn_step S.items es log (seen S G) (seen S (after c G)) (seen_fair S G g) J t))
             (open_on S.items (seen S G) (seen S (after c G)) (seen_fair S G g) n x bx H t),
       )
         where
@@ -222,7 +222,7 @@ module _ (S : Sizes) (enough : S.slots ≤ S.places) where
               (is_false (commit_of m h)
               (λ z. (commit-unknown S.items (seen S G) (seen S (after c G)) (seen_fair S G g) m t z).nobody O.holder O.past.0 O.name)))
               (rest O)
-          go rest (aborted U H e) = rest_as (outcome_none (log m) h hs e (gone-run cs _ (after c G) g' K' U).0) (fixed-run n x v bx cs _ (after c G) g' K' H)
+          go rest (aborted U H e) = rest_as (outcome_none (log m) h hs e (gone-run cs _ (after c G) g' K' U).0) (fixed_run n x v bx cs _ (after c G) g' K' H)
           go rest (committed b p name w U H e a) =
               rest_as
               (sym
@@ -230,4 +230,4 @@ module _ (S : Sizes) (enough : S.slots ≤ S.places) where
               ∙ subst (λ (j : ℕ). final (log j) (λ y. v) x ≡ (seen S G).working x) name
               ((J.slots b p.0).ends (λ z. let k = p.1 in omega arith) (λ y. v) x bx ∙ rw (is_true ((seen S G).writes b x) w)))
               ∙ outcome-commit (log m) h hs e a (gone-run cs _ (after c G) g' K' U).1)
-              (fixed-run n x _ bx cs _ (after c G) g' K' H)
+              (fixed_run n x _ bx cs _ (after c G) g' K' H)

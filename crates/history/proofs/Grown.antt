@@ -13,10 +13,10 @@ use Rattle.history.specs.Serial.{Entry, one_by_one, Absent, numbers_of}
 use Rattle.history.proofs.Plain.{Array, zeros, agrees, final}
 use Rattle.history.proofs.Replay.{Within, within-map, within-append, within-got, within-put, within_added, local_agrees, final-append, agrees-append, agrees-got}
 use Rattle.history.proofs.Replay.{store_here, store_there, added, added_here, added_there, added_absent, final-read, final_all_read}
-use Rattle.history.proofs.Order.{All, all_map, all_both, absent_all, below, below-same, below_absent, array_at, strictly}
+use Rattle.history.proofs.Order.{All, all_map, all_both, absent_all, below, below_same, below_absent, array_at, strictly}
 use Rattle.history.proofs.Invariant.{View, Fair, Row, Locks, Sees, Pending, Free, Own, Slot, Inv, settled}
 use Rattle.history.proofs.Turns.{Same, Puts}
-use Rattle.history.proofs.Kept.{slot_kept, clear_kept, free-kept, chosen, pending-kept}
+use Rattle.history.proofs.Kept.{slot_kept, clear_kept, free-kept, chosen, pending_kept}
 
 module _ (items : ℕ) (es : List Entry) (log : ℕ → List Access) (W W' : View) (F : Fair items W) (J : Inv items es log W) (s : ℕ) (alive : W.alive s) where
   abbrev n : ℕ
@@ -109,12 +109,12 @@ module _ (items : ℕ) (es : List Entry) (log : ℕ → List Access) (W W' : Vie
         arrays : (p : ℕ) → array_at p es log' ≡ array_at p es log
         arrays p = ap (λ (k : List Access). final k zeros) (added_absent log n c (below p es) (below_absent n p es nowhere))
 
-        absent-grown :
+        absent_grown :
             Slot items es log' W' s
             → ((r : ℕ) → r ≢ s → settled W r → settled W s → W.start r < W.start s → Within (Free items W r) (log' n))
             → (settled W s → (y : ℕ) → y < items → T (W'.writes s y) → T (W.writes s y))
             → Inv items es log' W'
-        absent-grown =
+        absent_grown =
             grown arrays
             (all_both (λ p m. m ≢ n) (λ p m. T (agrees (log m) (array_at p es log))) (λ p m. T (agrees (log' m) (array_at p es log')))
             (λ p m d h. rw (added_there log n c m d, arrays p) h) es (absent_all n es nowhere) J.told)
@@ -131,7 +131,7 @@ module _ (items : ℕ) (es : List Entry) (log : ℕ → List Access) (W W' : Vie
         -- an update that still writes
         update-grown : W.kind s ≡ an_update → Ends → Pending items W' s (log n ++ (c ∷ [])) → Inv items es log' W'
         update-grown k ends p =
-            absent-grown
+            absent_grown
             (record {
               waiting = λ z. rw (rows s).number_is nowhere;
               ends = λ z a x b. rw ((rows s).number_is, added_here log n c) (ends a x b);
@@ -145,7 +145,7 @@ module _ (items : ℕ) (es : List Entry) (log : ℕ → List Access) (W W' : Vie
         -- a relaxed query
         relaxed-grown : W.kind s ≡ a_relaxed → Ends → Inv items es log' W'
         relaxed-grown k ends =
-            absent-grown
+            absent_grown
             (record {
               waiting = λ z. rw (rows s).number_is nowhere;
               ends = λ z a x b. rw ((rows s).number_is, added_here log n c) (ends a x b);
@@ -165,7 +165,7 @@ module _ (items : ℕ) (es : List Entry) (log : ℕ → List Access) (W W' : Vie
             → ((r : ℕ) → r ≢ s → settled W r → W.start r < W.start s → Within (Free items W r) (c ∷ []))
             → ((y : ℕ) → y < items → T (W'.writes s y) → T (W.writes s y)) → Inv items es log' W'
         settled-grown k ends agree ahead fewer =
-            absent-grown
+            absent_grown
             (record {
               waiting = λ z. rw (rows s).number_is nowhere;
               ends = λ z a x b. rw ((rows s).number_is, added_here log n c) (ends a x b);
@@ -222,7 +222,7 @@ module _ (items : ℕ) (es : List Entry) (log : ℕ → List Access) (W W' : Vie
         })
       where
         P : Pending items W' s (log n)
-        P = pending-kept items W W' s (S.locks s) (log n) (λ y b h. S.current y b) (old.pending k)
+        P = pending_kept items W W' s (S.locks s) (log n) (λ y b h. S.current y b) (old.pending k)
 
     -- past its writing: what its log ends in at its place
     settled-read-step :
@@ -258,7 +258,7 @@ module _ (items : ℕ) (es : List Entry) (log : ℕ → List Access) (W W' : Vie
           at_place : array_at (2 * W.start s) es log x ≡ array_at (2 * W.start s + 1) es log x
           at_place =
               ap (λ (ns : List ℕ). final (one_by_one log ns) zeros x)
-              (below-same (2 * W.start s) (2 * W.start s + 1) es
+              (below_same (2 * W.start s) (2 * W.start s + 1) es
               (all_map _ _ (λ p m d. (λ l. omega arith, λ l. strictly p (2 * W.start s) (omega arith) d)) es (old.own k).vacant))
 
       -- a query stands in the order, and its log grows there

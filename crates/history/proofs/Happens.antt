@@ -26,8 +26,8 @@ use Rattle.rules.proofs.Quotas.{held_none, held_some}
 use Rattle.rules.proofs.Keeps.{keeps}
 use Rattle.rules.proofs.Fresh.{fresh-good}
 use Rattle.rules.proofs.Judged.{way}
-use Rattle.rules.proofs.Ways.{refusal-code, Way, refused, waited, kept_waiting, began_update, began_query, began_relaxed, read_own, read_newest, readShared, readSettled, readVersion}
-use Rattle.rules.proofs.Ways.{wroteOwn, wroteSettled, wroteTaken, committedUpdate, committedEmpty, committed_settled, committed_query, aborted_update, aborted_settled, aborted_query, settledUpdate}
+use Rattle.rules.proofs.Ways.{refusal-code, Way, refused, waited, kept_waiting, began_update, began_query, began_relaxed, read_own, read_newest, read_shared, read_settled, read_version}
+use Rattle.rules.proofs.Ways.{wrote_own, wrote_settled, wrote_taken, committed_update, committed_empty, committed_settled, committed_query, aborted_update, aborted_settled, aborted_query, settled_update}
 use Rattle.history.specs.Runs.{end_of}
 use Rattle.history.specs.Happened.{Happening, update_committed, empty_committed, only_ended, nothing, did, told, SoFar, none_so_far, happened, begun_with, names}
 use Rattle.history.proofs.Invariant.{Asks}
@@ -35,9 +35,9 @@ use Rattle.history.proofs.Turns.{Turn}
 use Rattle.history.proofs.Marked.{Marks, Known, known_on}
 use Rattle.history.proofs.Tables.{fresh-last}
 use Rattle.history.proofs.Seen.{seen, seen_fair}
-use Rattle.history.proofs.Moves.{refused_turn, wait_turn, begin_update_turn, begin_query_turn, begin_relaxed_turn, own_turn, newest_turn, shared_turn, past_turn, version-read-turn}
-use Rattle.history.proofs.Moves.{own_write_turn, past-write_turn, taken_turn}
-use Rattle.history.proofs.Endings.{commit_turn, empty-turn, settled-commit_turn, end_turn, abort_turn, settled-abort_turn, settle_turn}
+use Rattle.history.proofs.Moves.{refused_turn, wait_turn, begin_update_turn, begin_query_turn, begin_relaxed_turn, own_turn, newest_turn, shared_turn, past_turn, version_read_turn}
+use Rattle.history.proofs.Moves.{own_write_turn, past_write_turn, taken_turn}
+use Rattle.history.proofs.Endings.{commit_turn, empty_turn, settled_commit_turn, end_turn, abort_turn, settled_abort_turn, settle_turn}
 
 pub told-refused : (u w : Bool) (c : Call) (a : Answer) → a.code ≢ granted → told u w c a ≡ nothing
 unfolding told
@@ -102,12 +102,12 @@ module _ (S : Sizes) (enough : S.slots ≤ S.places) (G : Tables) (g : Good S G)
   plainly c o h e t f = grants c o h e t (λ us K. f _ _)
 
   -- a commit of an update, which answers k: w says whether it was granted a write, or settled
-  unfoldable pub commits-as :
+  unfoldable pub commits_as :
       (n s k : ℕ) (C : Caller S G n s) (G' : Tables) (w : Bool) → (Asks (txn G.txns s).kind → ⊥)
       → ((us : SoFar) → Known S.items us (seen S G) → some (eqb n) us.stamped ≡ w)
       → TurnTo G' (Commit n) (cond w (update_committed n k) (empty_committed n k)) → Happens S G (Commit n) (says granted 0 k 0 G')
   unfolding did names
-  commits-as n s k C G' w u d turn =
+  commits_as n s k C G' w u d turn =
       grants (Commit n) (says granted 0 k 0 G') (cond w (update_committed n k) (empty_committed n k)) refl turn
       (λ us K.
       ap (λ (b : Bool). did b (some (eqb n) us.stamped) (Commit n) (says granted 0 k 0 G').answer)
@@ -139,19 +139,19 @@ module _ (S : Sizes) (enough : S.slots ≤ S.places) (G : Tables) (g : Good S G)
   happens c d (began_relaxed s free l a) = plainly c _ _ refl (begin_relaxed_turn S G g a_relaxed first_stamp s free refl) (λ u w. refl)
   happens c d (read_own n s x U h) = plainly c _ _ refl (own_turn S G g n s x U.caller U.known U.update h) (λ u w. refl)
   happens c d (read_newest n s x U h) = plainly c _ _ refl (newest_turn S G g n s x U.caller U.known U.update h) (λ u w. refl)
-  happens c d (readShared n s x U h f) = plainly c _ _ refl (shared_turn S G g n s x U.caller U.known U.update f) (λ u w. refl)
-  happens c d (readSettled n s x C p b h) = plainly c _ _ refl (past_turn S G g n s x C b p h) (λ u w. refl)
-  happens c d (readVersion n s x C q b own free) = plainly c _ _ refl (version-read-turn S G g n s x (looked_at S G s x) C q b own free) (λ u w. refl)
-  happens c d (wroteOwn n s x v U h) = plainly c _ _ refl (own_write_turn S G g n s x U.caller U.known U.update v h) (λ u w. refl)
-  happens c d (wroteSettled n s x v C p b h) = plainly c _ _ refl (past-write_turn S G g n s x C b v p h) (λ u w. refl)
-  happens c d (wroteTaken n s x v U h alone q) = plainly c _ _ refl (taken_turn S G g n s x U.caller U.known U.update v alone) (λ u w. refl)
-  happens c d (committedUpdate n s C u i l w) =
+  happens c d (read_shared n s x U h f) = plainly c _ _ refl (shared_turn S G g n s x U.caller U.known U.update f) (λ u w. refl)
+  happens c d (read_settled n s x C p b h) = plainly c _ _ refl (past_turn S G g n s x C b p h) (λ u w. refl)
+  happens c d (read_version n s x C q b own free) = plainly c _ _ refl (version_read_turn S G g n s x (looked_at S G s x) C q b own free) (λ u w. refl)
+  happens c d (wrote_own n s x v U h) = plainly c _ _ refl (own_write_turn S G g n s x U.caller U.known U.update v h) (λ u w. refl)
+  happens c d (wrote_settled n s x v C p b h) = plainly c _ _ refl (past_write_turn S G g n s x C b v p h) (λ u w. refl)
+  happens c d (wrote_taken n s x v U h alone q) = plainly c _ _ refl (taken_turn S G g n s x U.caller U.known U.update v alone) (λ u w. refl)
+  happens c d (committed_update n s C u i l w) =
       let q = writes_not_asks (update-live (txn G.txns s) u).1 (λ z. omega arith) (λ z. omega arith) in
-      commits-as n s (clock G.txns + 1) C (committed S s G) true q (stamped n s C q (inr (held_some S G.locks s w)))
+      commits_as n s (clock G.txns + 1) C (committed S s G) true q (stamped n s C q (inr (held_some S G.locks s w)))
       (commit_turn S G g enough n s C u (eq_make n n refl))
-  happens c d (committedEmpty n s C u i e) =
-      commits-as n s (clock G.txns) C (aborted S s G) false (writes_not_asks (update-live (txn G.txns s) u).1 (λ z. omega arith) (λ z. omega arith))
-      (unstamped n s C none) (empty-turn S G g enough n s C (eq_make n n refl) u (held_none S G.locks s e))
+  happens c d (committed_empty n s C u i e) =
+      commits_as n s (clock G.txns) C (aborted S s G) false (writes_not_asks (update-live (txn G.txns s) u).1 (λ z. omega arith) (λ z. omega arith))
+      (unstamped n s C none) (empty_turn S G g enough n s C (eq_make n n refl) u (held_none S G.locks s e))
     where
       none : Marks S.items (seen S G) s → ⊥
       none (inl z) = let k = (update-live (txn G.txns s) u).1 in omega arith
@@ -159,8 +159,8 @@ module _ (S : Sizes) (enough : S.slots ≤ S.places) (G : Tables) (g : Good S G)
   happens c d (committed_settled n s C p) =
       let k = (settled-live (txn G.txns s) p).1 in
       let q = writes_not_asks k (λ z. omega arith) (λ z. omega arith) in
-      commits-as n s (txn G.txns s).start C (settled_committed S s G) true q (stamped n s C q (inl k))
-      (settled-commit_turn S G g enough n s C p (eq_make n n refl))
+      commits_as n s (txn G.txns s).start C (settled_committed S s G) true q (stamped n s C q (inl k))
+      (settled_commit_turn S G g enough n s C p (eq_make n n refl))
   happens c d (committed_query n s C q) =
       grants c _ _ refl (end_turn S G g enough n s C (eq_make n n refl))
       (λ us K.
@@ -168,9 +168,9 @@ module _ (S : Sizes) (enough : S.slots ≤ S.places) (G : Tables) (g : Good S G)
       (is_false (some (eqb n) us.updates)
       (λ a. K.begun.queries s (C.inside, C.alive) (query-asks (txn G.txns s) (query_cases (txn G.txns s) q)) (subst (λ (m : ℕ). T (some (eqb m) us.updates)) (sym C.name) a))))
   happens c d (aborted_update n s C u) = plainly c _ _ refl (abort_turn S G g enough n s C (eq_make n n refl)) (λ u w. refl)
-  happens c d (aborted_settled n s C p) = plainly c _ _ refl (settled-abort_turn S G g enough n s C (eq_make n n refl)) (λ u w. refl)
+  happens c d (aborted_settled n s C p) = plainly c _ _ refl (settled_abort_turn S G g enough n s C (eq_make n n refl)) (λ u w. refl)
   happens c d (aborted_query n s C q) = plainly c _ _ refl (end_turn S G g enough n s C (eq_make n n refl)) (λ u w. refl)
-  happens c d (settledUpdate n s C u i l a) = plainly c _ _ refl (settle_turn S G g enough n s C u) (λ u w. refl)
+  happens c d (settled_update n s C u i l a) = plainly c _ _ refl (settle_turn S G g enough n s C u) (λ u w. refl)
 
 -- ---- a step
 module _ (S : Sizes) (enough : S.slots ≤ S.places) where
@@ -188,11 +188,11 @@ module _ (S : Sizes) (enough : S.slots ≤ S.places) where
         subst (λ (h : Happening). Turn S.items (seen S G) (seen S (step S c G).after) c h) (sym (H.begun us K)) H.turn
 
     -- that of a granted call
-    pub granted-turn :
+    pub granted_turn :
         (step S c G).answer.code ≡ granted
         → Turn S.items (seen S G) (seen S (step S c G).after) c (did (some (λ n. names n c) us.updates) (some (λ n. names n c) us.stamped) c (step S c G).answer)
     unfolding happened
-    granted-turn e =
+    granted_turn e =
         subst (λ (h : Happening). Turn S.items (seen S G) (seen S (step S c G).after) c h)
         (told-granted (some (λ n. names n c) us.updates) (some (λ n. names n c) us.stamped) c (step S c G).answer e) step_turn
 

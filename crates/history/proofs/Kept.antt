@@ -29,9 +29,9 @@ module _ (items : ℕ) (W W' : View) (r : ℕ) (L : Locks items W W' r) where
       go false e = refl
 
   -- an update: what it holds is as it was
-  pub pending-kept :
+  pub pending_kept :
       (l : List Access) → ((x : ℕ) → x < items → T (W.holds r x) → W'.current x ≡ W.current x) → Pending items W r l → Pending items W' r l
-  pending-kept l same p =
+  pending_kept l same p =
       record {
         within = within-map _ _ (λ x h. (h.0, L.still_holds x h.0 h.1)) l p.within;
         reads =
@@ -72,7 +72,7 @@ module _
           ends = λ k c x b. rw (R.number_is, U.log_is) (S.ends (λ z. k (R.kind_is ∙ z)) c x b ∙ chosen items W W' r L x b (c x));
           pending = λ k.
               rw (R.number_is, U.log_is)
-              (pending-kept items W W' r L (log (W.number r)) U.current (S.pending (sym R.kind_is ∙ k)));
+              (pending_kept items W W' r L (log (W.number r)) U.current (S.pending (sym R.kind_is ∙ k)));
           own = λ k. own_kept (sym R.kind_is ∙ k) (S.own (sym R.kind_is ∙ k));
           snapped = λ k j x b.
               let k' : W.kind r ≢ an_update = λ z. k (R.kind_is ∙ z) in

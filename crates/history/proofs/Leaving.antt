@@ -73,11 +73,11 @@ new_newest : (b : Bool) (w : Version) (vs : List Version) → (get_or (cond b (w
 new_newest true w vs = refl
 new_newest false w vs = refl
 
-new-choice :
+new_choice :
     (b : Bool) (q : ℕ) (w : Version) (vs : List Version)
     → (choice (up_to q) (cond b (w ∷ vs) vs)).value ≡ cond (b && leb w.stamp q) w.value (choice (up_to q) vs).value
-new-choice false q w vs = refl
-new-choice true q w vs = go (leb w.stamp q) refl
+new_choice false q w vs = refl
+new_choice true q w vs = go (leb w.stamp q) refl
   where
     go : (c : Bool) → leb w.stamp q ≡ c → (choice (up_to q) (w ∷ vs)).value ≡ cond c w.value (choice (up_to q) vs).value
     go true e = ap (λ (o : Version). o.value) (choice_hit (up_to q) w vs (unfold sees in e))
@@ -100,12 +100,12 @@ module _ (S : Sizes) (G : Tables) (g : Good S G) (s : ℕ) (inside : s < S.slots
       unfolding with_new newest
       under_newest = kept-newest S v x qs _ e ∙ new_newest (holds_exclusive (lock G.locks x) s) _ _
 
-      pub under-reads :
+      pub under_reads :
           (q : ℕ) → Memᴰ (up_to q) qs
           → read_at S v q x
           ≡ cond (holds_exclusive (lock G.locks x) s && leb c q) (lock G.locks x).working (read_at S G.versions q x)
       unfolding with_new read_at
-      under-reads q i = kept-reads S v x qs _ e q i ∙ new-choice (holds_exclusive (lock G.locks x) s) q _ _
+      under_reads q i = kept-reads S v x qs _ e q i ∙ new_choice (holds_exclusive (lock G.locks x) s) q _ _
 
 -- ---- an update's abort
 module _ (S : Sizes) (G : Tables) (g : Good S G) (s : ℕ) (inside : s < S.slots) where
@@ -199,11 +199,11 @@ module _ (S : Sizes) (enough : S.slots ≤ S.places) (G : Tables) (g : Good S G)
   pub dropped_newest : (x : ℕ) → x < S.items → newest S (settled_aborted S s G).versions x ≡ newest S G.versions x
   dropped_newest x i = kept-newest S (settled_aborted S s G).versions x _ _ (settled-abort-versions S G g enough s inside x i) ∙ unfold newest in refl
 
-  pub dropped-reads :
+  pub dropped_reads :
       (r : ℕ) → r < S.slots → T (by_start (txn (settled_aborted S s G).txns r)) → r ≢ s → (x : ℕ) → x < S.items
       → read_at S (settled_aborted S s G).versions (txn G.txns r).start x ≡ read_at S G.versions (txn G.txns r).start x
   unfolding read_at
-  dropped-reads r j h d x i =
+  dropped_reads r j h d x i =
       let q = (txn G.txns r).start in
       let m : Memᴰ (up_to q) (readers S (settled_aborted S s G).txns) =
       subst (λ (o : Txn). Memᴰ (up_to o.start) (readers S (settled_aborted S s G).txns)) (dropped_there r d) (start_in_lem S (settled_aborted S s G).txns r j h) in

@@ -14,7 +14,7 @@ use Rattle.rules.proofs.Tests.{or_cases, or_left, or_right, eq_make, true_is, sa
 use Rattle.history.specs.Happened.{Happening, SoFar, begun_with}
 use Rattle.history.proofs.Invariant.{View, Fair, Row, Locks}
 use Rattle.history.proofs.Turns.{New, Puts, Left, Settles, Begun, begun_on}
-use Rattle.history.proofs.Turns.{Turn, quiet, updateBegins, queryBegins, relaxedBegins, reads, writes, commits, commitsEmpty, settles, commitsSettled, ends}
+use Rattle.history.proofs.Turns.{Turn, quiet, update_begins, query_begins, relaxed_begins, reads, writes, commits, commits_empty, settles, commits_settled, ends}
 
 -- slot s is past its writing, or holds an item exclusively
 abbrev pub Marks : ℕ → View → ℕ → Type 0
@@ -126,16 +126,16 @@ module _ (items : ℕ) (W W' : View) (F : Fair items W) (so : SoFar) (K : Known 
   marked_on : {c : Call} {h : Happening} → Turn items W W' c h → Marked items (begun_with h so).stamped W'
   unfolding begun_with
   marked_on (quiet A) = kept items W W' F ws M (λ r a. A.rows r) (λ r a. A.locks r) A.last
-  marked_on (updateBegins s B k free) = new items W W' F ws M s B (λ z m. none s k (λ e. omega arith) free m)
-  marked_on (queryBegins s B q z e) = new items W W' F ws M s B (λ d m. d q.1)
-  marked_on (relaxedBegins s B q free) = new items W W' F ws M s B (λ z m. none s q.1 (λ e. omega arith) free m)
+  marked_on (update_begins s B k free) = new items W W' F ws M s B (λ z m. none s k (λ e. omega arith) free m)
+  marked_on (query_begins s B q z e) = new items W W' F ws M s B (λ d m. d q.1)
+  marked_on (relaxed_begins s B q free) = new items W W' F ws M s B (λ z m. none s q.1 (λ e. omega arith) free m)
   marked_on (reads n s x v m b A g) = kept items W W' F ws M (λ r a. A.rows r) (λ r a. A.locks r) A.last
   marked_on (writes n s x v m b P) =
       marks items W W' F ws M n s m P.alive (P.rows s).number_is (inr (x, b, true_is P.writes_it)) (λ r d. P.rows r) P.locks P.last
   marked_on (commits n s m a u L o e k) = left items W W' F ws M s L
-  marked_on (commitsEmpty n s m a u w L o e k) = left items W W' F ws M s L
+  marked_on (commits_empty n s m a u w L o e k) = left items W W' F ws M s L
   marked_on (settles n s m B) = marks items W W' F ws M n s m B.update.0 B.number (inl B.kind) B.rows B.locks B.last
-  marked_on (commitsSettled n s m a u L o e k) = left items W W' F ws M s L
+  marked_on (commits_settled n s m a u L o e k) = left items W W' F ws M s L
   marked_on (ends n s m a L o e k) = left items W W' F ws M s L
 
   pub known_on : {c : Call} {h : Happening} → Turn items W W' c h → Known items (begun_with h so) W'

@@ -18,7 +18,7 @@ use Rattle.rules.specs.Good.{Good}
 use Rattle.rules.specs.Answers.{Call}
 use Rattle.rules.specs.Step.{with_txns, begun, counted, read_noted, joined, grant_joins, cleared, locked, locked_anew, replaced, shared_too, taken, holds_back, held_back}
 use Rattle.rules.proofs.Tests.{or_left, or_right, and_both, ne_make, is_true, is_false, true_is, false_is, same?}
-use Rattle.rules.proofs.Counts.{→someBelow}
+use Rattle.rules.proofs.Counts.{→some_below}
 use Rattle.rules.proofs.Bits.{with_bit_here}
 use Rattle.rules.proofs.Joined.{joined_length}
 use Rattle.rules.proofs.Noting.{noted-size}
@@ -28,13 +28,13 @@ use Rattle.rules.proofs.Views.{lock-set_lock, lock-set_lock-other}
 use Rattle.rules.proofs.EqualRows.{number-live, update-live, settled-live, live-settled, reader-live, holder_live}
 use Rattle.rules.proofs.Callers.{Caller, Free}
 use Rattle.rules.proofs.Decisions.{never_both_lem}
-use Rattle.history.specs.Happened.{got, put, Happening, update_began, queryBegan, relaxedBegan, accessed, nothing}
+use Rattle.history.specs.Happened.{got, put, Happening, update_began, query_began, relaxed_began, accessed, nothing}
 use Rattle.history.proofs.Invariant.{Row, Sees}
-use Rattle.history.proofs.Turns.{Same, New, Gets, by_lock, by_own, by_start as by_start_lem, by_set, Turn, quiet, updateBegins, queryBegins, relaxedBegins, reads, writes}
+use Rattle.history.proofs.Turns.{Same, New, Gets, by_lock, by_own, by_start as by_start_lem, by_set, Turn, quiet, update_begins, query_begins, relaxed_begins, reads, writes}
 use Rattle.history.proofs.Tables.{same_row, Quiet, quiet_on, noted_quiet, joined_quiet, read_quiet, counted_quiet, cleared_quiet, begun_here, begun_there, begun-last, begun-clock}
 use Rattle.history.proofs.Tables.{SameHold, same_hold, shared_hold, replaced_hold, taken_hold}
 use Rattle.history.proofs.Leaving.{read_at, shown_of, reads-newest}
-use Rattle.history.proofs.Seen.{seen, row_by, locks_by, sees-by}
+use Rattle.history.proofs.Seen.{seen, row_by, locks_by, sees_by}
 
 module _ (S : Sizes) (G : Tables) (g : Good S G) where
   abbrev t : List ℕ
@@ -61,7 +61,7 @@ module _ (S : Sizes) (G : Tables) (g : Good S G) where
       record {
         rows = λ r. row_by S G G r (same_row refl);
         locks = λ r. locks_by S G G r (still r);
-        sees = λ r. sees-by S G G r g (same_row refl) (λ y b i q. refl);
+        sees = λ r. sees_by S G G r g (same_row refl) (λ y b i q. refl);
         current = λ y b. refl;
         last = refl;
         clock = refl;
@@ -79,7 +79,7 @@ module _ (S : Sizes) (G : Tables) (g : Good S G) where
     awaited-row r = row_by S G G₁ r (q.rows r)
 
     awaited-sees : (r : ℕ) → Sees S.items (seen S G) (seen S (tables t' l' v)) r
-    awaited-sees r = sees-by S G G₁ r g (q.rows r) (λ y b i h. refl)
+    awaited-sees r = sees_by S G G₁ r g (q.rows r) (λ y b i h. refl)
 
     awaited-same : ((r y : ℕ) → y < S.items → SameHold (lock l y) (lock l' y) r) → SameIn (tables t' l' v)
     awaited-same L =
@@ -99,12 +99,12 @@ module _ (S : Sizes) (G : Tables) (g : Good S G) where
       (quiet_on (noted_quiet S t g.txns_exact s i l k x) (joined_quiet S (noted S t l s k x) (noted-size S t l s k x ∙ g.txns_exact) s i m)) l still)
 
   -- ---- a read of a version, which looks at k of them
-  pub version-read-turn :
+  pub version_read_turn :
       {c : Call} (n s x k : ℕ) → Caller S G n s → T (is_reader (txn t s)) → x < S.items → (T (holds_exclusive (lock l x) s) → ⊥)
       → held_back S t l x s ≡ false
       → TurnTo (with_txns G (counted (read_noted t l s x) s k)) c (accessed n (got x (choice (reader_in t s) (versions_of S v x)).value))
   unfolding held_back holds_back
-  version-read-turn n s x k C q b own free = reads n s x _ C.name b (awaited-same (counted (read_noted t l s x) s k) noted_so l still) (gets (same? (txn t s).kind a_relaxed))
+  version_read_turn n s x k C q b own free = reads n s x _ C.name b (awaited-same (counted (read_noted t l s x) s k) noted_so l still) (gets (same? (txn t s).kind a_relaxed))
     where
       inner : Quiet t (read_noted t l s x)
       inner = read_quiet S t g.txns_exact s C.inside l x (holder_inside S G g s C.inside x b)
@@ -119,7 +119,7 @@ module _ (S : Sizes) (G : Tables) (g : Good S G) where
       other r a m w (inl e) = own (subst (λ (j : ℕ). T (holds_exclusive (lock l x) j)) e w)
       other r a m w (inr d) =
           false_is free
-          (→someBelow S.slots (holds_back t l x s) r a.0.0
+          (→some_below S.slots (holds_back t l x s) r a.0.0
           (and_both (not (eqb s r)) _ (ne_make s r (λ e. d (sym e)))
           (and_both (holds_exclusive (lock l x) r) _ w
           (and_both (live_settled (txn t r)) _ (live-settled (txn t r) a.0.1 a.1) (true_is (le-leb (txn t r).start (txn t s).start m))))))
@@ -220,8 +220,8 @@ module _ (S : Sizes) (G : Tables) (g : Good S G) where
     unfolding holds_exclusive locked
     own_write w may a = write_turn (replaced h w) (cleared S t s) cleared_is w may (eqb→eq h.exclusive (suc s) a) refl (λ r d. replaced_hold h s w r a d)
 
-    pub past-write_turn : {c : Call} (w : ℕ) → T (live_settled (txn t s)) → T (holds_exclusive h s) → Takes w (locked S s x (replaced h w) G) c
-    past-write_turn w u a = own_write w (inr ((settled-live (txn t s) u).1, a)) a
+    pub past_write_turn : {c : Call} (w : ℕ) → T (live_settled (txn t s)) → T (holds_exclusive h s) → Takes w (locked S s x (replaced h w) G) c
+    past_write_turn w u a = own_write w (inr ((settled-live (txn t s) u).1, a)) a
 
     -- an update that still writes
     module _ (u : T (live_update (txn t s))) where
@@ -279,7 +279,7 @@ module _ (S : Sizes) (G : Tables) (g : Good S G) where
         record {
           rows = λ r d. row_by S G B r (same_row (begun_there S G g k q s free.inside r d));
           locks = λ r d. locks_by S G B r (still r);
-          sees = λ r d. sees-by S G B r g (same_row (begun_there S G g k q s free.inside r d)) (λ x b i h. refl);
+          sees = λ r d. sees_by S G B r g (same_row (begun_there S G g k q s free.inside r d)) (λ x b i h. refl);
           current = λ x b. refl;
           free = λ a. free.free a.1;
           number = number_is;
@@ -294,16 +294,16 @@ module _ (S : Sizes) (G : Tables) (g : Good S G) where
         (λ h. free.free (holder_live (txn t s) ((g.lock_good x b).excluders s h).1).0)
 
     pub begin_update_turn : {c : Call} → k ≡ an_update → TurnTo B c (update_began (last_number t + 1))
-    begin_update_turn e = updateBegins s begun_new (kind_is ∙ e) (unfold begun in nothing-held)
+    begin_update_turn e = update_begins s begun_new (kind_is ∙ e) (unfold begun in nothing-held)
 
-    pub begin_relaxed_turn : {c : Call} → k ≡ a_relaxed → TurnTo B c (relaxedBegan (last_number t + 1))
+    pub begin_relaxed_turn : {c : Call} → k ≡ a_relaxed → TurnTo B c (relaxed_began (last_number t + 1))
     begin_relaxed_turn e =
-        relaxedBegins s begun_new
+        relaxed_begins s begun_new
         ((free.inside, number-live (txn B.txns s) (λ z. let m = number_is in omega arith)), kind_is ∙ e) (unfold begun in nothing-held)
 
-    pub begin_query_turn : {c : Call} → k ≡ a_query → q ≡ clock t → TurnTo B c (queryBegan (last_number t + 1))
+    pub begin_query_turn : {c : Call} → k ≡ a_query → q ≡ clock t → TurnTo B c (query_began (last_number t + 1))
     unfolding begun
     begin_query_turn e f =
-        queryBegins s begun_new
+        query_begins s begun_new
         ((free.inside, number-live (txn B.txns s) (λ z. let m = number_is in omega arith)), kind_is ∙ e) (start_is ∙ f)
         (λ x b. ap (λ (m : ℕ). read_at S v m x) (start_is ∙ f) ∙ reads-newest S G g (clock t) (omega arith) x b)

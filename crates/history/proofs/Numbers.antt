@@ -18,7 +18,7 @@ use Rattle.history.specs.Runs.{run}
 use Rattle.history.specs.Happened.{SoFar, none_so_far, Happening, update_committed, empty_committed, happened, begun_with, happenings_after, happenings, all_of}
 use Rattle.history.specs.Numbers.{number_of, stamp_of, stamps_after, CountsFrom, CommitsUnder, StampsKept, Upward}
 use Rattle.history.proofs.Invariant.{View}
-use Rattle.history.proofs.Turns.{Turn, quiet, updateBegins, queryBegins, relaxedBegins, reads, writes, commits, commitsEmpty, settles, commitsSettled, ends}
+use Rattle.history.proofs.Turns.{Turn, quiet, update_begins, query_begins, relaxed_begins, reads, writes, commits, commits_empty, settles, commits_settled, ends}
 use Rattle.history.proofs.Marked.{Known}
 use Rattle.history.proofs.Tables.{fresh-last, fresh-clock}
 use Rattle.history.proofs.Seen.{seen, seen_fair}
@@ -42,30 +42,30 @@ module _ (items : ℕ) (W W' : View) where
   numbers_turn : {c : Call} {h : Happening} → Turn items W W' c h → Counts (number_of h) W.last W'.last
   unfolding Counts number_of
   numbers_turn (quiet A) = inl (refl, A.last)
-  numbers_turn (updateBegins s B q f) = inr (refl, B.last)
-  numbers_turn (queryBegins s B q u e) = inr (refl, B.last)
-  numbers_turn (relaxedBegins s B q e) = inr (refl, B.last)
+  numbers_turn (update_begins s B q f) = inr (refl, B.last)
+  numbers_turn (query_begins s B q u e) = inr (refl, B.last)
+  numbers_turn (relaxed_begins s B q e) = inr (refl, B.last)
   numbers_turn (reads n s x v e b A g) = inl (refl, A.last)
   numbers_turn (writes n s x v e b P) = inl (refl, P.last)
   numbers_turn (commits n s e a u L o f k) = inl (refl, L.last)
-  numbers_turn (commitsEmpty n s e a u w L o f k) = inl (refl, L.last)
+  numbers_turn (commits_empty n s e a u w L o f k) = inl (refl, L.last)
   numbers_turn (settles n s e B) = inl (refl, B.last)
-  numbers_turn (commitsSettled n s e a u L o f k) = inl (refl, L.last)
+  numbers_turn (commits_settled n s e a u L o f k) = inl (refl, L.last)
   numbers_turn (ends n s e a L o f k) = inl (refl, L.last)
 
   stamps_turn : (ss : List ℕ) → Past ss W → {c : Call} {h : Happening} → Turn items W W' c h → Counts (stamp_of ss h) W.clock W'.clock
   unfolding Counts stamp_of
   stamps_turn ss P (quiet A) = inl (refl, A.clock)
-  stamps_turn ss P (updateBegins s B q f) = inl (refl, B.clock)
-  stamps_turn ss P (queryBegins s B q u e) = inl (refl, B.clock)
-  stamps_turn ss P (relaxedBegins s B q e) = inl (refl, B.clock)
+  stamps_turn ss P (update_begins s B q f) = inl (refl, B.clock)
+  stamps_turn ss P (query_begins s B q u e) = inl (refl, B.clock)
+  stamps_turn ss P (relaxed_begins s B q e) = inl (refl, B.clock)
   stamps_turn ss P (reads n s x v e b A g) = inl (refl, A.clock)
   stamps_turn ss P (writes n s x v e b Q) = inl (refl, Q.clock)
   stamps_turn ss P (commits n s e a u L o f k) =
       rw (is_false (some (eqb n) ss) (λ z. P.others s L.alive (λ i. omega arith) (subst (λ (m : ℕ). T (some (eqb m) ss)) (sym e) z))) (inr (refl, k))
-  stamps_turn ss P (commitsEmpty n s e a u w L o f k) = inl (refl, k)
+  stamps_turn ss P (commits_empty n s e a u w L o f k) = inl (refl, k)
   stamps_turn ss P (settles n s e B) = inr (refl, B.clock)
-  stamps_turn ss P (commitsSettled n s e a u L o f k) =
+  stamps_turn ss P (commits_settled n s e a u L o f k) =
       rw (is_true (some (eqb n) ss) (subst (λ (m : ℕ). T (some (eqb m) ss)) e (P.past s (L.alive, u)))) (inl (refl, k))
   stamps_turn ss P (ends n s e a L o f k) = inl (refl, k)
 
@@ -106,24 +106,24 @@ module _ (S : Sizes) (enough : S.slots ≤ S.places) where
       where
         no : {k : ℕ} → Turn S.items (seen S G) (seen S (step S c G).after) c (update_committed n k) → ⊥
         no (commits m s e a i L o f j) = U.nobody s L.alive e
-        no (commitsSettled m s e a i L o f j) = U.nobody s L.alive e
+        no (commits_settled m s e a i L o f j) = U.nobody s L.alive e
 
         none : {k : ℕ} → Turn S.items (seen S G) (seen S (step S c G).after) c (empty_committed n k) → ⊥
-        none (commitsEmpty m s e a i w L o f j) = U.nobody s L.alive e
+        none (commits_empty m s e a i w L o f j) = U.nobody s L.alive e
 
-    took-run :
+    took_run :
         (cs : List Call) (us : SoFar) (G : Tables) → Good S G → Known S.items us (seen S G) → Took n d (seen S G)
         → CommitsUnder n d (happenings_after us (run S cs G))
     unfolding run happenings_after CommitsUnder
-    took-run [] us G g K H = tt
-    took-run (c ∷ cs) us G g K H = (
+    took_run [] us G g K H = tt
+    took_run (c ∷ cs) us G g K H = (
       λ k e.
           took_commit S.items (seen S G) (seen S (step S c G).after) (seen_fair S G g) n d H
           (subst (λ (h : Happening). Turn S.items (seen S G) (seen S (step S c G).after) c h) e (step_turn S enough c G g us K)),
       λ k e.
           took_full S.items (seen S G) (seen S (step S c G).after) (seen_fair S G g) n d H
           (subst (λ (h : Happening). Turn S.items (seen S G) (seen S (step S c G).after) c h) e (step_turn S enough c G g us K)),
-      go (took-run cs _ (step S c G).after (keeps S enough c G g) (step-known S enough c G g us K))
+      go (took_run cs _ (step S c G).after (keeps S enough c G g) (step-known S enough c G g us K))
           (took_on S.items (seen S G) (seen S (step S c G).after) (seen_fair S G g) n d H (step_turn S enough c G g us K)),
     )
       where
@@ -139,7 +139,7 @@ module _ (S : Sizes) (enough : S.slots ≤ S.places) where
   kept_run [] us G g K = tt
   kept_run (c ∷ cs) us G g K = (
     λ n d e.
-        took-run n d cs _ (step S c G).after (keeps S enough c G g) (step-known S enough c G g us K)
+        took_run n d cs _ (step S c G).after (keeps S enough c G g) (step-known S enough c G g us K)
         (took S.items (seen S G) (seen S (step S c G).after)
         (subst (λ (h : Happening). Turn S.items (seen S G) (seen S (step S c G).after) c h) e (step_turn S enough c G g us K))),
     kept_run cs _ (step S c G).after (keeps S enough c G g) (step-known S enough c G g us K),

@@ -103,10 +103,10 @@ unfoldable pub below : ℕ → List Entry → List ℕ
 below q [] = []
 below q (e ∷ es) = let rest = below q es in cond (ltb e.place q) (e.number ∷ rest) rest
 
-pub below-same : (q r : ℕ) (es : List Entry) → All (λ p n. (p < q → p < r) × (p < r → p < q)) es → below q es ≡ below r es
+pub below_same : (q r : ℕ) (es : List Entry) → All (λ p n. (p < q → p < r) × (p < r → p < q)) es → below q es ≡ below r es
 unfolding below All
-below-same q r [] h = refl
-below-same q r (e ∷ es) h = go (ltb e.place q) refl (below-same q r es h.1)
+below_same q r [] h = refl
+below_same q r (e ∷ es) h = go (ltb e.place q) refl (below_same q r es h.1)
   where
     go :
         (b : Bool) → ltb e.place q ≡ b → below q es ≡ below r es
@@ -138,10 +138,10 @@ below_all q [] h = refl
 below_all q (e ∷ es) h = rw (lt-ltb e.place q h.0) (ap (λ (l : List ℕ). e.number ∷ l) (below_all q es h.1))
 
 -- what is inserted is not below its place
-pub below-insert : (q : ℕ) (e : Entry) → q ≤ e.place → (es : List Entry) → below q (insert e es) ≡ below q es
+pub below_insert : (q : ℕ) (e : Entry) → q ≤ e.place → (es : List Entry) → below q (insert e es) ≡ below q es
 unfolding below insert
-below-insert q e l [] = rw (le-ltb e.place q l)
-below-insert q e l (f ∷ es) = go (leb f.place e.place) (below-insert q e l es)
+below_insert q e l [] = rw (le-ltb e.place q l)
+below_insert q e l (f ∷ es) = go (leb f.place e.place) (below_insert q e l es)
   where
     go :
         (b : Bool) → below q (insert e es) ≡ below q es
@@ -167,16 +167,16 @@ abbrev pub array_at : ℕ → List Entry → (ℕ → List Access) → Array
 array_at q es log = array_from q es log zeros
 
 -- one entry, and the rest
-from-below :
+from_below :
     (q : ℕ) (log : ℕ → List Access) (e : Entry) (es : List Entry) (a : Array) → e.place < q
     → array_from q (e ∷ es) log a ≡ array_from q es log (final (log e.number) a)
 unfolding below one_by_one
-from-below q log e es a l = rw (lt-ltb e.place q l) (final-append (log e.number) (one_by_one log (below q es)) a)
+from_below q log e es a l = rw (lt-ltb e.place q l) (final-append (log e.number) (one_by_one log (below q es)) a)
 
-from-skip :
+from_skip :
     (q : ℕ) (log : ℕ → List Access) (e : Entry) (es : List Entry) (a : Array) → q ≤ e.place → array_from q (e ∷ es) log a ≡ array_from q es log a
 unfolding below
-from-skip q log e es a l = rw (le-ltb e.place q l)
+from_skip q log e es a l = rw (le-ltb e.place q l)
 
 from_above : (q : ℕ) (log : ℕ → List Access) (es : List Entry) (a : Array) → All (λ p n. q ≤ p) es → array_from q es log a ≡ a
 unfolding below one_by_one final All
@@ -184,11 +184,11 @@ from_above q log [] a h = refl
 from_above q log (e ∷ es) a h = rw (le-ltb e.place q h.0) (from_above q log es a h.1)
 
 -- entries above p name only items of D, so do those of them that are below q
-within-below :
+within_below :
     (D : ℕ → Type 0) (log : ℕ → List Access) (q : ℕ) (es : List Entry) → All (λ p n. Within D (log n)) es → Within D (one_by_one log (below q es))
 unfolding below one_by_one All
-within-below D log q [] h = within_none D
-within-below D log q (e ∷ es) h = go (ltb e.place q) (within-below D log q es h.1)
+within_below D log q [] h = within_none D
+within_below D log q (e ∷ es) h = go (ltb e.place q) (within_below D log q es h.1)
   where
     go : (b : Bool) → Within D (one_by_one log (below q es)) → Within D (one_by_one log (cond b (e.number ∷ below q es) (below q es)))
     go true i = within-append D (log e.number) (one_by_one log (below q es)) h.0 i
@@ -199,16 +199,16 @@ within-below D log q (e ∷ es) h = go (ltb e.place q) (within-below D log q es 
 module _
     (D : ℕ → Type 0) (log : ℕ → List Access) (e : Entry) (q : ℕ) (later : e.place < q)
   where
-    pub insert-array :
+    pub insert_array :
         (es : List Entry) (a : Array) → Sorted es → All (λ p n. p ≢ e.place) es → All (λ p n. e.place < p → Within D (log n)) es
         → ((y : ℕ) → D y → final (log e.number) (array_from e.place es log a) y ≡ array_from e.place es log a y)
         → ((y : ℕ) → D y → array_from q (insert e es) log a y ≡ array_from q es log a y)
         × ((y : ℕ) → (D y → ⊥) → array_from q (insert e es) log a y ≡ final (log e.number) (array_from e.place es log a) y)
     unfolding insert Sorted All
-    insert-array [] a o v w h =
-        let z = from-below q log e [] a later in
+    insert_array [] a o v w h =
+        let z = from_below q log e [] a later in
         (λ y d. ap (λ (b : Array). b y) z ∙ unfold below one_by_one final in h y d, λ y d. ap (λ (b : Array). b y) z ∙ unfold below one_by_one final in refl)
-    insert-array (f ∷ es) a o v w h = go (leb f.place e.place) refl (insert-array es (final (log f.number) a) o.1 v.1 w.1)
+    insert_array (f ∷ es) a o v w h = go (leb f.place e.place) refl (insert_array es (final (log f.number) a) o.1 v.1 w.1)
       where
         Goal : Bool → Type 0
         Goal b =
@@ -224,82 +224,82 @@ module _
         go true k i =
             let l : f.place < e.place = let m = leb-true f.place e.place k in let d = v.0 in strictly f.place e.place m d in
             let l' : f.place < q = omega arith in
-            let n = from-below e.place log f es a l in
+            let n = from_below e.place log f es a l in
             let j = i (subst (λ (b : Array). (y : ℕ) → D y → final (log e.number) b y ≡ b y) n h) in (
-              λ y d. ap (λ (b : Array). b y) (from-below q log f (insert e es) a l') ∙ j.0 y d ∙ sym (ap (λ (b : Array). b y) (from-below q log f es a l')),
-              λ y d. ap (λ (b : Array). b y) (from-below q log f (insert e es) a l') ∙ j.1 y d ∙ sym (ap (λ (b : Array). final (log e.number) b y) n),
+              λ y d. ap (λ (b : Array). b y) (from_below q log f (insert e es) a l') ∙ j.0 y d ∙ sym (ap (λ (b : Array). b y) (from_below q log f es a l')),
+              λ y d. ap (λ (b : Array). b y) (from_below q log f (insert e es) a l') ∙ j.1 y d ∙ sym (ap (λ (b : Array). final (log e.number) b y) n),
             )
         go false k i =
             let l : e.place < f.place = leb-false f.place e.place k in
             let none : array_from e.place (f ∷ es) log a ≡ a =
             from_above e.place log (f ∷ es) a (let m : e.place ≤ f.place = omega arith in (m, all_map _ _ (λ p n g. let b = g.0 in omega arith) es o.0)) in
             let in-D : Within D (one_by_one log (below q (f ∷ es))) =
-            within-below D log q (f ∷ es) (w.0 l, all_both _ _ _ (λ p n g b. b (let c = g.0 in omega arith)) es o.0 w.1) in
+            within_below D log q (f ∷ es) (w.0 l, all_both _ _ _ (λ p n g b. b (let c = g.0 in omega arith)) es o.0 w.1) in
             let h' : (y : ℕ) → D y → final (log e.number) a y ≡ a y = subst (λ (b : Array). (y : ℕ) → D y → final (log e.number) b y ≡ b y) none h in (
               λ y d.
-                  ap (λ (b : Array). b y) (from-below q log e (f ∷ es) a later)
+                  ap (λ (b : Array). b y) (from_below q log e (f ∷ es) a later)
                   ∙ local_final D (one_by_one log (below q (f ∷ es))) (final (log e.number) a) a h' y d,
               λ y d.
-                  ap (λ (b : Array). b y) (from-below q log e (f ∷ es) a later)
+                  ap (λ (b : Array). b y) (from_below q log e (f ∷ es) a later)
                   ∙ untouched D (one_by_one log (below q (f ∷ es))) (final (log e.number) a) in-D y d
                   ∙ sym (ap (λ (b : Array). final (log e.number) b y) none),
             )
 
 -- ---- at an odd place stand queries, so that the array behind it is the array ahead of it
-pub skip-odd :
+pub skip_odd :
     (log : ℕ → List Access) (q : ℕ) → q % 2 ≡ 1 → (es : List Entry) (a : Array)
     → All (λ p n. p % 2 ≡ 1 → (a : Array) → final (log n) a ≡ a) es → array_from (q + 1) es log a ≡ array_from q es log a
 unfolding All below
-skip-odd log q o [] a h = refl
-skip-odd log q o (e ∷ es) a h = go (ltb e.place q) refl (λ b. skip-odd log q o es b h.1)
+skip_odd log q o [] a h = refl
+skip_odd log q o (e ∷ es) a h = go (ltb e.place q) refl (λ b. skip_odd log q o es b h.1)
   where
     Goal : Type 0
     Goal = array_from (q + 1) (e ∷ es) log a ≡ array_from q (e ∷ es) log a
 
     here : ((b : Array) → array_from (q + 1) es log b ≡ array_from q es log b) → q ≤ e.place → (e.place ≡ q) ⊎ (e.place ≢ q) → Goal
     here i l (inl z) =
-        from-below (q + 1) log e es a (omega arith) ∙ ap (λ (b : Array). array_from (q + 1) es log b) (h.0 (ap (λ (m : ℕ). m % 2) z ∙ o) a)
-        ∙ i a ∙ sym (from-skip q log e es a l)
+        from_below (q + 1) log e es a (omega arith) ∙ ap (λ (b : Array). array_from (q + 1) es log b) (h.0 (ap (λ (m : ℕ). m % 2) z ∙ o) a)
+        ∙ i a ∙ sym (from_skip q log e es a l)
     here i l (inr d) =
         let m = strictly q e.place l (λ z. d (sym z)) in
-        from-skip (q + 1) log e es a (omega arith) ∙ i a ∙ sym (from-skip q log e es a l)
+        from_skip (q + 1) log e es a (omega arith) ∙ i a ∙ sym (from_skip q log e es a l)
 
     go : (b : Bool) → ltb e.place q ≡ b → ((b : Array) → array_from (q + 1) es log b ≡ array_from q es log b) → Goal
     go true k i =
         let l : e.place < q = ltb-true e.place q k in
-        from-below (q + 1) log e es a (omega arith) ∙ i (final (log e.number) a) ∙ sym (from-below q log e es a l)
+        from_below (q + 1) log e es a (omega arith) ∙ i (final (log e.number) a) ∙ sym (from_below q log e es a l)
     go false k i = here i (ltb-false e.place q k) (same? e.place q)
 
 -- ---- the whole order agrees, if each entry agrees with the array that its place sees. Entries at one place change nothing for each other:
 -- they are queries, whose logs leave every array as it is
-still-final :
+still_final :
     (log : ℕ → List Access) (e : Entry) (es : List Entry) (a : Array) → Sorted (e ∷ es)
     → (e.place % 2 ≡ 1 → (a : Array) → final (log e.number) a ≡ a)
     → All (λ p n. T (agrees (log n) (array_from p (e ∷ es) log a))) es
     → All (λ p n. T (agrees (log n) (array_from p es log (final (log e.number) a)))) es
 unfolding Sorted below
-still-final log e es a o quiet told =
+still_final log e es a o quiet told =
     all_both _ _ _ (λ p n g h. subst (λ (b : Array). T (agrees (log n) b)) (same p g.0 g.1) h) es o.0 told
   where
     same : (p : ℕ) → e.place ≤ p → (e.place ≡ p → p % 2 ≡ 1) → array_from p (e ∷ es) log a ≡ array_from p es log (final (log e.number) a)
     same p l odd = go (ltb e.place p) refl
       where
         go : (b : Bool) → ltb e.place p ≡ b → array_from p (e ∷ es) log a ≡ array_from p es log (final (log e.number) a)
-        go true k = from-below p log e es a (ltb-true e.place p k)
+        go true k = from_below p log e es a (ltb-true e.place p k)
         go false k =
             let z : e.place ≡ p = let m = ltb-false e.place p k in omega arith in
             rw k (ap (λ (b : Array). array_from p es log b) (sym (quiet (ap (λ (m : ℕ). m % 2) z ∙ odd z) a)))
 
-pub all-agree :
+pub all_agree :
     (log : ℕ → List Access) (es : List Entry) (a : Array) → Sorted es
     → All (λ p n. p % 2 ≡ 1 → (a : Array) → final (log n) a ≡ a) es
     → All (λ p n. T (agrees (log n) (array_from p es log a))) es → T (agrees (one_by_one log (numbers_of es)) a)
 unfolding Sorted All one_by_one numbers_of agrees
-all-agree log [] a o quiet told = tt
-all-agree log (e ∷ es) a o quiet told =
+all_agree log [] a o quiet told = tt
+all_agree log (e ∷ es) a o quiet told =
     agrees-append (log e.number) (one_by_one log (numbers_of es)) a
     (subst (λ (b : Array). T (agrees (log e.number) b)) first told.0)
-    (all-agree log es (final (log e.number) a) o.1 quiet.1 (still-final log e es a o quiet.0 told.1))
+    (all_agree log es (final (log e.number) a) o.1 quiet.1 (still_final log e es a o quiet.0 told.1))
   where
     first : array_from e.place (e ∷ es) log a ≡ a
     first = from_above e.place log (e ∷ es) a (omega arith, all_map _ _ (λ p n g. g.0) es o.0)

@@ -14,19 +14,19 @@ use Rattle.history.specs.Happened.{Access}
 use Rattle.history.specs.Serial.{Entry, insert, one_by_one, Absent, numbers_of}
 use Rattle.history.proofs.Plain.{Array, zeros, agrees, final}
 use Rattle.history.proofs.Replay.{Within, within_none, local_agrees, local_final, untouched, final-append, all_more}
-use Rattle.history.proofs.Order.{All, all_map, all_both, all_insert, absent_all, absent_insert, once-insert, sorted_insert, below, below-insert, below_last}
-use Rattle.history.proofs.Order.{array_at, skip-odd}
+use Rattle.history.proofs.Order.{All, all_map, all_both, all_insert, absent_all, absent_insert, once-insert, sorted_insert, below, below_insert, below_last}
+use Rattle.history.proofs.Order.{array_at, skip_odd}
 use Rattle.history.proofs.Invariant.{View, Fair, Sees, Pending, Free, Slot, Inv, settled, query}
 use Rattle.history.proofs.Turns.{New, Left}
 use Rattle.history.proofs.Kept.{Unmoved, slot_kept, clear_kept}
-use Rattle.history.proofs.Steps.{pending-free, top, top_array}
+use Rattle.history.proofs.Steps.{pending_free, top, top_array}
 
 module _ (items : ℕ) (es : List Entry) (log : ℕ → List Access) (W W' : View) (F : Fair items W) (J : Inv items es log W) where
   -- ---- the entry e comes behind all others
   module _ (e : Entry) (behind : 2 * W.clock + 1 ≤ e.place) where
     -- the array at a place that was there is as before
     arrays : (p : ℕ) → p ≤ 2 * W.clock + 1 → array_at p (insert e es) log ≡ array_at p es log
-    arrays p l = ap (λ (ns : List ℕ). final (one_by_one log ns) zeros) (below-insert p e (omega arith) es)
+    arrays p l = ap (λ (ns : List ℕ). final (one_by_one log ns) zeros) (below_insert p e (omega arith) es)
 
     -- what all see: the newest values, and then what e does
     whole : (q : ℕ) → e.place < q → 2 * W.clock + 2 ≤ q → array_at q (insert e es) log ≡ final (log e.number) (array_at (2 * W.clock + 2) es log)
@@ -39,7 +39,7 @@ module _ (items : ℕ) (es : List Entry) (log : ℕ → List Access) (W W' : Vie
     told_on : T (agrees (log e.number) (array_at e.place es log)) → All (λ p n. T (agrees (log n) (array_at p (insert e es) log))) (insert e es)
     told_on h =
         all_insert _ e
-        (subst (λ (a : Array). T (agrees (log e.number) a)) (sym (ap (λ (ns : List ℕ). final (one_by_one log ns) zeros) (below-insert e.place e (omega arith) es))) h)
+        (subst (λ (a : Array). T (agrees (log e.number) a)) (sym (ap (λ (ns : List ℕ). final (one_by_one log ns) zeros) (below_insert e.place e (omega arith) es))) h)
         es (all_both _ _ _ (λ p n l t. subst (λ (a : Array). T (agrees (log n) a)) (sym (arrays p l)) t) es J.most J.told)
 
     unmoved :
@@ -59,7 +59,7 @@ module _ (items : ℕ) (es : List Entry) (log : ℕ → List Access) (W W' : Vie
 
   -- behind all updates with stamps up to the clock are the newest values
   newest : (x : ℕ) → x < items → array_at (2 * W.clock + 1) es log x ≡ W.current x
-  newest x b = sym (ap (λ (a : Array). a x) (skip-odd log (2 * W.clock + 1) (omega arith) es zeros J.still)) ∙ top_array items es log W W' F J (2 * W.clock + 1 + 1) (omega arith) x b
+  newest x b = sym (ap (λ (a : Array). a x) (skip_odd log (2 * W.clock + 1) (omega arith) es zeros J.still)) ∙ top_array items es log W W' F J (2 * W.clock + 1 + 1) (omega arith) x b
 
   -- ---- a query begins, in slot s
   module _ (s : ℕ) (B : New items W W' s) (q : query W' s) (st : W'.start s ≡ W.clock) (sees : (x : ℕ) → x < items → W'.snapshot s x ≡ W.current x) where
@@ -91,9 +91,9 @@ module _ (items : ℕ) (es : List Entry) (log : ℕ → List Access) (W W' : Vie
               (all_map _ _ (λ p n d i. absurd (d i)) es (absent_all (W'.number s) es nowhere)));
         }
 
-    pub begin_query-step : Inv items (insert e es) log W'
+    pub begin_query_step : Inv items (insert e es) log W'
     unfolding agrees final
-    begin_query-step =
+    begin_query_step =
         record {
           sorted = sorted_insert e es J.sorted (inl (omega arith));
           most = let c = B.clock in all_insert (λ p n. p ≤ 2 * W'.clock + 1) e (omega arith) es (all_map _ _ (λ p n h. omega arith) es J.most);
@@ -180,7 +180,7 @@ module _ (items : ℕ) (es : List Entry) (log : ℕ → List Access) (W W' : Vie
               slot_kept items es (insert E es) log log W W' F r R (L.locks r d) (R.was a)
               (unmoved E (omega arith) r (F.apart s r L.alive (R.was a) (λ z. d (sym z)))
               (λ k z. let l = F.low r (R.was a, λ i. omega arith, λ i. omega arith) in let z' : 2 * (W.clock + 1) ≡ 2 * W.start r = z in omega arith)
-              (λ k. pending-free items W F r s (log (W.number s)) d P) (still r d))
+              (λ k. pending_free items W F r s (log (W.number s)) d P) (still r d))
               (sees r d) (J.slots r (R.was a))
 
   -- ---- an update that holds nothing exclusively commits, in slot s: it stands where a query would that begins now
@@ -208,8 +208,8 @@ module _ (items : ℕ) (es : List Entry) (log : ℕ → List Access) (W W' : Vie
       remains : (r : ℕ) → W'.alive r → r ≢ s
       remains r a f = L.gone (subst (λ (m : ℕ). W'.alive m) f a)
 
-      pub empty_commit-step : Inv items (insert D es) log W'
-      empty_commit-step =
+      pub empty_commit_step : Inv items (insert D es) log W'
+      empty_commit_step =
           record {
             sorted = sorted_insert D es J.sorted (inl (omega arith));
             most = all_insert (λ p n. p ≤ 2 * W'.clock + 1) D (omega arith) es (all_map _ _ (λ p n h. omega arith) es J.most);
@@ -236,5 +236,5 @@ module _ (items : ℕ) (es : List Entry) (log : ℕ → List Access) (W W' : Vie
               let R = L.rows r d in
               slot_kept items es (insert D es) log log W W' F r R (L.locks r d) (R.was a)
               (unmoved D (omega arith) r (F.apart s r L.alive (R.was a) (λ z. d (sym z))) (λ k z. omega arith)
-              (λ k. pending-free items W F r s (log (W.number s)) d N) (λ x b h. cur x b))
+              (λ k. pending_free items W F r s (log (W.number s)) d N) (λ x b h. cur x b))
               (sees r d) (J.slots r (R.was a))

@@ -10,9 +10,9 @@ use Rattle.history.specs.Happened.{Access, got, put, Happening}
 use Rattle.history.specs.Serial.{Entry, insert, insert_all, access_of, place_of}
 use Rattle.history.proofs.Replay.{added}
 use Rattle.history.proofs.Invariant.{View, Fair, Inv, reader, settled}
-use Rattle.history.proofs.Turns.{Same, by_lock, by_own, by_start, by_set, Turn, quiet, updateBegins, queryBegins, relaxedBegins, reads, writes, commits, commitsEmpty, settles, commitsSettled, ends}
+use Rattle.history.proofs.Turns.{Same, by_lock, by_own, by_start, by_set, Turn, quiet, update_begins, query_begins, relaxed_begins, reads, writes, commits, commits_empty, settles, commits_settled, ends}
 use Rattle.history.proofs.Steps.{quiet_step, left_step, begin_unplaced_step, settle_step}
-use Rattle.history.proofs.Placed.{begin_query-step, commit-step, empty_commit-step}
+use Rattle.history.proofs.Placed.{begin_query_step, commit-step, empty_commit_step}
 use Rattle.history.proofs.Between.{settled-commit-step}
 use Rattle.history.proofs.Grown.{lock-read-step, own_read-step, start-read-step, query-read-step, relaxed-read-step, write_step}
 
@@ -46,10 +46,10 @@ module _ (items : ℕ) (es : List Entry) (log : ℕ → List Access) (W W' : Vie
   pub turn_step : {c : Call} {h : Happening} → Turn items W W' c h → Next h
   unfolding place_of access_of added insert_all
   turn_step (quiet A) = unlogged (quiet_step items es log W W' F J A)
-  turn_step (updateBegins s B k free) = unlogged (begin_unplaced_step items es log W W' F J s B (inl k) free)
-  turn_step (queryBegins s B q z sees) =
-      unlogged (placed (2 * W.clock + 1) B.number (begin_query-step items es log W W' F J s B q z sees))
-  turn_step (relaxedBegins s B q free) = unlogged (begin_unplaced_step items es log W W' F J s B (inr q.1) free)
+  turn_step (update_begins s B k free) = unlogged (begin_unplaced_step items es log W W' F J s B (inl k) free)
+  turn_step (query_begins s B q z sees) =
+      unlogged (placed (2 * W.clock + 1) B.number (begin_query_step items es log W W' F J s B q z sees))
+  turn_step (relaxed_begins s B q free) = unlogged (begin_unplaced_step items es log W W' F J s B (inr q.1) free)
   turn_step (reads n s x v e b A (by_lock u h is)) =
       logged n (W.number s) (got x v) e (lock-read-step items es log W W' F J s u.0 x v b A u.1 h is)
   turn_step (reads n s x v e b A (by_own u w is)) =
@@ -59,9 +59,9 @@ module _ (items : ℕ) (es : List Entry) (log : ℕ → List Access) (W W' : Vie
   turn_step (writes n s x v e b P) = logged n (W.number s) (put x v) e (write_step items es log W W' F J s P.alive x v b P)
   turn_step (commits n s e a k L sees cur c) =
       unlogged (placed (2 * (W.clock + 1)) e (commit-step items es log W W' F J s k L sees cur c))
-  turn_step (commitsEmpty n s e a k none L sees cur c) =
-      unlogged (placed (2 * W.clock + 1) e (empty_commit-step items es log W W' F J s k none L sees cur c))
+  turn_step (commits_empty n s e a k none L sees cur c) =
+      unlogged (placed (2 * W.clock + 1) e (empty_commit_step items es log W W' F J s k none L sees cur c))
   turn_step (settles n s e B) = unlogged (settle_step items es log W W' F J s B)
-  turn_step (commitsSettled n s e a k L snap cur c) =
+  turn_step (commits_settled n s e a k L snap cur c) =
       unlogged (placed (2 * W.start s) e (settled-commit-step items es log W W' F J s k L snap cur c))
   turn_step (ends n s e a L sees same c) = unlogged (left_step items es log W W' F J s L sees same c)

@@ -12,12 +12,12 @@ use Rattle.rules.specs.Versions.{newest}
 use Rattle.rules.specs.Answers.{Call, BeginQuery, Read, granted}
 use Rattle.rules.specs.Step.{step}
 use Rattle.rules.proofs.Tests.{true_is, false_is, is_false, and_left, and_right, and_both}
-use Rattle.rules.proofs.Counts.{someBelow→, →someBelow}
+use Rattle.rules.proofs.Counts.{some_below→, →some_below}
 use Rattle.rules.proofs.EqualRows.{settled-live, live-settled}
 use Rattle.rules.proofs.Keeps.{keeps}
 use Rattle.rules.proofs.Fresh.{fresh-good}
 use Rattle.history.specs.Runs.{Event, run, end_of, Every}
-use Rattle.history.specs.Happened.{SoFar, none_so_far, Access, Happening, queryBegan, did, happened, begun_with, happenings_after, happenings}
+use Rattle.history.specs.Happened.{SoFar, none_so_far, Access, Happening, query_began, did, happened, begun_with, happenings_after, happenings}
 use Rattle.history.specs.Serial.{Entry, granted_to}
 use Rattle.history.specs.Undisturbed.{commit_of, commit_in, last_put, left_by, PastIn, PastOn, Gives, ReadsUpTo, ReadsAsBegun, Alike, Undisturbed}
 use Rattle.history.proofs.Invariant.{Inv, settled}
@@ -26,10 +26,10 @@ use Rattle.history.proofs.Marked.{Known}
 use Rattle.history.proofs.Preserved.{turn_step}
 use Rattle.history.proofs.Tables.{inside?}
 use Rattle.history.proofs.Seen.{seen, seen_fair}
-use Rattle.history.proofs.Happens.{step_turn, granted-turn, step-known, run-good, run-known, fresh-known}
+use Rattle.history.proofs.Happens.{step_turn, granted_turn, step-known, run-good, run-known, fresh-known}
 use Rattle.history.proofs.Theorem.{after-fresh}
 use Rattle.history.proofs.Reading.{Open}
-use Rattle.history.proofs.Follows.{commit-unknown, begin-open, begin_fixed, outside-run, fixed-run, unknown_end, outcome, outcome_on, open-run}
+use Rattle.history.proofs.Follows.{commit-unknown, begin_open, begin_fixed, outside-run, fixed_run, unknown_end, outcome, outcome_on, open_run}
 
 -- ---- events
 every_map : (P Q : Event → Type 0) → ((e : Event) → P e → Q e) → (es : List Event) → Every P es → Every Q es
@@ -47,13 +47,13 @@ module _ (S : Sizes) (enough : S.slots ≤ S.places) where
   after c G = (step S c G).after
 
   -- the turn of a query's begin
-  begin-turn :
+  begin_turn :
       (n : ℕ) (G : Tables) → Good S G → (us : SoFar) → Known S.items us (seen S G) → (step S BeginQuery G).answer.code ≡ granted
-      → (step S BeginQuery G).answer.number ≡ n → Turn S.items (seen S G) (seen S (after BeginQuery G)) BeginQuery (queryBegan n)
+      → (step S BeginQuery G).answer.number ≡ n → Turn S.items (seen S G) (seen S (after BeginQuery G)) BeginQuery (query_began n)
   unfolding did
-  begin-turn n G g us K e m =
-      subst (λ (j : ℕ). Turn S.items (seen S G) (seen S (after BeginQuery G)) BeginQuery (queryBegan j)) m
-      (granted-turn S enough BeginQuery G g us K e)
+  begin_turn n G g us K e m =
+      subst (λ (j : ℕ). Turn S.items (seen S G) (seen S (after BeginQuery G)) BeginQuery (query_began j)) m
+      (granted_turn S enough BeginQuery G g us K e)
 
   past-settled : (G : Tables) (b : ℕ) → PastIn S G b → settled (seen S G) b
   past-settled G b p = let k = settled-live (txn G.txns b) p.1 in ((p.0, k.0), k.1)
@@ -76,7 +76,7 @@ module _ (S : Sizes) (enough : S.slots ≤ S.places) where
     held-run [] us es log G g K J e i b p =
         subst (λ (k : ℕ). Every (Gives n x k) (run S cs (after BeginQuery G)))
         (outcome_on S enough m n x v (log m) h hs (is_false (commit_of m h) (λ z. (commit-unknown S.items (seen S G) (seen S G') (seen_fair S G g) m t z).nobody O.holder O.past.0 O.name)))
-        (open-run S enough m n x v bx cs _ _ _ G' (keeps S enough BeginQuery G g) (step-known S enough BeginQuery G g us K)
+        (open_run S enough m n x v bx cs _ _ _ G' (keeps S enough BeginQuery G g) (step-known S enough BeginQuery G g us K)
         (turn_step S.items es log (seen S G) (seen S G') (seen_fair S G g) J t) O)
       where
         m : ℕ
@@ -99,7 +99,7 @@ module _ (S : Sizes) (enough : S.slots ≤ S.places) where
 
         O : Open n x (txn G.txns b).number (newest S G.versions x) (seen S (step S BeginQuery G).after)
         O =
-            begin-open S.items x bx (seen S G) (seen S (step S BeginQuery G).after) (seen_fair S G g) (begin-turn n G g us K e i) b (past-settled G b p.0) p.1
+            begin_open S.items x bx (seen S G) (seen S (step S BeginQuery G).after) (seen_fair S G g) (begin_turn n G g us K e i) b (past-settled G b p.0) p.1
     held-run (c ∷ before) us es log G g K J e i b p =
         subst (λ (k : ℕ). Every (Gives n x k) (run S cs (step S BeginQuery H).after))
         (outcome_on S enough m n x v (log m) (happened us c (step S c G).answer) _
@@ -156,8 +156,8 @@ module _ (S : Sizes) (enough : S.slots ≤ S.places) where
             ((b : ℕ) → PastOn S (left before) x b → ⊥) → (x < S.items) ⊎ (S.items ≤ x)
             → Every (Gives n x (newest S (left before).versions x)) (run S cs (since before))
         free none (inl bx) =
-            fixed-run S enough n x (newest S G.versions x) bx cs _ (since before) (keeps S enough BeginQuery G g) (step-known S enough BeginQuery G g us K)
-            (begin_fixed S.items x bx (seen S G) (seen S (since before)) (seen_fair S G g) (begin-turn n G g us K e m)
+            fixed_run S enough n x (newest S G.versions x) bx cs _ (since before) (keeps S enough BeginQuery G g) (step-known S enough BeginQuery G g us K)
+            (begin_fixed S.items x bx (seen S G) (seen S (since before)) (seen_fair S G g) (begin_turn n G g us K e m)
             (λ b p w. none b ((p.0.0, live-settled (txn G.txns b) p.0.1 p.1), w)))
         free none (inr o) = outside _ o
 
@@ -181,11 +181,11 @@ module _ (S : Sizes) (enough : S.slots ≤ S.places) where
         go : (z : Bool) → some_below S.slots (λ b. live_settled (txn G.txns b) && holds_exclusive (lock G.locks x) b) ≡ z
             → ((b : ℕ) × PastOn S G x b) ⊎ ((b : ℕ) → PastOn S G x b → ⊥)
         go true e =
-            let o = someBelow→ S.slots on (true_is e) in
+            let o = some_below→ S.slots on (true_is e) in
             let b = o.0 in
             inl (b, ((o.1, and_left (live_settled (txn G.txns b)) _ o.2), and_right (live_settled (txn G.txns b)) _ o.2))
         go false e =
-            inr (λ b p. false_is e (→someBelow S.slots on b p.0.0 (and_both (live_settled (txn G.txns b)) _ p.0.1 p.1)))
+            inr (λ b p. false_is e (→some_below S.slots on b p.0.0 (and_both (live_settled (txn G.txns b)) _ p.0.1 p.1)))
 
     -- what it leaves is the same in both
     left-alike : (G : Tables) (hs ks : List Happening) → Alike S G hs ks → (b : ℕ) → PastIn S G b → (x v : ℕ)

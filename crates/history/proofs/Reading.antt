@@ -15,8 +15,8 @@ use Rattle.history.specs.Happened.{got, Happening, accessed, update_committed, o
 use Rattle.history.specs.Serial.{access_of}
 use Rattle.history.specs.Undisturbed.{commit_of}
 use Rattle.history.proofs.Invariant.{View, Fair, Row, Locks, update, query, settled, reader}
-use Rattle.history.proofs.Turns.{Same, New, Gets, by_lock, by_own, by_start, by_set, Puts, Left, Settles, Turn, quiet, updateBegins, queryBegins, relaxedBegins, reads, writes}
-use Rattle.history.proofs.Turns.{commits, commitsEmpty, settles, commitsSettled, ends}
+use Rattle.history.proofs.Turns.{Same, New, Gets, by_lock, by_own, by_start, by_set, Puts, Left, Settles, Turn, quiet, update_begins, query_begins, relaxed_begins, reads, writes}
+use Rattle.history.proofs.Turns.{commits, commits_empty, settles, commits_settled, ends}
 use Rattle.history.proofs.Standing.{Unknown, left-unknown}
 
 -- the query n lives
@@ -84,24 +84,24 @@ module _ (items : ℕ) (W W' : View) (F : Fair items W) (n x : ℕ) (bx : x < it
       go (inr d) = absurd (F.apart s L.slot a L.query.0 d (e ∙ sym L.name))
 
   -- its read gives what it sees, and it is not held back
-  query-gets :
+  query_gets :
       (L : Lives n W) (s v : ℕ) → W.number s ≡ n → Gets items W W' s x v
       → (v ≡ W.snapshot L.slot x) × ((r : ℕ) → settled W r → W.start r ≤ W.start L.slot → T (W.writes r x) → ⊥)
-  query-gets L s v e (by_lock u h is) =
+  query_gets L s v e (by_lock u h is) =
       absurd (let z : W.kind s ≡ W.kind L.slot = ap W.kind (by_query L s v e u.0) in let k = u.1 in let j = L.query.1 in omega arith)
-  query-gets L s v e (by_own u w is) =
+  query_gets L s v e (by_own u w is) =
       absurd (let z : W.kind s ≡ W.kind L.slot = ap W.kind (by_query L s v e u.0) in let k = u.1 in let j = L.query.1 in omega arith)
-  query-gets L s v e (by_set u is) =
+  query_gets L s v e (by_set u is) =
       absurd (let z : W.kind s ≡ W.kind L.slot = ap W.kind (by_query L s v e u.0) in let k = u.1 in let j = L.query.1 in omega arith)
-  query-gets L s v e (by_start q held is) =
+  query_gets L s v e (by_start q held is) =
       let z = by_query L s v e q.0 in
       (is ∙ ap (λ (m : ℕ). W.snapshot m x) z, subst (λ (k : ℕ). (r : ℕ) → settled W r → W.start r ≤ W.start k → T (W.writes r x) → ⊥) z held)
 
   pub fixed_read : {c : Call} {v w : ℕ} → Fixed n x v W → Turn items W W' c (accessed n (got x w)) → w ≡ v
-  fixed_read H (reads m s y u e b A g) = (query-gets H.lives s u e g).0 ∙ H.sees
+  fixed_read H (reads m s y u e b A g) = (query_gets H.lives s u e g).0 ∙ H.sees
 
   pub open_read : {c : Call} {m v w : ℕ} → Open n x m v W → Turn items W W' c (accessed n (got x w)) → ⊥
-  open_read H (reads m s y u e b A g) = (query-gets H.lives s u e g).1 H.holder H.past H.early H.writes
+  open_read H (reads m s y u e b A g) = (query_gets H.lives s u e g).1 H.holder H.past H.early H.writes
 
   -- ---- it lives on
   abbrev lives_on : (L : Lives n W) → Row W W' L.slot → Lives n W'
@@ -281,9 +281,9 @@ module _ (items : ℕ) (W W' : View) (F : Fair items W) (n x : ℕ) (bx : x < it
     apart_from : (H : Lives n W) → H.slot ≢ s
     apart_from H e = let z : W.kind H.slot ≡ W.kind s = ap W.kind e in let j = H.query.1 in omega arith
 
-    untouched-by :
+    untouched_by :
         (H : Lives n W) → (T (W.writes s x) → W.start s ≤ W.start H.slot → ⊥) → W'.snapshot H.slot x ≡ W.snapshot H.slot x
-    untouched-by H none =
+    untouched_by H none =
         snap H.slot x (apart_from H) bx (as_reader H (L.rows H.slot (apart_from H)))
         ∙ rw (is_false (W.writes s x && leb (W.start s) (W.start H.slot))
         (λ t.
@@ -298,20 +298,20 @@ module _ (items : ℕ) (W W' : View) (F : Fair items W) (n x : ℕ) (bx : x < it
   -- ---- what it reads stays fixed, until it ends
   pub fixed_on : {v : ℕ} {c : Call} {h : Happening} → Fixed n x v W → Turn items W W' c h → Unknown n W' ⊎ Fixed n x v W'
   fixed_on H (quiet A) = inr (same_fixed A H)
-  fixed_on H (updateBegins s B k f) = inr (new_fixed s B (λ z. omega arith) H)
-  fixed_on H (queryBegins s B q z e) = inr (new_fixed s B (λ z. let k = q.1 in omega arith) H)
-  fixed_on H (relaxedBegins s B q e) = inr (new_fixed s B (λ z. let k = q.1 in omega arith) H)
+  fixed_on H (update_begins s B k f) = inr (new_fixed s B (λ z. omega arith) H)
+  fixed_on H (query_begins s B q z e) = inr (new_fixed s B (λ z. let k = q.1 in omega arith) H)
+  fixed_on H (relaxed_begins s B q e) = inr (new_fixed s B (λ z. let k = q.1 in omega arith) H)
   fixed_on H (reads m s y u e b A g) = inr (same_fixed A H)
   fixed_on H (writes m s y u e b P) = inr (put_fixed s y u P H)
   fixed_on H (commits m s e a k L sees f i) =
       let d : H.lives.slot ≢ s = not_kind H.lives.slot s (λ z. let j = H.lives.query.1 in omega arith) in
       inr (left_fixed s L H d (sees H.lives.slot d x bx (as_reader H.lives (L.rows H.lives.slot d)) ∙ H.sees))
-  fixed_on H (commitsEmpty m s e a k w L sees f i) =
+  fixed_on H (commits_empty m s e a k w L sees f i) =
       let d : H.lives.slot ≢ s = not_kind H.lives.slot s (λ z. let j = H.lives.query.1 in omega arith) in
       inr (left_fixed s L H d (sees H.lives.slot d x bx (as_reader H.lives (L.rows H.lives.slot d)) ∙ H.sees))
   fixed_on H (settles m s e B) = inr (settle_fixed s B H)
-  fixed_on H (commitsSettled m s e a k L snap f i) =
-      inr (left_fixed s L H (apart_from s k L snap H.lives) (untouched-by s k L snap H.lives (λ w l. H.free s (L.alive, k) l w) ∙ H.sees))
+  fixed_on H (commits_settled m s e a k L snap f i) =
+      inr (left_fixed s L H (apart_from s k L snap H.lives) (untouched_by s k L snap H.lives (λ w l. H.free s (L.alive, k) l w) ∙ H.sees))
   fixed_on {v} H (ends m s e a L sees f i) = go (same? H.lives.slot s)
     where
       go : (H.lives.slot ≡ s) ⊎ (H.lives.slot ≢ s) → Unknown n W' ⊎ Fixed n x v W'
@@ -331,21 +331,21 @@ module _ (items : ℕ) (W W' : View) (F : Fair items W) (n x : ℕ) (bx : x < it
   pub open_on : {m v : ℕ} {c : Call} {h : Happening} → Open n x m v W → Turn items W W' c h → Next m v h
   unfolding commit_of access_of
   open_on H (quiet A) = stays (same_open A H)
-  open_on H (updateBegins s B k f) = stays (new_open s B (λ z. omega arith) H)
-  open_on H (queryBegins s B q z e) = stays (new_open s B (λ z. let k = q.1 in omega arith) H)
-  open_on H (relaxedBegins s B q e) = stays (new_open s B (λ z. let k = q.1 in omega arith) H)
+  open_on H (update_begins s B k f) = stays (new_open s B (λ z. omega arith) H)
+  open_on H (query_begins s B q z e) = stays (new_open s B (λ z. let k = q.1 in omega arith) H)
+  open_on H (relaxed_begins s B q e) = stays (new_open s B (λ z. let k = q.1 in omega arith) H)
   open_on H (reads k s y u e b A g) = stays (same_open A H)
   open_on H (writes k s y u e b P) = stays (put_open s y u P H)
   open_on H (commits j s e a k L sees f i) =
       let d : H.lives.slot ≢ s = not_kind H.lives.slot s (λ z. let j = H.lives.query.1 in omega arith) in
       let c : H.holder ≢ s = not_kind H.holder s (λ z. let j = H.past.1 in omega arith) in
       stays (left_open s L H d c (sees H.lives.slot d x bx (as_reader H.lives (L.rows H.lives.slot d)) ∙ H.sees))
-  open_on H (commitsEmpty j s e a k w L sees f i) =
+  open_on H (commits_empty j s e a k w L sees f i) =
       let d : H.lives.slot ≢ s = not_kind H.lives.slot s (λ z. let j = H.lives.query.1 in omega arith) in
       let c : H.holder ≢ s = not_kind H.holder s (λ z. let j = H.past.1 in omega arith) in
       stays (left_open s L H d c (sees H.lives.slot d x bx (as_reader H.lives (L.rows H.lives.slot d)) ∙ H.sees))
   open_on H (settles j s e B) = stays (settle_open s B H)
-  open_on {m} {v} H (commitsSettled j s e a k L snap f i) = go (same? H.holder s)
+  open_on {m} {v} H (commits_settled j s e a k L snap f i) = go (same? H.holder s)
     where
       go : (H.holder ≡ s) ⊎ (H.holder ≢ s) → Next m v (update_committed j (W.start s))
       go (inl z) =
@@ -359,7 +359,7 @@ module _ (items : ℕ) (W W' : View) (F : Fair items W) (n x : ℕ) (bx : x < it
       go (inr d) =
           stays
           (left_open s L H (apart_from s k L snap H.lives) d
-          (untouched-by s k L snap H.lives (λ w l. F.alone H.holder s x bx d H.writes (F.written_held s x w)) ∙ H.sees))
+          (untouched_by s k L snap H.lives (λ w l. F.alone H.holder s x bx d H.writes (F.written_held s x w)) ∙ H.sees))
   open_on {m} {v} H (ends j s e a L sees f i) = go (same? H.lives.slot s) (same? H.holder s)
     where
       seen : H.lives.slot ≢ s → W'.snapshot H.lives.slot x ≡ v

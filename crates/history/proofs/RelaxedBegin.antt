@@ -21,7 +21,7 @@ use Rattle.rules.proofs.Bits.{bit_none}
 use Rattle.rules.proofs.RowKinds.{relaxed-live, live-relaxed, update-live, live-update}
 use Rattle.rules.proofs.Choice.{choice_hit}
 use Rattle.rules.proofs.Keeps.{keeps}
-use Rattle.rules.proofs.Sets.{joins-exactly}
+use Rattle.rules.proofs.Sets.{joins_exactly}
 use Rattle.rules.proofs.VersionsCome.{versions_come}
 use Rattle.history.specs.Happened.{SoFar, Access, Happening, happened, all_of}
 use Rattle.history.specs.Serial.{Entry, access_of, granted_to, one_by_one}
@@ -39,7 +39,7 @@ use Rattle.history.proofs.RelaxedItems.{told_begin}
 use Rattle.history.proofs.RelaxedLists.{or_none, ended, ended-append, ended_one, until-over, relaxed-append, relaxed_one, those-same}
 use Rattle.history.proofs.RelaxedTurns.{Effect, none, one, empty, effect, grows, was-update, Begins, later, now, else as otherwise, begins, begun-before}
 use Rattle.history.proofs.RelaxedPhase.{in-set→, query-unknown, query_unborn, kept, log_of, array_of, Before, Over, Else, Phase, before, during, over, else}
-use Rattle.history.proofs.RelaxedPhase.{log_more, common_on, array_none, array-one}
+use Rattle.history.proofs.RelaxedPhase.{log_more, common_on, array_none, array_one}
 
 -- a row whose first version is not hidden from the query shows it the newest
 first-shown : (s : ℕ) (vs : List Version) → bit (hidden_at vs 0) s ≡ false → choice (outside s) vs ≡ get_or vs 0 no_version
@@ -135,14 +135,14 @@ module _
           go k e (none f cur) =
               ap (λ (a : Array). a x) (array_none S q G G' g g' h t hs ever B.common (ap committer e ∙ f)) ∙ B.now x i ∙ sym (cur x i)
           go k e (one n b d m a kq cur) =
-              ap (λ (a : Array). a x) (array-one S q G G' g g' h t hs ever B.common n (ap committer e ∙ unfold committer in refl))
+              ap (λ (a : Array). a x) (array_one S q G G' g g' h t hs ever B.common n (ap committer e ∙ unfold committer in refl))
               ∙ ap (λ (z : Bool). cond (not z) (final (granted_to n (hs ++ (h ∷ []))) (array_of ever hs)) (array_of ever hs) x) (out n)
               ∙ ap (λ (l : List Access). final l (array_of ever hs) x) (logged n k e (unfold access_of in refl) ∙ ap (λ (j : ℕ). granted_to j hs) (sym m))
               ∙ (J.slots b a).ends kq (array_of ever hs) x i
               ∙ ap (cond ((seen S G).writes b x) ((seen S G).working x)) (B.now x i)
               ∙ sym (cur x i)
           go k e (empty n b d m a kq w cur) =
-              ap (λ (a : Array). a x) (array-one S q G G' g g' h t hs ever B.common n (ap committer e ∙ unfold committer in refl))
+              ap (λ (a : Array). a x) (array_one S q G G' g g' h t hs ever B.common n (ap committer e ∙ unfold committer in refl))
               ∙ ap (λ (z : Bool). cond (not z) (final (granted_to n (hs ++ (h ∷ []))) (array_of ever hs)) (array_of ever hs) x) (out n)
               ∙ ap (λ (l : List Access). final l (array_of ever hs) x) (logged n k e (unfold access_of in refl) ∙ ap (λ (j : ℕ). granted_to j hs) (sym m))
               ∙ (J.slots b a).ends kq (array_of ever hs) x i
@@ -176,7 +176,7 @@ module _
               writes u = old (was-update S.items (seen S G) (seen S G') (seen_fair S G g) r t ((i, l), (update-live (txn G'.txns r) u).1))
                 where
                   old : (((seen S G').number r ≡ (seen S G).number r) × (((seen S G).alive r) × ((seen S G).kind r ≡ an_update))) ⊎ ((seen S G').number r ≡ (seen S G).last + 1) → ⊥
-                  old (inl o) = joins ((joins-exactly S enough c G r s g i R.0.0 (live-update (txn G.txns r) o.1.0.1 o.1.1) u).0 z)
+                  old (inl o) = joins ((joins_exactly S enough c G r s g i R.0.0 (live-update (txn G.txns r) o.1.0.1 o.1.1) u).0 z)
                     where
                       joins :
                           (T (bit (txn G.txns r).later_for s) × T (live_relaxed (txn G'.txns s)))

@@ -18,11 +18,11 @@ use Rattle.rules.specs.Conditions.{Caller}
 use Rattle.rules.proofs.Tests.{or_left, or_right, is_false, false_is, not_make, not_use}
 use Rattle.rules.proofs.RowKinds.{holder_cases, update-live, live-update, reader-live, relaxed-live, live-relaxed}
 use Rattle.rules.proofs.Callers.{caller-found}
-use Rattle.rules.proofs.Sets.{joins-exactly}
+use Rattle.rules.proofs.Sets.{joins_exactly}
 use Rattle.rules.proofs.Steps.{acts}
 use Rattle.rules.proofs.Judged.{way}
-use Rattle.rules.proofs.Ways.{refusal-code, Way, refused, waited, kept_waiting, began_update, began_query, began_relaxed, read_own, read_newest, readShared, readSettled, readVersion}
-use Rattle.rules.proofs.Ways.{wroteOwn, wroteSettled, wroteTaken, committedUpdate, committedEmpty, committed_settled, committed_query, aborted_update, aborted_settled, aborted_query, settledUpdate}
+use Rattle.rules.proofs.Ways.{refusal-code, Way, refused, waited, kept_waiting, began_update, began_query, began_relaxed, read_own, read_newest, read_shared, read_settled, read_version}
+use Rattle.rules.proofs.Ways.{wrote_own, wrote_settled, wrote_taken, committed_update, committed_empty, committed_settled, committed_query, aborted_update, aborted_settled, aborted_query, settled_update}
 use Rattle.history.specs.Runs.{end_of}
 use Rattle.history.specs.Happened.{SoFar, got, Happening, accessed, did, happenings, all_of}
 use Rattle.history.specs.Serial as lists
@@ -32,7 +32,7 @@ use Rattle.history.proofs.Invariant.{View, Row}
 use Rattle.history.proofs.Turns.{Turn, reads}
 use Rattle.history.proofs.Marked.{Known}
 use Rattle.history.proofs.Seen.{seen}
-use Rattle.history.proofs.Happens.{granted-turn, run-good, run-known, nobody}
+use Rattle.history.proofs.Happens.{granted_turn, run-good, run-known, nobody}
 use Rattle.history.proofs.RelaxedLists.{in_those, those_in, some_append, all_of-append, ended, until_all, ever_one, ever_more}
 use Rattle.history.proofs.RelaxedPhase.{Joined, →in-set, kept, log_of, During, before, during, over, else}
 use Rattle.history.proofs.RelaxedStamps.{by_stamp}
@@ -65,9 +65,9 @@ module _ (S : Sizes) (enough : S.slots ≤ S.places) (room : 1 ≤ S.places) (q 
   newest-read G g m s x k c d (kept_waiting r D w) C u e f l = absurd (refusal-code Wait f)
   newest-read G g m s x k c d (read_own n r y U h) C u e f l = absurd (omega arith)
   newest-read G g m s x k c d (read_newest n r y U h) C u e f l = omega arith
-  newest-read G g m s x k c d (readShared n r y U h i) C u e f l = omega arith
-  newest-read G g m s x k c d (readSettled n r y D p i h) C u e f l = absurd (omega arith)
-  newest-read G g m s x k c d (readVersion n r y D p i o b) C u e f l =
+  newest-read G g m s x k c d (read_shared n r y U h i) C u e f l = omega arith
+  newest-read G g m s x k c d (read_settled n r y D p i h) C u e f l = absurd (omega arith)
+  newest-read G g m s x k c d (read_version n r y D p i o b) C u e f l =
       absurd ((reader-live (txn G.txns r) p).1 (ap (λ (j : ℕ). (txn G.txns j).kind) (caller r D (ap asker e)) ∙ (update-live (txn G.txns s) u).1))
     where
       asker : Call → ℕ
@@ -86,17 +86,17 @@ module _ (S : Sizes) (enough : S.slots ≤ S.places) (room : 1 ≤ S.places) (q 
   newest-read G g m s x k c d (began_update r F l) C u e f z = absurd (not_read refl e)
   newest-read G g m s x k c d (began_query r F l) C u e f z = absurd (not_read refl e)
   newest-read G g m s x k c d (began_relaxed r F l a) C u e f z = absurd (not_read refl e)
-  newest-read G g m s x k c d (wroteOwn n r y v U h) C u e f z = absurd (not_read refl e)
-  newest-read G g m s x k c d (wroteSettled n r y v D p i h) C u e f z = absurd (not_read refl e)
-  newest-read G g m s x k c d (wroteTaken n r y v U h i j) C u e f z = absurd (not_read refl e)
-  newest-read G g m s x k c d (committedUpdate n r D v i l w) C u e f z = absurd (not_read refl e)
-  newest-read G g m s x k c d (committedEmpty n r D v i w) C u e f z = absurd (not_read refl e)
+  newest-read G g m s x k c d (wrote_own n r y v U h) C u e f z = absurd (not_read refl e)
+  newest-read G g m s x k c d (wrote_settled n r y v D p i h) C u e f z = absurd (not_read refl e)
+  newest-read G g m s x k c d (wrote_taken n r y v U h i j) C u e f z = absurd (not_read refl e)
+  newest-read G g m s x k c d (committed_update n r D v i l w) C u e f z = absurd (not_read refl e)
+  newest-read G g m s x k c d (committed_empty n r D v i w) C u e f z = absurd (not_read refl e)
   newest-read G g m s x k c d (committed_settled n r D p) C u e f z = absurd (not_read refl e)
   newest-read G g m s x k c d (committed_query n r D p) C u e f z = absurd (not_read refl e)
   newest-read G g m s x k c d (aborted_update n r D v) C u e f z = absurd (not_read refl e)
   newest-read G g m s x k c d (aborted_settled n r D p) C u e f z = absurd (not_read refl e)
   newest-read G g m s x k c d (aborted_query n r D p) C u e f z = absurd (not_read refl e)
-  newest-read G g m s x k c d (settledUpdate n r D v i l a) C u e f z = absurd (not_read refl e)
+  newest-read G g m s x k c d (settled_update n r D v i l a) C u e f z = absurd (not_read refl e)
 
   -- a granted read leaves every row
   rows-read : {c : Call} {m x v : ℕ} {W W' : View} → Turn S.items W W' c (accessed m (got x v)) → (r : ℕ) → Row W W' r
@@ -107,7 +107,7 @@ module _ (S : Sizes) (enough : S.slots ≤ S.places) (room : 1 ≤ S.places) (q 
         (d : Call) (m x : ℕ) (us : SoFar) (K : Known S.items us (seen S (end_of S cs (fresh S)))) → d ≡ Read m x → (step S (Read m x) (end_of S cs (fresh S))).answer.code ≡ granted
         → (r : ℕ) → Row (seen S (end_of S cs (fresh S))) (seen S (step S (Read m x) (end_of S cs (fresh S))).after) r
     unfolding did
-    read-rows d m x us K e f = rows-read (granted-turn S enough (Read m x) (end_of S cs (fresh S)) (run-good S enough room cs) us K f)
+    read-rows d m x us K e f = rows-read (granted_turn S enough (Read m x) (end_of S cs (fresh S)) (run-good S enough room cs) us K f)
 
     abbrev G : Tables
     G = end_of S cs (fresh S)
@@ -162,7 +162,7 @@ module _ (S : Sizes) (enough : S.slots ≤ S.places) (room : 1 ≤ S.places) (q 
           ever_more S cs (c ∷ ds) (fresh S) q m
           (subst (λ (n : ℕ). T (Ever S enough room q cs n)) M.caller.name
           (subst T (sym (D.member M.slot M.caller.inside writes))
-          (g.sets_good.holdsHidden x M.slot s M.known (or_right (holds_shared (lock G.locks x) M.slot) _ r.2) z)))
+          (g.sets_good.holds_hidden x M.slot s M.known (or_right (holds_shared (lock G.locks x) M.slot) _ r.2) z)))
       joins z (inl r) =
           ever_more'
           (subst (λ (d : Call). T (in_set S (step S d G).after q m)) (sym r.0)
@@ -208,7 +208,7 @@ module _ (S : Sizes) (enough : S.slots ≤ S.places) (room : 1 ≤ S.places) (q 
                     alive = b_live;
                     number = (rows b).number_is ∙ M.caller.name;
                     member =
-                        (joins-exactly S enough (Read m x) G b s g M.caller.inside D.caller.inside writes b_writes).1
+                        (joins_exactly S enough (Read m x) G b s g M.caller.inside D.caller.inside writes b_writes).1
                         (inr (inr (inr (shared_lock, x, record { inside = M.caller.inside; alive = M.caller.alive; named = sym M.caller.name }, (refl, refl), e, w))));
                   }
 

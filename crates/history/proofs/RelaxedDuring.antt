@@ -19,7 +19,7 @@ use Rattle.rules.specs.Conditions.{Caller}
 use Rattle.rules.proofs.Tests.{and_left, and_right, and_both, or_cases, or_right, iff_eq, is_false, true_is, false_is, eq_make, same?}
 use Rattle.rules.proofs.RowKinds.{relaxed-live, live-relaxed, update-live, live-update, relaxed-query, holder_no_query}
 use Rattle.rules.proofs.Keeps.{keeps}
-use Rattle.rules.proofs.Sets.{joins-exactly}
+use Rattle.rules.proofs.Sets.{joins_exactly}
 use Rattle.history.specs.Happened.{SoFar, Access, got, Happening, only_ended, happened, all_of}
 use Rattle.history.specs.Serial.{Entry, access_of, granted_to, one_by_one}
 use Rattle.history.specs.Relaxed.{in_set, until_end, ends_it, committer, those, commits_under, committed_under}
@@ -37,7 +37,7 @@ use Rattle.history.proofs.RelaxedItems.{Items, items-step, told-read}
 use Rattle.history.proofs.RelaxedLists.{or_none, ended, ended-append, ended_one, until_open, under_append, under_one, those-same}
 use Rattle.history.proofs.RelaxedTurns.{one_in, Effect, none, one, empty, effect, committed-unknown, was-update, lives, Does, nought, gets, does}
 use Rattle.history.proofs.RelaxedPhase.{Joined, in-set→, →in-set, query-unknown, kept, log_of, array_of, During, Phase, during, over}
-use Rattle.history.proofs.RelaxedPhase.{log_more, dead_on, common_on, array_none, array-one, never_joins}
+use Rattle.history.proofs.RelaxedPhase.{log_more, dead_on, common_on, array_none, array_one, never_joins}
 
 module _
     (S : Sizes) (enough : S.slots ≤ S.places) (q : ℕ) (c : Call) (G : Tables) (g : Good S G) (us : SoFar) (K : Known S.items us (seen S G))
@@ -114,10 +114,10 @@ module _
           go (inr d) = absurd (g'.distinct a b x y d l e)
 
       -- ---- who writes has the bit exactly if it is in the set
-      member-on :
+      member_on :
           (b : ℕ) → b < S.slots → T (live_update (txn G'.txns b))
           → (ever (txn G'.txns b).number || in_set S (step S c G).after q (txn G'.txns b).number) ≡ bit (txn G'.txns b).later_for s
-      member-on b x u = iff_eq _ _ (λ z. to (or_cases (ever n) _ z)) (λ z. or_right (ever n) _ (→in-set S G' q n (mine z)))
+      member_on b x u = iff_eq _ _ (λ z. to (or_cases (ever n) _ z)) (λ z. or_right (ever n) _ (→in-set S G' q n (mine z)))
         where
           n : ℕ
           n = (txn G'.txns b).number
@@ -142,7 +142,7 @@ module _
           old : T (ever n) → ((n ≡ (seen S G).number b) × update (seen S G) b) ⊎ (n ≡ (seen S G).last + 1) → T (bit (txn G'.txns b).later_for s)
           old e (inl o) =
               let v = live-update (txn G.txns b) o.1.0.1 o.1.1 in
-              (joins-exactly S enough c G b s g x i v u).1 (inl (subst T (D.member b x v) (subst (λ (j : ℕ). T (ever j)) o.0 e), relaxed'))
+              (joins_exactly S enough c G b s g x i v u).1 (inl (subst T (D.member b x v) (subst (λ (j : ℕ). T (ever j)) o.0 e), relaxed'))
           old e (inr o) = absurd (let k = D.common.given n e in omega arith)
 
           to : T (ever n) ⊎ T (in_set S G' q n) → T (bit (txn G'.txns b).later_for s)
@@ -214,7 +214,7 @@ module _
               split false e =
                   f (false_is e) x j
                   ∙ ap (λ (z : Bool). cond z (lock G.locks x).working (shown_of S G.versions s x))
-                  (is_false (holds_exclusive (lock G.locks x) r) (λ w. false_is e (g.sets_good.holdsRead x r s j i w b)))
+                  (is_false (holds_exclusive (lock G.locks x) r) (λ w. false_is e (g.sets_good.holds_read x r s j i w b)))
 
       -- ---- what it is shown is what those leave who committed outside
       now_on : (x : ℕ) → x < S.items → array_of ever' (hs ++ (h ∷ [])) x ≡ shown_of S G'.versions s x
@@ -228,7 +228,7 @@ module _
 
           -- with one who commits
           with_one : (n : ℕ) (y : Happening) → h ≡ y → committer y ≡ n ∷ [] → array_of ever' (hs ++ (h ∷ [])) ≡ cond (not (ever' n)) (final (granted_to n (hs ++ (h ∷ []))) A) A
-          with_one n y e f = array-one S q G G' g g' h t hs ever D.common n (ap committer e ∙ f)
+          with_one n y e f = array_one S q G G' g g' h t hs ever D.common n (ap committer e ∙ f)
 
           -- what it does, in slot b
           ends_so :
@@ -310,7 +310,7 @@ module _
             caller = record { inside = i; alive = alive; name = name' };
             relaxed = relaxed';
             unended = ended-append q hs (h ∷ []) ∙ ap (λ (b : Bool). b || ended q (h ∷ [])) D.unended ∙ ended_one q h ∙ going;
-            member = member-on;
+            member = member_on;
             hidden = hidden_on;
             now = now_on;
             read = reads_on.0;

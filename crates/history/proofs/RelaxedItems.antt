@@ -27,10 +27,10 @@ use Rattle.rules.proofs.ReadNoted.{with_items, items-row, held-length, noted-rel
 use Rattle.rules.proofs.Steps.{acts}
 use Rattle.rules.proofs.Waiting.{named?, one_caller, others_leave}
 use Rattle.rules.proofs.Judged.{way}
-use Rattle.rules.proofs.Ways.{refusal-code, Way, refused, waited, kept_waiting, began_update, began_query, began_relaxed, read_own, read_newest, readShared, readSettled, readVersion}
-use Rattle.rules.proofs.Ways.{wroteOwn, wroteSettled, wroteTaken, committedUpdate, committedEmpty, committed_settled, committed_query, aborted_update, aborted_settled, aborted_query, settledUpdate}
-use Rattle.history.specs.Happened.{got, put, Happening, update_began, queryBegan, relaxedBegan, accessed, update_committed, empty_committed, settled_under, only_ended, nothing, did, told}
-use Rattle.history.specs.Relaxed.{began_relaxed as begunRelaxed}
+use Rattle.rules.proofs.Ways.{refusal-code, Way, refused, waited, kept_waiting, began_update, began_query, began_relaxed, read_own, read_newest, read_shared, read_settled, read_version}
+use Rattle.rules.proofs.Ways.{wrote_own, wrote_settled, wrote_taken, committed_update, committed_empty, committed_settled, committed_query, aborted_update, aborted_settled, aborted_query, settled_update}
+use Rattle.history.specs.Happened.{got, put, Happening, update_began, query_began, relaxed_began, accessed, update_committed, empty_committed, settled_under, only_ended, nothing, did, told}
+use Rattle.history.specs.Relaxed.{began_relaxed as begun_relaxed}
 use Rattle.history.proofs.Leaving.{ended_here}
 
 module _ (S : Sizes) (enough : S.slots ≤ S.places) (G : Tables) (g : Good S G) (n s : ℕ) (C : Caller S G n s) (relaxed : T (live_relaxed (txn G.txns s))) where
@@ -136,21 +136,21 @@ module _ (S : Sizes) (enough : S.slots ≤ S.places) (G : Tables) (g : Good S G)
   own c d (began_relaxed r f l a) e h = absurd e
   own c d (read_own m r x U k) e h = absurd (no_update m r e U.caller U.update)
   own c d (read_newest m r x U k) e h = absurd (no_update m r e U.caller U.update)
-  own c d (readShared m r x U k f) e h = absurd (no_update m r e U.caller U.update)
-  own c d (readSettled m r x D p i k) e h = absurd (no_settled m r e D p)
-  own c d (readVersion m r x D q i o b) e h =
+  own c d (read_shared m r x U k f) e h = absurd (no_update m r e U.caller U.update)
+  own c d (read_settled m r x D p i k) e h = absurd (no_settled m r e D p)
+  own c d (read_version m r x D q i o b) e h =
       subst (λ (j : ℕ). Items (Read m x) (version_read S j x G)) (sym (it m r e D)) (read_on x i m e)
-  own c d (wroteOwn m r x v U k) e h = absurd (no_update m r e U.caller U.update)
-  own c d (wroteSettled m r x v D p i k) e h = absurd (no_settled m r e D p)
-  own c d (wroteTaken m r x v U k f q) e h = absurd (no_update m r e U.caller U.update)
-  own c d (committedUpdate m r D u i l w) e h = absurd (no_update m r e D u)
-  own c d (committedEmpty m r D u i w) e h = absurd (no_update m r e D u)
+  own c d (wrote_own m r x v U k) e h = absurd (no_update m r e U.caller U.update)
+  own c d (wrote_settled m r x v D p i k) e h = absurd (no_settled m r e D p)
+  own c d (wrote_taken m r x v U k f q) e h = absurd (no_update m r e U.caller U.update)
+  own c d (committed_update m r D u i l w) e h = absurd (no_update m r e D u)
+  own c d (committed_empty m r D u i w) e h = absurd (no_update m r e D u)
   own c d (committed_settled m r D p) e h = absurd (no_settled m r e D p)
   own c d (committed_query m r D q) e h = gone m r e D _ refl h
   own c d (aborted_update m r D u) e h = absurd (no_update m r e D u)
   own c d (aborted_settled m r D p) e h = absurd (no_settled m r e D p)
   own c d (aborted_query m r D q) e h = gone m r e D _ refl h
-  own c d (settledUpdate m r D u i l a) e h = absurd (no_update m r e D u)
+  own c d (settled_update m r D u i l a) e h = absurd (no_update m r e D u)
 
   -- ---- every call
   read_names : (c : Call) (x : ℕ) → c ≡ Read n x → Names c n
@@ -175,8 +175,8 @@ reading : Happening → Bool
 reading (accessed n (got x v)) = true
 reading (accessed n (put x v)) = false
 reading (update_began n) = false
-reading (queryBegan n) = false
-reading (relaxedBegan n) = false
+reading (query_began n) = false
+reading (relaxed_began n) = false
 reading (update_committed n c) = false
 reading (empty_committed n c) = false
 reading (settled_under n c) = false
@@ -186,8 +186,8 @@ reading nothing = false
 reader : Happening → ℕ
 reader (accessed n a) = n
 reader (update_began n) = 0
-reader (queryBegan n) = 0
-reader (relaxedBegan n) = 0
+reader (query_began n) = 0
+reader (relaxed_began n) = 0
 reader (update_committed n c) = 0
 reader (empty_committed n c) = 0
 reader (settled_under n c) = 0
@@ -198,8 +198,8 @@ item : Happening → ℕ
 item (accessed n (got x v)) = x
 item (accessed n (put x v)) = x
 item (update_began n) = 0
-item (queryBegan n) = 0
-item (relaxedBegan n) = 0
+item (query_began n) = 0
+item (relaxed_began n) = 0
 item (update_committed n c) = 0
 item (empty_committed n c) = 0
 item (settled_under n c) = 0
@@ -237,10 +237,10 @@ module _ (n x v : ℕ) where
 
 -- ---- and so was a relaxed begin
 beginning : Happening → Bool
-beginning (relaxedBegan n) = true
+beginning (relaxed_began n) = true
 beginning (accessed n a) = false
 beginning (update_began n) = false
-beginning (queryBegan n) = false
+beginning (query_began n) = false
 beginning (update_committed n c) = false
 beginning (empty_committed n c) = false
 beginning (settled_under n c) = false
@@ -260,19 +260,19 @@ did_begin false w (Commit m) r e = absurd e
 did_begin u w (Abort m) r e = absurd e
 did_begin u w (Settle m) r e = absurd e
 
-begins-relaxed : (q : ℕ) (h : Happening) → T (begunRelaxed q h) → T (beginning h)
-unfolding begunRelaxed beginning
-begins-relaxed q (relaxedBegan n) e = tt
+begins-relaxed : (q : ℕ) (h : Happening) → T (begun_relaxed q h) → T (beginning h)
+unfolding begun_relaxed beginning
+begins-relaxed q (relaxed_began n) e = tt
 begins-relaxed q (accessed n a) e = absurd e
 begins-relaxed q (update_began n) e = absurd e
-begins-relaxed q (queryBegan n) e = absurd e
+begins-relaxed q (query_began n) e = absurd e
 begins-relaxed q (update_committed n c) e = absurd e
 begins-relaxed q (empty_committed n c) e = absurd e
 begins-relaxed q (settled_under n c) e = absurd e
 begins-relaxed q (only_ended n) e = absurd e
 begins-relaxed q nothing e = absurd e
 
-pub told_begin : (u w : Bool) (c : Call) (r : Answer) (q : ℕ) → T (begunRelaxed q (told u w c r)) → c ≡ BeginRelaxed
+pub told_begin : (u w : Bool) (c : Call) (r : Answer) (q : ℕ) → T (begun_relaxed q (told u w c r)) → c ≡ BeginRelaxed
 unfolding told beginning
 told_begin u w c r q e = go (eqb r.code granted) (begins-relaxed q (told u w c r) e)
   where

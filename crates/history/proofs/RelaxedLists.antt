@@ -197,15 +197,15 @@ module _ (S : Sizes) where
 
   -- ---- what happens at one call more
   module _ (enough : S.slots ≤ S.places) where
-    pub happens-more :
+    pub happens_more :
         (cs : List Call) (us : SoFar) (G : Tables) → Good S G → Known S.items us (seen S G) → (c : Call) (H : Happens S (end_of S cs G) c (step S c (end_of S cs G)))
         → happenings_after us (run S (cs ++ (c ∷ [])) G) ≡ happenings_after us (run S cs G) ++ (H.what ∷ [])
     unfolding run end_of happenings_after
-    happens-more [] us G g K c H = ap (λ (h : Happening). h ∷ []) (H.begun us K)
-    happens-more (b ∷ cs) us G g K c H =
+    happens_more [] us G g K c H = ap (λ (h : Happening). h ∷ []) (H.begun us K)
+    happens_more (b ∷ cs) us G g K c H =
         let h = happened us b (step S b G).answer in
         ap (λ (l : List Happening). h ∷ l)
-        (happens-more cs (begun_with h us) (step S b G).after (keeps S enough b G g) (step-known S enough b G g us K) c H)
+        (happens_more cs (begun_with h us) (step S b G).after (keeps S enough b G g) (step-known S enough b G g us K) c H)
 
   pub happenings-more :
       (cs ds : List Call) (us : SoFar) (G : Tables) → (more : List Happening) × (happenings_after us (run S (cs ++ ds) G) ≡ happenings_after us (run S cs G) ++ more)

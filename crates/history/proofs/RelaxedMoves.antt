@@ -26,12 +26,12 @@ use Rattle.rules.proofs.ChangedVersions.{ended-versions, committed-versions}
 use Rattle.rules.proofs.Queries.{committed-keeps}
 use Rattle.rules.proofs.Steps.{acts}
 use Rattle.rules.proofs.Judged.{way}
-use Rattle.rules.proofs.Ways.{Way, refused, waited, kept_waiting, began_update, began_query, began_relaxed, read_own, read_newest, readShared, readSettled, readVersion}
-use Rattle.rules.proofs.Ways.{wroteOwn, wroteSettled, wroteTaken, committedUpdate, committedEmpty, committed_settled, committed_query, aborted_update, aborted_settled, aborted_query, settledUpdate}
+use Rattle.rules.proofs.Ways.{Way, refused, waited, kept_waiting, began_update, began_query, began_relaxed, read_own, read_newest, read_shared, read_settled, read_version}
+use Rattle.rules.proofs.Ways.{wrote_own, wrote_settled, wrote_taken, committed_update, committed_empty, committed_settled, committed_query, aborted_update, aborted_settled, aborted_query, settled_update}
 use Rattle.history.specs.Happened.{Happening, update_committed}
 use Rattle.history.specs.Relaxed.{commits_under}
 use Rattle.history.proofs.Leaving.{shown_of, ended_here}
-use Rattle.history.proofs.Happens.{Happens, silent, grants, plainly, commits-as, happens}
+use Rattle.history.proofs.Happens.{Happens, silent, grants, plainly, commits_as, happens}
 
 -- ---- from the tables G to the tables G', for the relaxed query in slot s
 module _ (S : Sizes) (G G' : Tables) (s : ℕ) where
@@ -131,11 +131,11 @@ module _
           ap (λ (w : Version). w.value)
           (subst (λ (o : Reader). choice o (versions_of S (committed S b G).versions x) ≡ choice o (versions_of S G.versions x)) (reads-outside t s (relaxed-live (txn t s) relaxed).1) e)
 
-      shown-on :
+      shown_on :
           (T (bit (txn t b).later_for s) → ⊥) → (x : ℕ) → x < S.items
           → shown_of S (committed S b G).versions s x ≡ cond (holds_exclusive (lock G.locks x) b) (lock G.locks x).working (shown_of S G.versions s x)
       unfolding shown_of with_new
-      shown-on out x i =
+      shown_on out x i =
           ap (λ (w : List Version). (choice (outside s) w).value) (committed-versions S G g enough b C.inside u x i)
           ∙ ap (λ (w : Version). w.value) (kept-choice (readers S t) (with_new G.locks b (clock t + 1) m x (versions_of S G.versions x)) (outside s) (reads refl))
           ∙ go (holds_exclusive (lock G.locks x) b)
@@ -166,34 +166,34 @@ module _
           go false j q y = inl (j, q, ap (λ (v : Version). v.stamp) y, ap (λ (v : Version). bit v.hidden s) y)
 
       commit : Shift S G (committed S b G) s (update_committed n (clock t + 1))
-      commit = stamped n b C u hidden_on shown-on come
+      commit = stamped n b C u hidden_on shown_on come
 
-    way-shift :
+    way_shift :
         (c : Call) (d : Deed) (w : Way S G c d) → T (live_relaxed (txn (done S d G).after.txns s))
         → Shift S G (done S d G).after s (happens S enough G g c d w).what
-    unfolding happens silent grants plainly commits-as done version_read begun locked locked_anew aborted settled commits_under
-    way-shift c d (refused r m) h = same G refl (λ u d. refl)
-    way-shift c d (waited r k x w) h = same _ refl (λ u d. refl)
-    way-shift c d (kept_waiting r C q) h = same G refl (λ u d. refl)
-    way-shift c d (began_update r F l) h = same _ refl (λ u d. refl)
-    way-shift c d (began_query r F l) h = same _ refl (λ u d. refl)
-    way-shift c d (began_relaxed r F l a) h = same _ refl (λ u d. refl)
-    way-shift c d (read_own n r x U e) h = same _ refl (λ u d. refl)
-    way-shift c d (read_newest n r x U e) h = same _ refl (λ u d. refl)
-    way-shift c d (readShared n r x U e f) h = same _ refl (λ u d. refl)
-    way-shift c d (readSettled n r x C p i e) h = same _ refl (λ u d. refl)
-    way-shift c d (readVersion n r x C q i o f) h = same _ refl (λ u d. refl)
-    way-shift c d (wroteOwn n r x v U e) h = same _ refl (λ u d. refl)
-    way-shift c d (wroteSettled n r x v C p i e) h = same _ refl (λ u d. refl)
-    way-shift c d (wroteTaken n r x v U e f q) h = same _ refl (λ u d. refl)
-    way-shift c d (committedUpdate n r C u i l w) h = commit n r C u
-    way-shift c d (committedEmpty n r C u i e) h = same _ refl (λ u d. refl)
-    way-shift c d (committed_settled n r C p) h = absurd (g.sets_good.apart r s C.inside inside p relaxed)
-    way-shift c d (committed_query n r C q) h = end r C.inside h (λ u d. refl)
-    way-shift c d (aborted_update n r C u) h = same _ refl (λ u d. refl)
-    way-shift c d (aborted_settled n r C p) h = absurd (g.sets_good.apart r s C.inside inside p relaxed)
-    way-shift c d (aborted_query n r C q) h = end r C.inside h (λ u d. refl)
-    way-shift c d (settledUpdate n r C u i l a) h = same _ refl (λ u d. refl)
+    unfolding happens silent grants plainly commits_as done version_read begun locked locked_anew aborted settled commits_under
+    way_shift c d (refused r m) h = same G refl (λ u d. refl)
+    way_shift c d (waited r k x w) h = same _ refl (λ u d. refl)
+    way_shift c d (kept_waiting r C q) h = same G refl (λ u d. refl)
+    way_shift c d (began_update r F l) h = same _ refl (λ u d. refl)
+    way_shift c d (began_query r F l) h = same _ refl (λ u d. refl)
+    way_shift c d (began_relaxed r F l a) h = same _ refl (λ u d. refl)
+    way_shift c d (read_own n r x U e) h = same _ refl (λ u d. refl)
+    way_shift c d (read_newest n r x U e) h = same _ refl (λ u d. refl)
+    way_shift c d (read_shared n r x U e f) h = same _ refl (λ u d. refl)
+    way_shift c d (read_settled n r x C p i e) h = same _ refl (λ u d. refl)
+    way_shift c d (read_version n r x C q i o f) h = same _ refl (λ u d. refl)
+    way_shift c d (wrote_own n r x v U e) h = same _ refl (λ u d. refl)
+    way_shift c d (wrote_settled n r x v C p i e) h = same _ refl (λ u d. refl)
+    way_shift c d (wrote_taken n r x v U e f q) h = same _ refl (λ u d. refl)
+    way_shift c d (committed_update n r C u i l w) h = commit n r C u
+    way_shift c d (committed_empty n r C u i e) h = same _ refl (λ u d. refl)
+    way_shift c d (committed_settled n r C p) h = absurd (g.sets_good.apart r s C.inside inside p relaxed)
+    way_shift c d (committed_query n r C q) h = end r C.inside h (λ u d. refl)
+    way_shift c d (aborted_update n r C u) h = same _ refl (λ u d. refl)
+    way_shift c d (aborted_settled n r C p) h = absurd (g.sets_good.apart r s C.inside inside p relaxed)
+    way_shift c d (aborted_query n r C q) h = end r C.inside h (λ u d. refl)
+    way_shift c d (settled_update n r C u i l a) h = same _ refl (λ u d. refl)
 
     -- ---- a step: what happens, and what it leaves of the versions
     abbrev pub Moved : Call → Outcome → Type 0
@@ -203,4 +203,4 @@ module _
     unfolding act
     step-moved c =
         subst (Moved c) (sym (acts S c G g))
-        (happens S enough G g c (judged S c G) (way S G g c), way-shift c (judged S c G) (way S G g c))
+        (happens S enough G g c (judged S c G) (way S G g c), way_shift c (judged S c G) (way S G g c))

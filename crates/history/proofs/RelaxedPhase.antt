@@ -20,7 +20,7 @@ use Rattle.rules.specs.Good.{Good}
 use Rattle.rules.specs.Answers.{Call}
 use Rattle.rules.specs.Conditions.{Caller}
 use Rattle.rules.proofs.Tests.{and_left, and_right, and_both, or_cases, or_left, or_right, eq_make, is_false}
-use Rattle.rules.proofs.Counts.{someBelow→, →someBelow}
+use Rattle.rules.proofs.Counts.{some_below→, →some_below}
 use Rattle.rules.proofs.RowKinds.{relaxed-live}
 use Rattle.history.specs.Happened.{Access, Happening, all_of}
 use Rattle.history.specs.Serial.{access_of, granted_to, one_by_one}
@@ -50,10 +50,10 @@ pub record Joined (S : Sizes) (G : Tables) (q u : ℕ) : Type 0 where
 pub in-set→ : (S : Sizes) (G : Tables) (q u : ℕ) → T (in_set S G q u) → Joined S G q u
 unfolding in_set later_for
 in-set→ S G q u h =
-    let a = someBelow→ S.slots _ h in
+    let a = some_below→ S.slots _ h in
     let s = a.0 in
     let head = and_left (live_relaxed (txn G.txns s) && eqb (txn G.txns s).number q) _ a.2 in
-    let b = someBelow→ S.slots _ (and_right (live_relaxed (txn G.txns s) && eqb (txn G.txns s).number q) _ a.2) in
+    let b = some_below→ S.slots _ (and_right (live_relaxed (txn G.txns s) && eqb (txn G.txns s).number q) _ a.2) in
     let r = b.0 in
     let row = and_left (live (txn G.txns r) && eqb (txn G.txns r).number u) _ b.2 in
     record {
@@ -71,10 +71,10 @@ in-set→ S G q u h =
 pub →in-set : (S : Sizes) (G : Tables) (q u : ℕ) → Joined S G q u → T (in_set S G q u)
 unfolding in_set later_for
 →in-set S G q u j =
-    →someBelow S.slots _ j.slot j.slot_inside
+    →some_below S.slots _ j.slot j.slot_inside
     (and_both (live_relaxed (txn G.txns j.slot) && eqb (txn G.txns j.slot).number q) _
     (and_both (live_relaxed (txn G.txns j.slot)) _ j.relaxed (eq_make (txn G.txns j.slot).number q j.query))
-    (→someBelow S.slots _ j.other j.other_inside
+    (→some_below S.slots _ j.other j.other_inside
     (and_both (live (txn G.txns j.other) && eqb (txn G.txns j.other).number u) _
     (and_both (live (txn G.txns j.other)) _ j.alive (eq_make (txn G.txns j.other).number u j.number)) j.member)))
 
@@ -248,11 +248,11 @@ module _ (S : Sizes) (q : ℕ) where
           ∙ ap (λ (l : List Access). final l zeros) old_run
 
       -- and with one who commits
-      pub array-one :
+      pub array_one :
           (n : ℕ) → committer h ≡ n ∷ []
           → array_of ever' (hs ++ (h ∷ [])) ≡ cond (not (ever' n)) (final (granted_to n (hs ++ (h ∷ []))) (array_of ever hs)) (array_of ever hs)
       unfolding those
-      array-one n e =
+      array_one n e =
           ap (λ (ns : List ℕ). final (one_by_one (log_of hs') ns) zeros) (kept_more ∙ ap (λ (l : List ℕ). kept ever hs ++ those (λ n. not (ever' n)) l) e)
           ∙ go (not (ever' n))
         where

@@ -30,7 +30,7 @@ use Rattle.history.proofs.Seen.{seen}
 use Rattle.history.proofs.Happens.{step_happens, run-good, run-known, fresh-known}
 use Rattle.history.proofs.Standing.{Unknown, unknown_on}
 use Rattle.history.proofs.Theorem.{run_inv}
-use Rattle.history.proofs.RelaxedLists.{ended, until_all, until_open, until-over, end_append, joins_after, ever_append, ever_one, happens-more, happenings-more}
+use Rattle.history.proofs.RelaxedLists.{ended, until_all, until_open, until-over, end_append, joins_after, ever_append, ever_one, happens_more, happenings-more}
 use Rattle.history.proofs.RelaxedPhase.{unknown-out, query_unborn, log_of, array_of, Else, Phase, before, during, over, else}
 use Rattle.history.proofs.RelaxedBegin.{else_step, over-step, before-step}
 use Rattle.history.proofs.RelaxedDuring.{during_step}
@@ -111,7 +111,7 @@ module _ (S : Sizes) (enough : S.slots ≤ S.places) (room : 1 ≤ S.places) (q 
     unfolding happenings h
     told =
         let H = step_happens S enough c G₁ good in
-        happens-more S enough cs none_so_far (fresh S) (fresh-good S room) (fresh-known S enough room) c H
+        happens_more S enough cs none_so_far (fresh S) (fresh-good S room) (fresh-known S enough room) c H
         ∙ ap (λ (k : Happening). happenings S cs ++ (k ∷ [])) (sym (H.begun known.0 known.1))
 
     pub there : end_of S (cs ++ (c ∷ [])) (fresh S) ≡ (step S c (end_of S cs (fresh S))).after

@@ -38,27 +38,27 @@ use Rattle.history.proofs.Theorem.{run_inv}
 use Rattle.history.proofs.RelaxedLists.{or_none, those-same, those_in, ended, until_all, until_open, until-over, relaxed-append, relaxed_one, ever_one}
 use Rattle.history.proofs.RelaxedTurns.{Begins, later, now, else as otherwise, begins, lives}
 use Rattle.history.proofs.RelaxedPhase.{query-unknown, kept, log_of, array_of, Before, During, Else, before, during, over, else}
-use Rattle.history.proofs.RelaxedStamps.{by_stamp, stamp_array, clock_of, placed_so, skip-still}
-use Rattle.history.proofs.RelaxedStampTurn.{nought, adds_of, alike-on}
+use Rattle.history.proofs.RelaxedStamps.{by_stamp, stamp_array, clock_of, placed_so, skip_still}
+use Rattle.history.proofs.RelaxedStampTurn.{nought, adds_of, alike_on}
 use Rattle.history.proofs.RelaxedRun.{Ever, PhaseOf, phase, reads_so, named_so, as_list, known, h, told, there, else_more}
 
 module _ (S : Sizes) (enough : S.slots ≤ S.places) (room : 1 ≤ S.places) (q : ℕ) where
   -- ---- the clock is told by what happened
-  ticks-from :
+  ticks_from :
       (cs : List Call) (us : SoFar) (G : Tables) → Good S G → Known S.items us (seen S G)
       → clock_of (clock G.txns) (happenings_after us (run S cs G)) ≡ clock (end_of S cs G).txns
   unfolding run end_of happenings_after clock_of
-  ticks-from [] us G g K = refl
-  ticks-from (c ∷ cs) us G g K =
+  ticks_from [] us G g K = refl
+  ticks_from (c ∷ cs) us G g K =
       let k = happened us c (step S c G).answer in
       let G' = (step S c G).after in
       ap (λ (n : ℕ). clock_of n (happenings_after (begun_with k us) (run S cs G'))) (sym (clock_on S.items (seen S G) (seen S G') (seen_fair S G g) (step_turn S enough c G g us K)))
-      ∙ ticks-from cs (begun_with k us) G' (keeps S enough c G g) (step-known S enough c G g us K)
+      ∙ ticks_from cs (begun_with k us) G' (keeps S enough c G g) (step-known S enough c G g us K)
 
   ticks : (cs : List Call) → clock_of 0 (happenings S cs) ≡ clock (end_of S cs (fresh S)).txns
   unfolding happenings
   ticks cs =
-      ap (λ (n : ℕ). clock_of n (happenings S cs)) (sym (fresh-clock S)) ∙ ticks-from cs none_so_far (fresh S) (fresh-good S room) (fresh-known S enough room)
+      ap (λ (n : ℕ). clock_of n (happenings S cs)) (sym (fresh-clock S)) ∙ ticks_from cs none_so_far (fresh S) (fresh-good S room) (fresh-known S enough room)
 
   abbrev Alike : List Happening → (ℕ → Bool) → Type 0
   Alike hs ever = (x : ℕ) → x < S.items → stamp_array ever hs x ≡ array_of ever hs x
@@ -67,7 +67,7 @@ module _ (S : Sizes) (enough : S.slots ≤ S.places) (room : 1 ≤ S.places) (q 
   first_alike : (cs : List Call) → Before S q (end_of S cs (fresh S)) (happenings S cs) (Ever S enough room q cs) → Alike (happenings S cs) (Ever S enough room q cs)
   unfolding order
   first_alike cs B x i =
-      ap (λ (a : Array). a x) (skip-still (log_of hs) (λ n. some (eqb n) (kept (Ever S enough room q cs) hs)) es zeros (all_map _ _ (λ p n w. in_it p n w) es (placed_so hs)) J.still)
+      ap (λ (a : Array). a x) (skip_still (log_of hs) (λ n. some (eqb n) (kept (Ever S enough room q cs) hs)) es zeros (all_map _ _ (λ p n w. in_it p n w) es (placed_so hs)) J.still)
       ∙ sym (ap (λ (ns : List ℕ). final (one_by_one (log_of hs) ns) zeros x)
       (below_all (2 * clock (end_of S cs (fresh S)).txns + 2) es (all_map _ _ (λ p n l. let a : p ≤ 2 * clock (end_of S cs (fresh S)).txns + 1 = l in omega arith) es J.most))) ∙ J.now x i ∙ sym (B.now x i)
     where
@@ -173,7 +173,7 @@ module _ (S : Sizes) (enough : S.slots ≤ S.places) (room : 1 ≤ S.places) (q 
         go (now s N R name f a w b z) =
             let A = subst (λ (m : List Happening). Alike m ever) (sym (until_all q hs B.unended)) (first_alike cs B) in
             back (hs ++ (k ∷ [])) (goes_on A B.unended w)
-            (alike-on S q G G' g g' k t hs ever B.common (run_inv S enough room cs) (ticks cs) (nought (z (clock G.txns)) f) (first_alike cs B))
+            (alike_on S q G G' g g' k t hs ever B.common (run_inv S enough room cs) (ticks cs) (nought (z (clock G.txns)) f) (first_alike cs B))
 
     from_during : (s : ℕ) → During S q (end_of S cs (fresh S)) (happenings S cs) (Ever S enough room q cs) s → Alike (until_end q (happenings S cs)) (Ever S enough room q cs) → Stands (cs ++ (c ∷ []))
     from_during s D A = go (lives S.items (seen S G) (seen S G') (seen_fair S G g) q s ((D.caller.inside, D.caller.alive), (relaxed-live (txn G.txns s) D.relaxed).1) D.caller.name t)
@@ -184,7 +184,7 @@ module _ (S : Sizes) (enough : S.slots ≤ S.places) (room : 1 ≤ S.places) (q 
         go : (Row (seen S G) (seen S G') s × (ends_it q k ≡ false)) ⊎ ((k ≡ only_ended q) × Unknown q (seen S G')) → Stands (cs ++ (c ∷ []))
         go (inl w) =
             back (hs ++ (k ∷ [])) (goes_on A D.unended w.1)
-            (alike-on S q G G' g g' k t hs ever D.common (run_inv S enough room cs) (ticks cs) (adds_of S q G G' g g' k t hs ever D.common (run_inv S enough room cs) (ticks cs) calm t) (all A D.unended))
+            (alike_on S q G G' g g' k t hs ever D.common (run_inv S enough room cs) (ticks cs) (adds_of S q G G' g g' k t hs ever D.common (run_inv S enough room cs) (ticks cs) calm t) (all A D.unended))
         go (inr w) = back hs (stops A D.unended (ap (ends_it q) w.0 ∙ unfold ends_it in eq-eqb q q refl)) (frozen hs w.1 (all A D.unended))
 
     stands-more : Stands cs → Stands (cs ++ (c ∷ []))
@@ -241,11 +241,11 @@ module _ (S : Sizes) (enough : S.slots ≤ S.places) (room : 1 ≤ S.places) (q 
           local_agrees (λ x. x < S.items) (log_of ls q) (array_of (Ever S enough room q cs) ls) (stamp_array (Ever S enough room q cs) ls) (λ x i. sym (A x i)) (named_so S enough room q cs q)
           (reads_so S enough room q cs r)
 
-  agree-so :
+  agree_so :
       (cs : List Call) (x : ℕ) → T (is_relaxed q (happenings S cs)) → x < S.items
       → get_or (lists.final (alone S cs q (outside_by_stamp S cs q)) (lists.zeros S)) x 0 ≡ get_or (lists.final (alone S cs q (committed_outside S cs q)) (lists.zeros S)) x 0
   unfolding alone outside_by_stamp committed_outside outside until
-  agree-so cs x r i = go (stands cs)
+  agree_so cs x r i = go (stands cs)
     where
       ls : List Happening
       ls = until_end q (happenings S cs)
@@ -256,4 +256,4 @@ module _ (S : Sizes) (enough : S.slots ≤ S.places) (room : 1 ≤ S.places) (q 
           (as_list S enough room q cs (by_stamp (Ever S enough room q cs) ls)).each x i ∙ A x i ∙ sym ((as_list S enough room q cs (kept (Ever S enough room q cs) ls)).each x i)
 
 pub stamps_agree_lem : (S : Sizes) → S.slots ≤ S.places → 1 ≤ S.places → StampsAgree S
-stamps_agree_lem S enough room cs q x r i = agree-so S enough room q cs x r i
+stamps_agree_lem S enough room cs q x r i = agree_so S enough room q cs x r i

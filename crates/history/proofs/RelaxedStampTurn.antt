@@ -19,10 +19,10 @@ use Rattle.history.proofs.Plain.{Array, zeros, final}
 use Rattle.history.proofs.Replay.{final-append, all_more, local_final}
 use Rattle.history.proofs.Order.{all_map}
 use Rattle.history.proofs.Invariant.{Inv, settled}
-use Rattle.history.proofs.Turns.{Turn, quiet, updateBegins, queryBegins, relaxedBegins, reads, writes, commits, commitsEmpty, settles, commitsSettled, ends}
+use Rattle.history.proofs.Turns.{Turn, quiet, update_begins, query_begins, relaxed_begins, reads, writes, commits, commits_empty, settles, commits_settled, ends}
 use Rattle.history.proofs.Seen.{seen}
 use Rattle.history.proofs.RelaxedLists.{or_none, those-append, those-same, some_append, in_those}
-use Rattle.history.proofs.RelaxedPhase.{one_same, kept, log_of, array_of, Common, kept_more, same_log, array_none, array-one}
+use Rattle.history.proofs.RelaxedPhase.{one_same, kept, log_of, array_of, Common, kept_more, same_log, array_none, array_one}
 use Rattle.history.proofs.RelaxedTurns.{only_one, one_in}
 use Rattle.history.proofs.RelaxedStamps.{by_stamp, stamp_array, clock_of, entries_more, insert-last}
 
@@ -79,19 +79,19 @@ module _
     pub adds_of : ((b : ℕ) → settled (seen S G) b → ⊥) → {d : Call} {k : Happening} → Turn S.items (seen S G) (seen S G') d k → Adds k
     unfolding place_of committer
     adds_of calm (quiet A) = nought refl refl
-    adds_of calm (updateBegins s B k e) = nought refl refl
-    adds_of calm (queryBegins s B k z e) = asks (2 * clock G.txns + 1) (last_number G.txns + 1) refl refl (omega arith) (new_out _ (omega arith))
-    adds_of calm (relaxedBegins s B k e) = nought refl refl
+    adds_of calm (update_begins s B k e) = nought refl refl
+    adds_of calm (query_begins s B k z e) = asks (2 * clock G.txns + 1) (last_number G.txns + 1) refl refl (omega arith) (new_out _ (omega arith))
+    adds_of calm (relaxed_begins s B k e) = nought refl refl
     adds_of calm (reads n s x v m b A k) = nought refl refl
     adds_of calm (writes n s x v m b P) = nought refl refl
     adds_of calm (commits n s m a k L o e i) =
         adds (2 * (clock G.txns + 1)) n refl refl (omega arith)
         (subst (λ (j : ℕ). Absent j (numbers_of es)) m ((J.slots s L.alive).waiting (λ z. omega arith))) (live_out n s L.alive m)
-    adds_of calm (commitsEmpty n s m a k w L o e i) =
+    adds_of calm (commits_empty n s m a k w L o e i) =
         adds (2 * clock G.txns + 1) n refl refl (omega arith)
         (subst (λ (j : ℕ). Absent j (numbers_of es)) m ((J.slots s L.alive).waiting (λ z. omega arith))) (live_out n s L.alive m)
     adds_of calm (settles n s m B) = nought refl refl
-    adds_of calm (commitsSettled n s m a k L o e i) = absurd (calm s (L.alive, k))
+    adds_of calm (commits_settled n s m a k L o e i) = absurd (calm s (L.alive, k))
     adds_of calm (ends n s m a L o e k) = nought refl refl
 
     -- ---- the order
@@ -121,11 +121,11 @@ module _
     stamp-same e = ap (λ (ns : List ℕ). final (one_by_one (log_of hs') ns) zeros) e ∙ ap (λ (l : List Access). final l zeros) old_run
 
     -- ---- both grow alike
-    pub alike-on :
+    pub alike_on :
         Adds h → ((x : ℕ) → x < S.items → stamp_array ever hs x ≡ array_of ever hs x) → (x : ℕ) → x < S.items
         → stamp_array ever' (hs ++ (h ∷ [])) x ≡ array_of ever' (hs ++ (h ∷ [])) x
     unfolding those
-    alike-on more same x i = go more
+    alike_on more same x i = go more
       where
         go : Adds h → stamp_array ever' (hs ++ (h ∷ [])) x ≡ array_of ever' (hs ++ (h ∷ [])) x
         go (nought e z) =
@@ -141,7 +141,7 @@ module _
         go (adds p n e z l absent out) =
             ap (λ (ns : List ℕ). final (one_by_one (log_of hs') ns) zeros x) list
             ∙ last (not (ever' n))
-            ∙ sym (ap (λ (a : Array). a x) (array-one S q G G' g g' h t hs ever C n z))
+            ∙ sym (ap (λ (a : Array). a x) (array_one S q G G' g g' h t hs ever C n z))
           where
             f' : ℕ → Bool
             f' m = some (eqb m) (kept ever' (hs ++ (h ∷ [])))

@@ -11,7 +11,7 @@ use borrow.Author.Tests.{le-leb}
 use Rattle.rules.specs.Words.{some}
 use Rattle.rules.specs.Versions.{newest}
 use Rattle.rules.proofs.Tests.{or_left, or_right, eq_make, false_is}
-use Rattle.history.specs.Happened.{Access, Happening, update_began, queryBegan, relaxedBegan, accessed, update_committed, empty_committed, settled_under, only_ended, nothing, clock_after, all_of}
+use Rattle.history.specs.Happened.{Access, Happening, update_began, query_began, relaxed_began, accessed, update_committed, empty_committed, settled_under, only_ended, nothing, clock_after, all_of}
 use Rattle.history.specs.Serial.{Entry, place_of, insert, insert_all, entries_from, numbers_of, order, one_by_one}
 use Rattle.history.specs.Relaxed.{committer, those}
 use Rattle.history.proofs.Plain.{Array, zeros, final}
@@ -61,10 +61,10 @@ placed_one ks c (update_committed n d) es a =
     (inr (subst T (sym (some_append (eqb n) ks (n ∷ []))) (or_right (some (eqb n) ks) _ (unfold some in or_left (eqb n n) _ (eq_make n n refl))))) es (placed-more ks (n ∷ []) es a)
 placed_one ks c (empty_committed n d) es a =
     all_insert (Placed (ks ++ (n ∷ []))) (record { place = 2 * d + 1; number = n }) (inl (let e : (2 * d + 1) % 2 ≡ 1 = omega arith in e)) es (placed-more ks (n ∷ []) es a)
-placed_one ks c (queryBegan n) es a =
+placed_one ks c (query_began n) es a =
     all_insert (Placed (ks ++ [])) (record { place = 2 * c + 1; number = n }) (inl (let e : (2 * c + 1) % 2 ≡ 1 = omega arith in e)) es (placed-more ks [] es a)
 placed_one ks c (update_began n) es a = placed-more ks [] es a
-placed_one ks c (relaxedBegan n) es a = placed-more ks [] es a
+placed_one ks c (relaxed_began n) es a = placed-more ks [] es a
 placed_one ks c (accessed n b) es a = placed-more ks [] es a
 placed_one ks c (settled_under n d) es a = placed-more ks [] es a
 placed_one ks c (only_ended n) es a = placed-more ks [] es a
@@ -82,12 +82,12 @@ unfolding All
 placed_so hs = placed_all [] 0 [] hs tt
 
 -- ---- leaving out who changes nothing
-pub skip-still :
+pub skip_still :
     (log : ℕ → List Access) (f : ℕ → Bool) (es : List Entry) (a : Array) → All (λ p n. (p % 2 ≡ 1) ⊎ T (f n)) es
     → All (λ p n. p % 2 ≡ 1 → (a : Array) → final (log n) a ≡ a) es → final (one_by_one log (those f (numbers_of es))) a ≡ final (one_by_one log (numbers_of es)) a
 unfolding those numbers_of one_by_one All
-skip-still log f [] a p s = refl
-skip-still log f (e ∷ es) a p s = go (λ b. skip-still log f es b p.1 s.1) (f e.number) refl p.0
+skip_still log f [] a p s = refl
+skip_still log f (e ∷ es) a p s = go (λ b. skip_still log f es b p.1 s.1) (f e.number) refl p.0
   where
     n : ℕ
     n = e.number

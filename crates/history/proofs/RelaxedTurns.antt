@@ -11,12 +11,12 @@ use Rattle.rules.specs.Words.{some}
 use Rattle.rules.specs.Tables.{an_update, a_query, a_settled, a_relaxed}
 use Rattle.rules.specs.Answers.{Call}
 use Rattle.rules.proofs.Tests.{and_left, and_right, eq_make, or_cases, or_left, same?}
-use Rattle.history.specs.Happened.{Access, got, put, Happening, relaxedBegan, update_committed, empty_committed, accessed, only_ended}
+use Rattle.history.specs.Happened.{Access, got, put, Happening, relaxed_began, update_committed, empty_committed, accessed, only_ended}
 use Rattle.history.specs.Serial.{access_of, place_of}
 use Rattle.history.specs.Relaxed.{committer, commits_under, began_relaxed, ends_it}
 use Rattle.history.proofs.Invariant.{View, Fair, Row, update, relaxed}
-use Rattle.history.proofs.Turns.{New, Gets, by_lock, by_own, by_start, by_set, Left, Settles, Turn, quiet, updateBegins, queryBegins, relaxedBegins, reads, writes}
-use Rattle.history.proofs.Turns.{commits, commitsEmpty, settles, commitsSettled, ends}
+use Rattle.history.proofs.Turns.{New, Gets, by_lock, by_own, by_start, by_set, Left, Settles, Turn, quiet, update_begins, query_begins, relaxed_begins, reads, writes}
+use Rattle.history.proofs.Turns.{commits, commits_empty, settles, commits_settled, ends}
 use Rattle.history.proofs.Standing.{Unknown, left-unknown}
 
 -- the only member of a list
@@ -46,29 +46,29 @@ module _ (items : ℕ) (W W' : View) (F : Fair items W) where
   pub effect : {c : Call} {h : Happening} → Turn items W W' c h → Effect h
   unfolding committer
   effect (quiet A) = none refl A.current
-  effect (updateBegins s B k e) = none refl B.current
-  effect (queryBegins s B q z e) = none refl B.current
-  effect (relaxedBegins s B q e) = none refl B.current
+  effect (update_begins s B k e) = none refl B.current
+  effect (query_begins s B q z e) = none refl B.current
+  effect (relaxed_begins s B q e) = none refl B.current
   effect (reads n s x v m b A g) = none refl A.current
   effect (writes n s x v m b P) = none refl P.current
   effect (commits n s m a u L o e k) = one n s _ m L.alive (λ z. omega arith) e
-  effect (commitsEmpty n s m a u w L o e k) = empty n s _ m L.alive (λ z. omega arith) w e
+  effect (commits_empty n s m a u w L o e k) = empty n s _ m L.alive (λ z. omega arith) w e
   effect (settles n s m B) = none refl B.current
-  effect (commitsSettled n s m a u L o e k) = one n s _ m L.alive (λ z. omega arith) e
+  effect (commits_settled n s m a u L o e k) = one n s _ m L.alive (λ z. omega arith) e
   effect (ends n s m a L o e k) = none refl e
 
   -- ---- the last number and the clock only grow
   pub grows : {c : Call} {h : Happening} → Turn items W W' c h → (W.last ≤ W'.last) × (W.clock ≤ W'.clock)
   grows (quiet A) = let a = A.last in let b = A.clock in (omega arith, omega arith)
-  grows (updateBegins s B k e) = let a = B.last in let b = B.clock in (omega arith, omega arith)
-  grows (queryBegins s B q z e) = let a = B.last in let b = B.clock in (omega arith, omega arith)
-  grows (relaxedBegins s B q e) = let a = B.last in let b = B.clock in (omega arith, omega arith)
+  grows (update_begins s B k e) = let a = B.last in let b = B.clock in (omega arith, omega arith)
+  grows (query_begins s B q z e) = let a = B.last in let b = B.clock in (omega arith, omega arith)
+  grows (relaxed_begins s B q e) = let a = B.last in let b = B.clock in (omega arith, omega arith)
   grows (reads n s x v m b A g) = let a = A.last in let b = A.clock in (omega arith, omega arith)
   grows (writes n s x v m b P) = let a = P.last in let b = P.clock in (omega arith, omega arith)
   grows (commits n s m a u L o e k) = let b = L.last in (omega arith, omega arith)
-  grows (commitsEmpty n s m a u w L o e k) = let b = L.last in (omega arith, omega arith)
+  grows (commits_empty n s m a u w L o e k) = let b = L.last in (omega arith, omega arith)
   grows (settles n s m B) = let a = B.last in let b = B.clock in (omega arith, omega arith)
-  grows (commitsSettled n s m a u L o e k) = let b = L.last in (omega arith, omega arith)
+  grows (commits_settled n s m a u L o e k) = let b = L.last in (omega arith, omega arith)
   grows (ends n s m a L o e k) = let b = L.last in (omega arith, omega arith)
 
   -- ---- who committed is unknown
@@ -78,12 +78,12 @@ module _ (items : ℕ) (W W' : View) (F : Fair items W) where
   pub committed-unknown : {c : Call} {h : Happening} (u : ℕ) → Turn items W W' c h → T (some (eqb u) (committer h)) → Unknown u W'
   unfolding committer
   committed-unknown u (commits n s m a k L o e i) h = committed_so u n s m L h
-  committed-unknown u (commitsEmpty n s m a k w L o e i) h = committed_so u n s m L h
-  committed-unknown u (commitsSettled n s m a k L o e i) h = committed_so u n s m L h
+  committed-unknown u (commits_empty n s m a k w L o e i) h = committed_so u n s m L h
+  committed-unknown u (commits_settled n s m a k L o e i) h = committed_so u n s m L h
   committed-unknown u (quiet A) h = absurd (unfold some in h)
-  committed-unknown u (updateBegins s B k e) h = absurd (unfold some in h)
-  committed-unknown u (queryBegins s B q z e) h = absurd (unfold some in h)
-  committed-unknown u (relaxedBegins s B q e) h = absurd (unfold some in h)
+  committed-unknown u (update_begins s B k e) h = absurd (unfold some in h)
+  committed-unknown u (query_begins s B q z e) h = absurd (unfold some in h)
+  committed-unknown u (relaxed_begins s B q e) h = absurd (unfold some in h)
   committed-unknown u (reads n s x v m b A g) h = absurd (unfold some in h)
   committed-unknown u (writes n s x v m b P) h = absurd (unfold some in h)
   committed-unknown u (settles n s m B) h = absurd (unfold some in h)
@@ -99,13 +99,13 @@ module _ (items : ℕ) (W W' : View) (F : Fair items W) where
   pub under_low : {c : Call} {h : Happening} (u d : ℕ) → Turn items W W' c h → T (commits_under u d h) → (d ≤ W'.clock) × T (some (eqb u) (committer h))
   unfolding commits_under committer
   under_low u d (commits n s m a k L o e i) h = under_so u d n (W.clock + 1) (omega arith) h
-  under_low u d (commitsSettled n s m a k L o e i) h =
+  under_low u d (commits_settled n s m a k L o e i) h =
       under_so u d n (W.start s) (let l = F.low s (L.alive, λ z. omega arith, λ z. omega arith) in omega arith) h
-  under_low u d (commitsEmpty n s m a k w L o e i) h = absurd h
+  under_low u d (commits_empty n s m a k w L o e i) h = absurd h
   under_low u d (quiet A) h = absurd h
-  under_low u d (updateBegins s B k e) h = absurd h
-  under_low u d (queryBegins s B q z e) h = absurd h
-  under_low u d (relaxedBegins s B q e) h = absurd h
+  under_low u d (update_begins s B k e) h = absurd h
+  under_low u d (query_begins s B q z e) h = absurd h
+  under_low u d (relaxed_begins s B q e) h = absurd h
   under_low u d (reads n s x v m b A g) h = absurd h
   under_low u d (writes n s x v m b P) h = absurd h
   under_low u d (settles n s m B) h = absurd h
@@ -133,15 +133,15 @@ module _ (items : ℕ) (W W' : View) (F : Fair items W) where
 
       go : {c : Call} {h : Happening} → Turn items W W' c h → ((W'.number b ≡ W.number b) × update W b) ⊎ (W'.number b ≡ W.last + 1)
       go (quiet A) = row (A.rows b)
-      go (updateBegins s B k e) = new s B (same? b s)
-      go (queryBegins s B q z e) = new s B (same? b s)
-      go (relaxedBegins s B q e) = new s B (same? b s)
+      go (update_begins s B k e) = new s B (same? b s)
+      go (query_begins s B q z e) = new s B (same? b s)
+      go (relaxed_begins s B q e) = new s B (same? b s)
       go (reads n s x v m i A g) = row (A.rows b)
       go (writes n s x v m i P) = row (P.rows b)
       go (commits n s m a k L o e i) = left s L (same? b s)
-      go (commitsEmpty n s m a k w L o e i) = left s L (same? b s)
+      go (commits_empty n s m a k w L o e i) = left s L (same? b s)
       go (settles n s m B) = settled s B (same? b s)
-      go (commitsSettled n s m a k L o e i) = left s L (same? b s)
+      go (commits_settled n s m a k L o e i) = left s L (same? b s)
       go (ends n s m a L o e k) = left s L (same? b s)
 
   -- ---- the relaxed query q, in slot s
@@ -159,15 +159,15 @@ module _ (items : ℕ) (W W' : View) (F : Fair items W) where
         {c : Call} {h : Happening} → Turn items W W' c h → (Row W W' s × (ends_it q h ≡ false)) ⊎ ((h ≡ only_ended q) × Unknown q W')
     unfolding ends_it
     lives (quiet A) = inl (A.rows s, refl)
-    lives (updateBegins r B k e) = inl (B.rows s (λ z. B.free (subst (λ (m : ℕ). W.alive m) z R.0)), refl)
-    lives (queryBegins r B k z e) = inl (B.rows s (λ z. B.free (subst (λ (m : ℕ). W.alive m) z R.0)), refl)
-    lives (relaxedBegins r B k e) = inl (B.rows s (λ z. B.free (subst (λ (m : ℕ). W.alive m) z R.0)), refl)
+    lives (update_begins r B k e) = inl (B.rows s (λ z. B.free (subst (λ (m : ℕ). W.alive m) z R.0)), refl)
+    lives (query_begins r B k z e) = inl (B.rows s (λ z. B.free (subst (λ (m : ℕ). W.alive m) z R.0)), refl)
+    lives (relaxed_begins r B k e) = inl (B.rows s (λ z. B.free (subst (λ (m : ℕ). W.alive m) z R.0)), refl)
     lives (reads n r x v m b A g) = inl (A.rows s, refl)
     lives (writes n r x v m b P) = inl (P.rows s, refl)
     lives (commits n r m a u L o e k) = inl (L.rows s (λ z. let j : W.kind s ≡ W.kind r = ap W.kind z in let i = R.1 in omega arith), refl)
-    lives (commitsEmpty n r m a u w L o e k) = inl (L.rows s (λ z. let j : W.kind s ≡ W.kind r = ap W.kind z in let i = R.1 in omega arith), refl)
+    lives (commits_empty n r m a u w L o e k) = inl (L.rows s (λ z. let j : W.kind s ≡ W.kind r = ap W.kind z in let i = R.1 in omega arith), refl)
     lives (settles n r m B) = inl (B.rows s (λ z. let j : W.kind s ≡ W.kind r = ap W.kind z in let i = R.1 in let k = B.update.1 in omega arith), refl)
-    lives (commitsSettled n r m a u L o e k) = inl (L.rows s (λ z. let j : W.kind s ≡ W.kind r = ap W.kind z in let i = R.1 in omega arith), refl)
+    lives (commits_settled n r m a u L o e k) = inl (L.rows s (λ z. let j : W.kind s ≡ W.kind r = ap W.kind z in let i = R.1 in omega arith), refl)
     lives (ends n r m a L o e k) = go (same? s r)
       where
         go : (s ≡ r) ⊎ (s ≢ r) → (Row W W' s × (eqb n q ≡ false)) ⊎ ((only_ended n ≡ only_ended q) × Unknown q W')
@@ -197,9 +197,9 @@ module _ (items : ℕ) (W W' : View) (F : Fair items W) where
     pub does : {c : Call} {h : Happening} → Turn items W W' c h → Does h
     unfolding access_of
     does (quiet A) = nought refl
-    does (updateBegins r B k e) = nought refl
-    does (queryBegins r B k z e) = nought refl
-    does (relaxedBegins r B k e) = nought refl
+    does (update_begins r B k e) = nought refl
+    does (query_begins r B k z e) = nought refl
+    does (relaxed_begins r B k e) = nought refl
     does (reads n r x v m b A g) = go (same? n q)
       where
         go : (n ≡ q) ⊎ (n ≢ q) → Does (accessed n (got x v))
@@ -215,9 +215,9 @@ module _ (items : ℕ) (W W' : View) (F : Fair items W) where
         go (inl z) = absurd (not P.may z)
         go (inr d) = other n (put x v) d
     does (commits n r m a u L o e k) = nought refl
-    does (commitsEmpty n r m a u w L o e k) = nought refl
+    does (commits_empty n r m a u w L o e k) = nought refl
     does (settles n r m B) = nought refl
-    does (commitsSettled n r m a u L o e k) = nought refl
+    does (commits_settled n r m a u L o e k) = nought refl
     does (ends n r m a L o e k) = nought refl
 
   -- ---- a number that is not given begins, as a relaxed query or not, or does not
@@ -244,19 +244,19 @@ module _ (items : ℕ) (W W' : View) (F : Fair items W) where
     pub begins : {c : Call} {h : Happening} → Turn items W W' c h → Begins q h
     unfolding began_relaxed ends_it committer access_of place_of
     begins (quiet A) = kept A.last refl refl
-    begins (updateBegins s B k e) = step B.last refl refl
-    begins (queryBegins s B k z e) = step B.last refl refl
-    begins (relaxedBegins s B k e) = go (same? (W.last + 1) q)
+    begins (update_begins s B k e) = step B.last refl refl
+    begins (query_begins s B k z e) = step B.last refl refl
+    begins (relaxed_begins s B k e) = go (same? (W.last + 1) q)
       where
-        go : (W.last + 1 ≡ q) ⊎ (W.last + 1 ≢ q) → Begins q (relaxedBegan (W.last + 1))
+        go : (W.last + 1 ≡ q) ⊎ (W.last + 1 ≢ q) → Begins q (relaxed_began (W.last + 1))
         go (inl z) = now s B k (B.number ∙ z) refl (λ m. refl) refl (eq_make (W.last + 1) q z) (λ k. refl)
         go (inr d) = later (let l = B.last in omega arith) (ne_eqb (W.last + 1) q d) refl
     begins (reads n s x v m b A g) = kept A.last refl refl
     begins (writes n s x v m b P) = kept P.last refl refl
     begins (commits n s m a u L o e k) = kept L.last refl refl
-    begins (commitsEmpty n s m a u w L o e k) = kept L.last refl refl
+    begins (commits_empty n s m a u w L o e k) = kept L.last refl refl
     begins (settles n s m B) = kept B.last refl refl
-    begins (commitsSettled n s m a u L o e k) = kept L.last refl refl
+    begins (commits_settled n s m a u L o e k) = kept L.last refl refl
     begins (ends n s m a L o e k) =
         kept L.last refl (ne_eqb n q (λ z. let j = F.known s L.alive in omega arith))
 
@@ -265,13 +265,13 @@ module _ (items : ℕ) (W W' : View) (F : Fair items W) where
     pub begun-before : {c : Call} {h : Happening} → Turn items W W' c h → began_relaxed q h ≡ false
     unfolding began_relaxed
     begun-before (quiet A) = refl
-    begun-before (updateBegins s B k e) = refl
-    begun-before (queryBegins s B k z e) = refl
-    begun-before (relaxedBegins s B k e) = ne_eqb (W.last + 1) q (λ z. omega arith)
+    begun-before (update_begins s B k e) = refl
+    begun-before (query_begins s B k z e) = refl
+    begun-before (relaxed_begins s B k e) = ne_eqb (W.last + 1) q (λ z. omega arith)
     begun-before (reads n s x v m b A g) = refl
     begun-before (writes n s x v m b P) = refl
     begun-before (commits n s m a u L o e k) = refl
-    begun-before (commitsEmpty n s m a u w L o e k) = refl
+    begun-before (commits_empty n s m a u w L o e k) = refl
     begun-before (settles n s m B) = refl
-    begun-before (commitsSettled n s m a u L o e k) = refl
+    begun-before (commits_settled n s m a u L o e k) = refl
     begun-before (ends n s m a L o e k) = refl

@@ -10,12 +10,12 @@ use Rattle.rules.specs.Tables.{Tables, slot_of}
 use Rattle.rules.specs.Good.{Good}
 use Rattle.rules.specs.Answers.{Call, BeginUpdate, BeginQuery, Read, Write, Commit, Abort, Settle, BeginRelaxed, granted, refuses, UnknownTransaction, Refused}
 use Rattle.rules.specs.Step.{read_by, write_by, commit_by, abort_by, settle_by, judged, done, act, step}
-use Rattle.rules.proofs.Callers.{caller-in}
+use Rattle.rules.proofs.Callers.{caller_in}
 use Rattle.rules.proofs.Steps.{acts}
 use Rattle.history.specs.Happened.{SoFar, names, did}
 use Rattle.history.proofs.Marked.{Known}
 use Rattle.history.proofs.Seen.{seen, seen_fair}
-use Rattle.history.proofs.Happens.{step_happens, granted-turn}
+use Rattle.history.proofs.Happens.{step_happens, granted_turn}
 use Rattle.history.proofs.Standing.{Unknown, unknown_on, over-unknown}
 
 -- ---- it is answered 3
@@ -28,7 +28,7 @@ module _ (S : Sizes) (n : ℕ) (G : Tables) (g : Good S G) (U : Unknown n (seen 
 
       go : (b : Bool) → eqb (slot_of S G.txns n) S.slots ≡ b → eqb (slot_of S G.txns n) S.slots ≡ true
       go true e = e
-      go false e = let C = caller-in S G n e in absurd (U.nobody s (C.inside, C.alive) C.name)
+      go false e = let C = caller_in S G n e in absurd (U.nobody s (C.inside, C.alive) C.name)
 
   unknown-judged : (c : Call) → T (names n c) → judged S c G ≡ Refused UnknownTransaction
   unfolding judged names read_by write_by commit_by abort_by settle_by
@@ -56,8 +56,8 @@ module _ (S : Sizes) (enough : S.slots ≤ S.places) where
     commit-over e =
         over-unknown S.items (seen S G) _ n (seen_fair S G g) (step S (Commit n) G).answer.number (some (λ m. names m (Commit n)) us.updates)
         (some (λ m. names m (Commit n)) us.stamped)
-        (granted-turn S enough (Commit n) G g us K e)
+        (granted_turn S enough (Commit n) G g us K e)
 
     pub abort-over : (step S (Abort n) G).answer.code ≡ granted → Unknown n (seen S (step S (Abort n) G).after)
     unfolding did
-    abort-over e = over-unknown S.items (seen S G) _ n (seen_fair S G g) 0 false false (granted-turn S enough (Abort n) G g us K e)
+    abort-over e = over-unknown S.items (seen S G) _ n (seen_fair S G g) 0 false false (granted_turn S enough (Abort n) G g us K e)

@@ -11,7 +11,7 @@ use Rattle.rules.specs.Good.{Good}
 use Rattle.rules.proofs.Tests.{or_right}
 use Rattle.rules.proofs.EqualRows.{live-number, live-query, live-settled}
 use Rattle.rules.proofs.RowKinds.{query-starts, settled-starts}
-use Rattle.rules.proofs.Decisions.{holder-alone}
+use Rattle.rules.proofs.Decisions.{holder_alone}
 use Rattle.history.proofs.Invariant.{View, Fair, Row, Locks, Sees, reader}
 use Rattle.history.proofs.Tables.{SameRow, SameHold}
 use Rattle.history.proofs.Leaving.{read_at, shown_of}
@@ -56,7 +56,7 @@ seen_fair S G g =
       low = λ s a. (g.txn_good s a.0.0).reader_start (reads_by_start_lem S G g s a);
       stamps-apart = λ s r a b d.
           g.settled_good.apart s r a.0.0 b.0.0 d (live-settled (txn G.txns s) a.0.1 a.1) (live-settled (txn G.txns r) b.0.1 b.1);
-      alone = λ s r x i d w h. d (holder-alone S G g x i s r w h);
+      alone = λ s r x i d w h. d (holder_alone S G g x i s r w h);
       written_held = λ s x w. or_right (holds_shared (lock G.locks x) s) _ w;
     }
 
@@ -86,12 +86,12 @@ module _ (S : Sizes) (G G' : Tables) (r : ℕ) where
   by_start_lem g R a =
       (a.0.0, by_kind (txn G'.txns r) a.0.1 (subst Listed (sym R.kind_is) (g.txn_good r a.0.0).kind_listed) a.1 a.2)
 
-  pub sees-by :
+  pub sees_by :
       Good S G → SameRow G.txns G'.txns r
       → ((x : ℕ) → x < S.items → r < S.slots → T (by_start (txn G'.txns r))
       → read_at S G'.versions (txn G.txns r).start x ≡ read_at S G.versions (txn G.txns r).start x)
       → Sees S.items (seen S G) (seen S G') r
-  sees-by g R v x i a =
+  sees_by g R v x i a =
       ap (λ (m : ℕ). read_at S G'.versions m x) R.start_is ∙ v x i (by_start_lem g R a).0 (by_start_lem g R a).1
 
 -- nobody lives in a free row

@@ -14,7 +14,7 @@ use Rattle.rules.proofs.Tests.{or_cases, or_left, or_right, eq_make, same?}
 use Rattle.history.specs.Happened.{Happening, update_committed, empty_committed, settled_under}
 use Rattle.history.specs.Numbers.{settled_with}
 use Rattle.history.proofs.Invariant.{View, Fair, Row, settled}
-use Rattle.history.proofs.Turns.{New, Left, Settles, Turn, quiet, updateBegins, queryBegins, relaxedBegins, reads, writes, commits, commitsEmpty, settles, commitsSettled, ends}
+use Rattle.history.proofs.Turns.{New, Left, Settles, Turn, quiet, update_begins, query_begins, relaxed_begins, reads, writes, commits, commits_empty, settles, commits_settled, ends}
 use Rattle.history.proofs.Standing.{Unknown, left-unknown}
 
 -- ---- those past their writing are among ss, the others are not, and all of ss were given
@@ -91,15 +91,15 @@ module _ (items : ℕ) (W W' : View) (F : Fair items W) where
     pub past_on : {c : Call} {h : Happening} → Turn items W W' c h → Past (settled_with h ss) W'
     unfolding settled_with
     past_on (quiet A) = kept-past (λ r a. A.rows r) A.last
-    past_on (updateBegins s B k f) = new_past s B (λ z. omega arith)
-    past_on (queryBegins s B q z f) = new_past s B (λ e. let k = q.1 in omega arith)
-    past_on (relaxedBegins s B q f) = new_past s B (λ e. let k = q.1 in omega arith)
+    past_on (update_begins s B k f) = new_past s B (λ z. omega arith)
+    past_on (query_begins s B q z f) = new_past s B (λ e. let k = q.1 in omega arith)
+    past_on (relaxed_begins s B q f) = new_past s B (λ e. let k = q.1 in omega arith)
     past_on (reads n s x v e b A g) = kept-past (λ r a. A.rows r) A.last
     past_on (writes n s x v e b Q) = kept-past (λ r a. Q.rows r) Q.last
     past_on (commits n s e a k L o f i) = left-past s L
-    past_on (commitsEmpty n s e a k w L o f i) = left-past s L
+    past_on (commits_empty n s e a k w L o f i) = left-past s L
     past_on (settles n s e B) = settles_past n s e B
-    past_on (commitsSettled n s e a k L o f i) = left-past s L
+    past_on (commits_settled n s e a k L o f i) = left-past s L
     past_on (ends n s e a L o f i) = left-past s L
 
 -- ---- the update n is past its writing, under the stamp d
@@ -125,11 +125,11 @@ module _ (items : ℕ) (W W' : View) (F : Fair items W) (n d : ℕ) (H : Took n 
   pub took_commit : {c : Call} {k : ℕ} → Turn items W W' c (update_committed n k) → k ≡ d
   took_commit (commits m s e a i L o f j) =
       absurd (let z : W.kind s ≡ W.kind H.slot = ap W.kind (its_slot s e L.alive) in let k = H.past.1 in omega arith)
-  took_commit (commitsSettled m s e a i L o f j) = ap W.start (its_slot s e L.alive) ∙ H.stamp
+  took_commit (commits_settled m s e a i L o f j) = ap W.start (its_slot s e L.alive) ∙ H.stamp
 
   -- and never one of nothing
   pub took_full : {c : Call} {k : ℕ} → Turn items W W' c (empty_committed n k) → ⊥
-  took_full (commitsEmpty m s e a i w L o f j) =
+  took_full (commits_empty m s e a i w L o f j) =
       let z : W.kind s ≡ W.kind H.slot = ap W.kind (its_slot s e L.alive) in let k = H.past.1 in omega arith
 
   row_took : Row W W' H.slot → Took n d W'
@@ -153,14 +153,14 @@ module _ (items : ℕ) (W W' : View) (F : Fair items W) (n d : ℕ) (H : Took n 
 
   pub took_on : {c : Call} {h : Happening} → Turn items W W' c h → Took n d W' ⊎ Unknown n W'
   took_on (quiet A) = inl (row_took (A.rows H.slot))
-  took_on (updateBegins s B k f) = inl (new_took s B)
-  took_on (queryBegins s B q z f) = inl (new_took s B)
-  took_on (relaxedBegins s B q f) = inl (new_took s B)
+  took_on (update_begins s B k f) = inl (new_took s B)
+  took_on (query_begins s B q z f) = inl (new_took s B)
+  took_on (relaxed_begins s B q f) = inl (new_took s B)
   took_on (reads m s x v e b A g) = inl (row_took (A.rows H.slot))
   took_on (writes m s x v e b Q) = inl (row_took (Q.rows H.slot))
   took_on (commits m s e a k L o f i) = left_took s L
-  took_on (commitsEmpty m s e a k w L o f i) = left_took s L
+  took_on (commits_empty m s e a k w L o f i) = left_took s L
   took_on (settles m s e B) =
       inl (row_took (B.rows H.slot (λ z. let i : W.kind H.slot ≡ W.kind s = ap W.kind z in let j = H.past.1 in let k = B.update.1 in omega arith)))
-  took_on (commitsSettled m s e a k L o f i) = left_took s L
+  took_on (commits_settled m s e a k L o f i) = left_took s L
   took_on (ends m s e a L o f i) = left_took s L

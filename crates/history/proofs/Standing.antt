@@ -8,8 +8,8 @@ use Rattle.rules.specs.Answers.{Call}
 use Rattle.rules.proofs.Tests.{same?}
 use Rattle.history.specs.Happened.{Happening, update_committed, empty_committed, only_ended}
 use Rattle.history.proofs.Invariant.{View, Fair}
-use Rattle.history.proofs.Turns.{Old, row_old, left_old, settles_old, New, Left, Turn, quiet, updateBegins, queryBegins, relaxedBegins, reads, writes}
-use Rattle.history.proofs.Turns.{commits, commitsEmpty, settles, commitsSettled, ends}
+use Rattle.history.proofs.Turns.{Old, row_old, left_old, settles_old, New, Left, Turn, quiet, update_begins, query_begins, relaxed_begins, reads, writes}
+use Rattle.history.proofs.Turns.{commits, commits_empty, settles, commits_settled, ends}
 
 -- ---- nobody has the number n, and it was given (or a later one was)
 pub record Unknown (n : ℕ) (W : View) : Type 0 where
@@ -43,15 +43,15 @@ module _ (items : ℕ) (W W' : View) (n : ℕ) where
 
   pub unknown_on : {c : Call} {h : Happening} → Turn items W W' c h → Unknown n W → Unknown n W'
   unknown_on (quiet A) U = old_unknown U (λ r. row_old items W W' r (A.rows r)) A.last
-  unknown_on (updateBegins s B q f) U = new_unknown U s B
-  unknown_on (queryBegins s B q u e) U = new_unknown U s B
-  unknown_on (relaxedBegins s B q e) U = new_unknown U s B
+  unknown_on (update_begins s B q f) U = new_unknown U s B
+  unknown_on (query_begins s B q u e) U = new_unknown U s B
+  unknown_on (relaxed_begins s B q e) U = new_unknown U s B
   unknown_on (reads m s x v e b A g) U = old_unknown U (λ r. row_old items W W' r (A.rows r)) A.last
   unknown_on (writes m s x v e b P) U = old_unknown U (λ r. row_old items W W' r (P.rows r)) P.last
   unknown_on (commits m s e a u L o f k) U = old_unknown U (left_old items W W' s L) L.last
-  unknown_on (commitsEmpty m s e a u w L o f k) U = old_unknown U (left_old items W W' s L) L.last
+  unknown_on (commits_empty m s e a u w L o f k) U = old_unknown U (left_old items W W' s L) L.last
   unknown_on (settles m s e B) U = old_unknown U (settles_old items W W' s B) B.last
-  unknown_on (commitsSettled m s e a u L o f k) U = old_unknown U (left_old items W W' s L) L.last
+  unknown_on (commits_settled m s e a u L o f k) U = old_unknown U (left_old items W W' s L) L.last
   unknown_on (ends m s e a L o f k) U = old_unknown U (left_old items W W' s L) L.last
 
   -- ---- who leaves is unknown
@@ -71,11 +71,11 @@ module _ (items : ℕ) (W W' : View) (n : ℕ) where
       where
         committed : {c : Call} {j : ℕ} → Turn items W W' c (update_committed n j) → Unknown n W'
         committed (commits m s e a u L o f i) = left-unknown s e L
-        committed (commitsSettled m s e a u L o f i) = left-unknown s e L
+        committed (commits_settled m s e a u L o f i) = left-unknown s e L
     over-unknown k true false t = emptied t
       where
         emptied : {c : Call} {j : ℕ} → Turn items W W' c (empty_committed n j) → Unknown n W'
-        emptied (commitsEmpty m s e a u w L o f i) = left-unknown s e L
+        emptied (commits_empty m s e a u w L o f i) = left-unknown s e L
     over-unknown k false w t = ended t
       where
         ended : {c : Call} → Turn items W W' c (only_ended n) → Unknown n W'

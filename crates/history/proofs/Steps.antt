@@ -12,20 +12,20 @@ use Rattle.history.specs.Happened.{Access}
 use Rattle.history.specs.Serial.{Entry, one_by_one}
 use Rattle.history.proofs.Plain.{zeros, agrees, final}
 use Rattle.history.proofs.Replay.{Within, within-map, within_none, local_agrees}
-use Rattle.history.proofs.Order.{all_map, below, below-same, array_at}
+use Rattle.history.proofs.Order.{all_map, below, below_same, array_at}
 use Rattle.history.proofs.Invariant.{View, Fair, Row, Locks, Sees, Pending, Free, Own, Slot, Inv, settled}
 use Rattle.history.proofs.Turns.{Same, New, Left, Settles}
 use Rattle.history.proofs.Kept.{Unmoved, slot_kept, clear_kept, free-kept}
 
 -- an update names only what it holds, so nothing that one past its writing holds
-pub pending-free :
+pub pending_free :
     (items : ℕ) (W : View) → Fair items W → (r s : ℕ) (l : List Access) → r ≢ s → Pending items W s l → Within (Free items W r) l
-pending-free items W F r s l d p = within-map _ _ (λ x h. (h.0, λ w. F.alone r s x h.0 d w h.1)) l p.within
+pending_free items W F r s l d p = within-map _ _ (λ x h. (h.0, λ w. F.alone r s x h.0 d w h.1)) l p.within
 
 module _ (items : ℕ) (es : List Entry) (log : ℕ → List Access) (W W' : View) (F : Fair items W) (J : Inv items es log W) where
   -- a clock that moves on sees the same
   pub top : (q : ℕ) → 2 * W.clock + 2 ≤ q → below q es ≡ below (2 * W.clock + 2) es
-  top q l = below-same q (2 * W.clock + 2) es (all_map _ _ (λ p n h. (λ z. omega arith, λ z. omega arith)) es J.most)
+  top q l = below_same q (2 * W.clock + 2) es (all_map _ _ (λ p n h. (λ z. omega arith, λ z. omega arith)) es J.most)
 
   pub top_array : (q : ℕ) → 2 * W.clock + 2 ≤ q → (x : ℕ) → x < items → array_at q es log x ≡ W.current x
   top_array q l x b = ap (λ (ns : List ℕ). final (one_by_one log ns) zeros x) (top q l) ∙ J.now x b
@@ -202,5 +202,5 @@ module _ (items : ℕ) (es : List Entry) (log : ℕ → List Access) (W W' : Vie
         -- and it names only what it held
         clear q r a b l (inr d) (inl f) =
             rw (f, B.number)
-            (free-kept items W W' q (B.locks q d) _ (pending-free items W F q s (log (W.number s)) d P))
+            (free-kept items W W' q (B.locks q d) _ (pending_free items W F q s (log (W.number s)) d P))
         clear q r a b l (inr d) (inr c) = clear_kept items log log W W' q r (B.rows q d) (B.rows r c) (B.locks q d) refl (J.clear q r) a b l

@@ -27,7 +27,7 @@ use Rattle.rules.proofs.ReadNoted.{read_same, read-last, read-clock}
 use Rattle.rules.proofs.Noting.{noted-known, noted-last, noted-clock, noted_there, noted-out, noted_here, closed-row, closed-out}
 use Rattle.rules.proofs.Waited.{cleared-last, cleared-clock, cleared_here, cleared_as_closed}
 use Rattle.rules.proofs.Decisions.{exclusive_one}
-use Rattle.rules.proofs.Fresh.{zeros, fresh-row, fresh-row_zero}
+use Rattle.rules.proofs.Fresh.{zeros, fresh-row, fresh_row_zero}
 
 -- ---- rows: number, kind and start of a slot as they were
 pub record SameRow (t t' : List ℕ) (r : ℕ) : Type 0 where
@@ -279,4 +279,4 @@ fresh-clock S = zeros (txn_words S) 1
 
 pub fresh-newest : (S : Sizes) (x : ℕ) → x < S.items → newest S (fresh S).versions x ≡ 0
 unfolding newest versions_of versions_in versions_from
-fresh-newest S x i = ap (λ (r : List ℕ). (get_or (versions_in S r) 0 no_version).value) (fresh-row S x i) ∙ fresh-row_zero S x 1
+fresh-newest S x i = ap (λ (r : List ℕ). (get_or (versions_in S r) 0 no_version).value) (fresh-row S x i) ∙ fresh_row_zero S x 1

@@ -16,7 +16,7 @@ use Rattle.history.specs.Serial.{Entry, access_of, granted_to, place_of, insert_
 use Rattle.history.proofs.Plain.{agrees, final, zeros}
 use Rattle.history.proofs.Literal.{to_agrees, to_final, same-zeros}
 use Rattle.history.proofs.Replay.{within_none, within_all}
-use Rattle.history.proofs.Order.{All, all_map, Sorted, below, below_all, all-agree}
+use Rattle.history.proofs.Order.{All, all_map, Sorted, below, below_all, all_agree}
 use Rattle.history.proofs.Invariant.{Inv}
 use Rattle.history.proofs.Turns.{clock_on}
 use Rattle.history.proofs.Marked.{Known}
@@ -89,7 +89,7 @@ module _ (S : Sizes) (enough : S.slots ≤ S.places) where
         let w = within_all (λ x. x < S.items) log J.named (numbers_of es) in
         record {
           once = J.once;
-          reads = to_agrees S.items all _ _ (same-zeros S) w (all-agree log es zeros J.sorted J.still J.told);
+          reads = to_agrees S.items all _ _ (same-zeros S) w (all_agree log es zeros J.sorted J.still J.told);
           ends = λ x b.
               to_final S.items all _ _ (same-zeros S) w x b
               ∙ sym (ap (λ (ns : List ℕ). final (one_by_one log ns) zeros x) whole) ∙ J.now x b;

@@ -12,7 +12,7 @@ use Rattle.rules.specs.Words.{some}
 use Rattle.rules.specs.Tables.{an_update, a_query, a_settled, a_relaxed}
 use Rattle.rules.specs.Answers.{Call}
 use Rattle.rules.proofs.Tests.{or_cases, or_left, or_right, eq_make, same?}
-use Rattle.history.specs.Happened.{got, put, Happening, update_began, queryBegan, relaxedBegan, accessed, update_committed, empty_committed, settled_under, only_ended, nothing}
+use Rattle.history.specs.Happened.{got, put, Happening, update_began, query_began, relaxed_began, accessed, update_committed, empty_committed, settled_under, only_ended, nothing}
 use Rattle.history.specs.Happened.{SoFar, begun_with, clock_after, names}
 use Rattle.history.proofs.Invariant.{View, Fair, Row, Locks, Sees, update, query, settled, relaxed, reader, Asks}
 
@@ -93,14 +93,14 @@ module _ (items : ℕ) (W W' : View) where
   -- ---- the turn of a call, by what happened
   pub data Turn : Call → Happening → Type 0 where
     quiet : {c : Call} → Same → Turn c nothing
-    updateBegins :
+    update_begins :
         {c : Call} (s : ℕ) → New s → W'.kind s ≡ an_update → ((x : ℕ) → x < items → W'.writes s x ≡ false)
         → Turn c (update_began (W.last + 1))
-    queryBegins :
+    query_begins :
         {c : Call} (s : ℕ) → New s → query W' s → W'.start s ≡ W.clock → ((x : ℕ) → x < items → W'.snapshot s x ≡ W.current x)
-        → Turn c (queryBegan (W.last + 1))
-    relaxedBegins :
-        {c : Call} (s : ℕ) → New s → relaxed W' s → ((x : ℕ) → x < items → W'.writes s x ≡ false) → Turn c (relaxedBegan (W.last + 1))
+        → Turn c (query_began (W.last + 1))
+    relaxed_begins :
+        {c : Call} (s : ℕ) → New s → relaxed W' s → ((x : ℕ) → x < items → W'.writes s x ≡ false) → Turn c (relaxed_began (W.last + 1))
     reads : {c : Call} (n s x v : ℕ) → W.number s ≡ n → x < items → Same → Gets s x v → Turn c (accessed n (got x v))
     writes : {c : Call} (n s x v : ℕ) → W.number s ≡ n → x < items → Puts s x v → Turn c (accessed n (put x v))
     commits :
@@ -108,13 +108,13 @@ module _ (items : ℕ) (W W' : View) where
         → ((x : ℕ) → x < items → W'.current x ≡ cond (W.writes s x) (W.working x) (W.current x)) → W'.clock ≡ W.clock + 1
         → Turn c (update_committed n (W.clock + 1))
     -- without a stamp of its own (request E7): it holds nothing exclusively
-    commitsEmpty :
+    commits_empty :
         {c : Call} (n s : ℕ) → W.number s ≡ n → T (names n c) → W.kind s ≡ an_update → ((x : ℕ) → x < items → W.writes s x ≡ false) → Left s
         → ((r : ℕ) → r ≢ s → Sees items W W' r) → ((x : ℕ) → x < items → W'.current x ≡ W.current x) → W'.clock ≡ W.clock
         → Turn c (empty_committed n W.clock)
     settles : {c : Call} (n s : ℕ) → W.number s ≡ n → Settles s → Turn c (settled_under n (W.clock + 1))
     -- those who read by a later start see what it wrote
-    commitsSettled :
+    commits_settled :
         {c : Call} (n s : ℕ) → W.number s ≡ n → T (names n c) → W.kind s ≡ a_settled → Left s
         → ((r x : ℕ) → r ≢ s → x < items → reader W' r
         → W'.snapshot r x ≡ cond (W.writes s x && leb (W.start s) (W.start r)) (W.working x) (W.snapshot r x))
@@ -243,30 +243,30 @@ module _ (items : ℕ) (W W' : View) (F : Fair items W) (so : SoFar) (K : Begun 
   pub begun_on : {c : Call} {h : Happening} → Turn items W W' c h → Begun (begun_with h so).updates W'
   unfolding begun_with
   begun_on (quiet A) = old_known (λ r. row_old items W W' r (A.rows r)) A.last
-  begun_on (updateBegins s B k e) = new_update s B k
-  begun_on (queryBegins s B q z e) = new_query s B (inl q.1)
-  begun_on (relaxedBegins s B q e) = new_query s B (inr q.1)
+  begun_on (update_begins s B k e) = new_update s B k
+  begun_on (query_begins s B q z e) = new_query s B (inl q.1)
+  begun_on (relaxed_begins s B q e) = new_query s B (inr q.1)
   begun_on (reads n s x v m b A g) = old_known (λ r. row_old items W W' r (A.rows r)) A.last
   begun_on (writes n s x v m b P) = old_known (λ r. row_old items W W' r (P.rows r)) P.last
   begun_on (commits n s m a u L o e k) = old_known (left_old items W W' s L) L.last
-  begun_on (commitsEmpty n s m a u w L o e k) = old_known (left_old items W W' s L) L.last
+  begun_on (commits_empty n s m a u w L o e k) = old_known (left_old items W W' s L) L.last
   begun_on (settles n s m B) = old_known (settles_old items W W' s B) B.last
-  begun_on (commitsSettled n s m a u L o e k) = old_known (left_old items W W' s L) L.last
+  begun_on (commits_settled n s m a u L o e k) = old_known (left_old items W W' s L) L.last
   begun_on (ends n s m a L o e k) = old_known (left_old items W W' s L) L.last
 
 -- ---- the clock is the greatest stamp given
 pub clock_on : (items : ℕ) (W W' : View) → Fair items W → {c : Call} {h : Happening} → Turn items W W' c h → W'.clock ≡ clock_after W.clock h
 unfolding clock_after
 clock_on items W W' F (quiet A) = A.clock
-clock_on items W W' F (updateBegins s B k e) = B.clock
-clock_on items W W' F (queryBegins s B q z e) = B.clock
-clock_on items W W' F (relaxedBegins s B q e) = B.clock
+clock_on items W W' F (update_begins s B k e) = B.clock
+clock_on items W W' F (query_begins s B q z e) = B.clock
+clock_on items W W' F (relaxed_begins s B q e) = B.clock
 clock_on items W W' F (reads n s x v m b A g) = A.clock
 clock_on items W W' F (writes n s x v m b P) = P.clock
 clock_on items W W' F (commits n s m a u L o e k) = k ∙ rw (lt-leb (W.clock + 1) W.clock (omega arith))
-clock_on items W W' F (commitsEmpty n s m a u w L o e k) = k
+clock_on items W W' F (commits_empty n s m a u w L o e k) = k
 clock_on items W W' F (settles n s m B) = B.clock
-clock_on items W W' F (commitsSettled n s m a u L o e k) =
+clock_on items W W' F (commits_settled n s m a u L o e k) =
     let l = F.low s (L.alive, λ z. omega arith, λ z. omega arith) in
     k ∙ rw (le-leb (W.start s) W.clock l)
 clock_on items W W' F (ends n s m a L o e k) = k

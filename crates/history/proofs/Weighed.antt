@@ -33,8 +33,8 @@ use Rattle.rules.proofs.Calls.{query-commits, query_aborts}
 use Rattle.rules.proofs.Keeps.{keeps}
 use Rattle.rules.proofs.Waiting.{named?, one_caller, same_row, others_leave}
 use Rattle.rules.proofs.Judged.{way}
-use Rattle.rules.proofs.Ways.{refusal-code, Way, refused, waited, kept_waiting, began_update, began_query, began_relaxed, read_own, read_newest, readShared, readSettled, readVersion}
-use Rattle.rules.proofs.Ways.{wroteOwn, wroteSettled, wroteTaken, committedUpdate, committedEmpty, committed_settled, committed_query, aborted_update, aborted_settled, aborted_query, settledUpdate}
+use Rattle.rules.proofs.Ways.{refusal-code, Way, refused, waited, kept_waiting, began_update, began_query, began_relaxed, read_own, read_newest, read_shared, read_settled, read_version}
+use Rattle.rules.proofs.Ways.{wrote_own, wrote_settled, wrote_taken, committed_update, committed_empty, committed_settled, committed_query, aborted_update, aborted_settled, aborted_query, settled_update}
 use Rattle.history.specs.Runs.{Event, run, end_of}
 use Rattle.history.specs.Happened.{names}
 use Rattle.history.specs.Weighed.{asks_to_read, granted_read, counts, weighs, sum_over, EndWeighs}
@@ -206,22 +206,22 @@ module _ (S : Sizes) (enough : S.slots ≤ S.places) (n s a b : ℕ) (G : Tables
   own_call c d (began_relaxed r f l a) e = absurd e
   own_call c d (read_own m r x U h) e = absurd (no_update m r e U.caller U.update)
   own_call c d (read_newest m r x U h) e = absurd (no_update m r e U.caller U.update)
-  own_call c d (readShared m r x U h f) e = absurd (no_update m r e U.caller U.update)
-  own_call c d (readSettled m r x C p i h) e = absurd (no_settled m r e C p)
-  own_call c d (readVersion m r x C q i o b) e =
+  own_call c d (read_shared m r x U h f) e = absurd (no_update m r e U.caller U.update)
+  own_call c d (read_settled m r x C p i h) e = absurd (no_settled m r e C p)
+  own_call c d (read_version m r x C q i o b) e =
       subst (λ (j : ℕ). After (Read j x) (version_read S r x G)) (sym e)
       (subst (λ (j : ℕ). After (Read n x) (version_read S j x G)) (sym (it m r e C)) (read_on x i))
-  own_call c d (wroteOwn m r x v U h) e = absurd (no_update m r e U.caller U.update)
-  own_call c d (wroteSettled m r x v C p i h) e = absurd (no_settled m r e C p)
-  own_call c d (wroteTaken m r x v U h f q) e = absurd (no_update m r e U.caller U.update)
-  own_call c d (committedUpdate m r C u i l w) e = absurd (no_update m r e C u)
-  own_call c d (committedEmpty m r C u i w) e = absurd (no_update m r e C u)
+  own_call c d (wrote_own m r x v U h) e = absurd (no_update m r e U.caller U.update)
+  own_call c d (wrote_settled m r x v C p i h) e = absurd (no_settled m r e C p)
+  own_call c d (wrote_taken m r x v U h f q) e = absurd (no_update m r e U.caller U.update)
+  own_call c d (committed_update m r C u i l w) e = absurd (no_update m r e C u)
+  own_call c d (committed_empty m r C u i w) e = absurd (no_update m r e C u)
   own_call c d (committed_settled m r C p) e = absurd (no_settled m r e C p)
   own_call c d (committed_query m r C q) e = inr (end_on m r c e C (eq_make m m refl))
   own_call c d (aborted_update m r C u) e = absurd (no_update m r e C u)
   own_call c d (aborted_settled m r C p) e = absurd (no_settled m r e C p)
   own_call c d (aborted_query m r C q) e = inr (end_on m r c e C (eq_make m m refl))
-  own_call c d (settledUpdate m r C u i l a) e = absurd (no_update m r e C u)
+  own_call c d (settled_update m r C u i l a) e = absurd (no_update m r e C u)
 
   pub tally-step : (c : Call) → After c (step S c G)
   unfolding act
@@ -256,11 +256,11 @@ module _ (S : Sizes) (enough : S.slots ≤ S.places) (n s : ℕ) where
       go (inr U) = inr (unknown-step S enough n c G g U)
 
   -- a query's end answers what its row holds
-  tally-end :
+  tally_end :
       (a b : ℕ) (G : Tables) → Good S G → Tally S n s a b G ⊎ Unknown n (seen S G) → (c : Call) → (c ≡ Commit n) ⊎ (c ≡ Abort n)
       → (step S c G).answer.code ≡ granted → (step S c G).answer ≡ found (held_at_last b) (held_at_last a)
   unfolding names
-  tally-end a b G g (inl Y) c w e = go w
+  tally_end a b G g (inl Y) c w e = go w
     where
       q : T (any_query (txn G.txns s))
       q = unfold any_query in and_both (live (txn G.txns s)) _ Y.caller.alive (true_is Y.query)
@@ -271,7 +271,7 @@ module _ (S : Sizes) (enough : S.slots ≤ S.places) (n s : ℕ) where
       go : (c ≡ Commit n) ⊎ (c ≡ Abort n) → (step S c G).answer ≡ found (held_at_last b) (held_at_last a)
       go (inl z) = ap (λ (d : Call). (step S d G).answer) z ∙ ap (λ (o : Outcome). o.answer) (query-commits S G g n s Y.caller q) ∙ row
       go (inr z) = ap (λ (d : Call). (step S d G).answer) z ∙ ap (λ (o : Outcome). o.answer) (query_aborts S G g n s Y.caller q) ∙ row
-  tally-end a b G g (inr U) c w e =
+  tally_end a b G g (inr U) c w e =
       absurd
       (let z : (step S c G).answer.code ≡ code UnknownTransaction = ap (λ (o : Outcome). o.answer.code) (unknown-answer S enough n G g U c (called w)) in
       omega arith)
@@ -330,7 +330,7 @@ module _ (S : Sizes) (G : Tables) (g : Good S G) (n : ℕ) where
 pub end_weighs : (S : Sizes) → S.slots ≤ S.places → 1 ≤ S.places → EndWeighs S
 unfolding EndWeighs
 end_weighs S enough room before cs n b c how w z e =
-    tally-end S enough n begin.0 (sum_over (counts n) (run S cs H)) (sum_over (weighs n) (run S cs H)) (end_of S cs H)
+    tally_end S enough n begin.0 (sum_over (counts n) (run S cs H)) (sum_over (weighs n) (run S cs H)) (end_of S cs H)
     (good-run S enough cs H h) told c w
   where
     G : Tables

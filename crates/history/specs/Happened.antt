@@ -20,7 +20,7 @@ pub data Access : Type 0 where
 -- each with the number of its transaction
 pub data Happening : Type 0 where
   -- request E11: a relaxed query is told from the others by its begin
-  update_began queryBegan relaxedBegan : ℕ → Happening
+  update_began query_began relaxed_began : ℕ → Happening
   accessed : ℕ → Access → Happening
   -- an update committed, under this stamp
   update_committed : ℕ → ℕ → Happening
@@ -49,8 +49,8 @@ names n BeginRelaxed = false
 unfoldable pub did : Bool → Bool → Call → Answer → Happening
 -- "begin: number is the new number"
 did u w BeginUpdate r = update_began r.number
-did u w BeginQuery r = queryBegan r.number
-did u w BeginRelaxed r = relaxedBegan r.number
+did u w BeginQuery r = query_began r.number
+did u w BeginRelaxed r = relaxed_began r.number
 -- "read: value"
 did u w (Read n x) r = accessed n (got x r.value)
 did u w (Write n x v) r = accessed n (put x v)
@@ -87,8 +87,8 @@ with_stamped n us = record { updates = us.updates; stamped = n ∷ us.stamped }
 
 unfoldable pub begun_with : Happening → SoFar → SoFar
 begun_with (update_began n) us = with_update n us
-begun_with (queryBegan n) us = us
-begun_with (relaxedBegan n) us = us
+begun_with (query_began n) us = us
+begun_with (relaxed_began n) us = us
 begun_with (accessed n (got x v)) us = us
 begun_with (accessed n (put x v)) us = with_stamped n us
 begun_with (update_committed n c) us = us
@@ -114,8 +114,8 @@ clock_after c (settled_under n d) = d
 clock_after c (update_committed n d) = cond (leb d c) c d
 clock_after c (empty_committed n d) = c
 clock_after c (update_began n) = c
-clock_after c (queryBegan n) = c
-clock_after c (relaxedBegan n) = c
+clock_after c (query_began n) = c
+clock_after c (relaxed_began n) = c
 clock_after c (accessed n a) = c
 clock_after c (only_ended n) = c
 clock_after c nothing = c

@@ -3,14 +3,14 @@ use Rattle.std.specs.Prelude.{ℕ, suc, true, cond, List, [], ◌∷◌, ◌++�
 use Rattle.names.specs.declared.Sizes.{Sizes}
 use Rattle.rules.specs.Words.{some}
 use Rattle.rules.specs.Answers.{Call}
-use Rattle.history.specs.Happened.{Happening, update_began, queryBegan, relaxedBegan, accessed, update_committed, empty_committed, settled_under, only_ended, nothing}
+use Rattle.history.specs.Happened.{Happening, update_began, query_began, relaxed_began, accessed, update_committed, empty_committed, settled_under, only_ended, nothing}
 use Rattle.history.specs.Happened.{happenings, all_of}
 
 -- the number that a begin gives
 unfoldable pub number_of : Happening → List ℕ
 number_of (update_began n) = n ∷ []
-number_of (queryBegan n) = n ∷ []
-number_of (relaxedBegan n) = n ∷ []
+number_of (query_began n) = n ∷ []
+number_of (relaxed_began n) = n ∷ []
 number_of (accessed n a) = []
 number_of (update_committed n c) = []
 number_of (empty_committed n c) = []
@@ -24,8 +24,8 @@ settled_with (settled_under n d) ss = n ∷ ss
 settled_with (update_committed n d) ss = ss
 settled_with (empty_committed n d) ss = ss
 settled_with (update_began n) ss = ss
-settled_with (queryBegan n) ss = ss
-settled_with (relaxedBegan n) ss = ss
+settled_with (query_began n) ss = ss
+settled_with (relaxed_began n) ss = ss
 settled_with (accessed n a) ss = ss
 settled_with (only_ended n) ss = ss
 settled_with nothing ss = ss
@@ -36,8 +36,8 @@ stamp_of ss (settled_under n d) = d ∷ []
 stamp_of ss (update_committed n d) = cond (some (eqb n) ss) [] (d ∷ [])
 stamp_of ss (empty_committed n d) = []
 stamp_of ss (update_began n) = []
-stamp_of ss (queryBegan n) = []
-stamp_of ss (relaxedBegan n) = []
+stamp_of ss (query_began n) = []
+stamp_of ss (relaxed_began n) = []
 stamp_of ss (accessed n a) = []
 stamp_of ss (only_ended n) = []
 stamp_of ss nothing = []

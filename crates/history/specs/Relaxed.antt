@@ -10,7 +10,7 @@ use Rattle.rules.specs.Answers.{Call, Read, Commit, granted}
 use Rattle.rules.specs.Step.{step}
 use Rattle.rules.specs.Conditions.{Caller}
 use Rattle.history.specs.Runs.{end_of}
-use Rattle.history.specs.Happened.{Access, Happening, update_began, queryBegan, relaxedBegan, accessed, update_committed, empty_committed, settled_under, only_ended, nothing}
+use Rattle.history.specs.Happened.{Access, Happening, update_began, query_began, relaxed_began, accessed, update_committed, empty_committed, settled_under, only_ended, nothing}
 use Rattle.history.specs.Happened.{happenings, all_of}
 use Rattle.history.specs.Serial.{zeros, agrees, final, granted_to, order, one_by_one, Once}
 
@@ -34,8 +34,8 @@ ever_in_set S (c ∷ cs) G q u = in_set S G q u || ever_in_set S cs (step S c G)
 unfoldable pub ends_it : ℕ → Happening → Bool
 ends_it q (only_ended n) = eqb n q
 ends_it q (update_began n) = false
-ends_it q (queryBegan n) = false
-ends_it q (relaxedBegan n) = false
+ends_it q (query_began n) = false
+ends_it q (relaxed_began n) = false
 ends_it q (accessed n a) = false
 ends_it q (update_committed n c) = false
 ends_it q (empty_committed n c) = false
@@ -51,8 +51,8 @@ unfoldable pub committer : Happening → List ℕ
 committer (update_committed n c) = n ∷ []
 committer (empty_committed n c) = n ∷ []
 committer (update_began n) = []
-committer (queryBegan n) = []
-committer (relaxedBegan n) = []
+committer (query_began n) = []
+committer (relaxed_began n) = []
 committer (accessed n a) = []
 committer (settled_under n c) = []
 committer (only_ended n) = []
@@ -100,8 +100,8 @@ unfoldable pub commits_under : ℕ → ℕ → Happening → Bool
 commits_under u d (update_committed n c) = eqb n u && eqb c d
 commits_under u d (empty_committed n c) = false
 commits_under u d (update_began n) = false
-commits_under u d (queryBegan n) = false
-commits_under u d (relaxedBegan n) = false
+commits_under u d (query_began n) = false
+commits_under u d (relaxed_began n) = false
 commits_under u d (accessed n a) = false
 commits_under u d (settled_under n c) = false
 commits_under u d (only_ended n) = false
@@ -126,9 +126,9 @@ pub record Meets (S : Sizes) (before : List Call) (c : Call) (m u : ℕ) : Type 
 
 -- ---- the query began
 unfoldable pub began_relaxed : ℕ → Happening → Bool
-began_relaxed q (relaxedBegan n) = eqb n q
+began_relaxed q (relaxed_began n) = eqb n q
 began_relaxed q (update_began n) = false
-began_relaxed q (queryBegan n) = false
+began_relaxed q (query_began n) = false
 began_relaxed q (accessed n a) = false
 began_relaxed q (update_committed n c) = false
 began_relaxed q (empty_committed n c) = false

@@ -7,7 +7,7 @@ use Rattle.rules.specs.Tables.{fresh}
 use Rattle.rules.specs.Versions.{newest}
 use Rattle.rules.specs.Answers.{Call}
 use Rattle.history.specs.Runs.{end_of}
-use Rattle.history.specs.Happened.{Access, got, put, Happening, update_began, queryBegan, relaxedBegan, accessed, update_committed, empty_committed, settled_under, only_ended, nothing}
+use Rattle.history.specs.Happened.{Access, got, put, Happening, update_began, query_began, relaxed_began, accessed, update_committed, empty_committed, settled_under, only_ended, nothing}
 use Rattle.history.specs.Happened.{clock_after, happenings, all_of}
 
 -- ---- a plain array, a number for each item, at first all zero
@@ -30,8 +30,8 @@ final (put x v ∷ l) a = final l (set a x v)
 unfoldable pub access_of : ℕ → Happening → List Access
 access_of n (accessed m a) = cond (eqb m n) (a ∷ []) []
 access_of n (update_began m) = []
-access_of n (queryBegan m) = []
-access_of n (relaxedBegan m) = []
+access_of n (query_began m) = []
+access_of n (relaxed_began m) = []
 access_of n (update_committed m c) = []
 access_of n (empty_committed m c) = []
 access_of n (settled_under m c) = []
@@ -52,13 +52,13 @@ pub record Entry : Type 0 where
 -- who is to stand there since this happening, c being the greatest stamp given so far: "A query's start is the clock."
 unfoldable pub place_of : ℕ → Happening → List Entry
 place_of c (update_committed n d) = record { place = 2 * d; number = n } ∷ []
-place_of c (queryBegan n) = record { place = 2 * c + 1; number = n } ∷ []
+place_of c (query_began n) = record { place = 2 * c + 1; number = n } ∷ []
 -- request E7: "after all updates with stamps up to that one and before the next"
 place_of c (empty_committed n d) = record { place = 2 * d + 1; number = n } ∷ []
 place_of c (settled_under n d) = []
 place_of c (update_began n) = []
 -- request E11: a relaxed query stands nowhere here; what is shown of it instead is in Relaxed
-place_of c (relaxedBegan n) = []
+place_of c (relaxed_began n) = []
 place_of c (accessed n a) = []
 place_of c (only_ended n) = []
 place_of c nothing = []

@@ -11,7 +11,7 @@ use Rattle.rules.specs.Versions.{newest}
 use Rattle.rules.specs.Answers.{Call, BeginQuery, Read, granted}
 use Rattle.rules.specs.Step.{step}
 use Rattle.history.specs.Runs.{Event, run, end_of, Every}
-use Rattle.history.specs.Happened.{Access, got, put, Happening, update_began, queryBegan, relaxedBegan, accessed, update_committed, empty_committed, settled_under, only_ended, nothing}
+use Rattle.history.specs.Happened.{Access, got, put, Happening, update_began, query_began, relaxed_began, accessed, update_committed, empty_committed, settled_under, only_ended, nothing}
 use Rattle.history.specs.Happened.{happenings}
 use Rattle.history.specs.Serial.{granted_to}
 
@@ -21,8 +21,8 @@ unfoldable pub commit_of : ℕ → Happening → Bool
 commit_of m (update_committed n c) = eqb n m
 commit_of m (empty_committed n c) = eqb n m
 commit_of m (update_began n) = false
-commit_of m (queryBegan n) = false
-commit_of m (relaxedBegan n) = false
+commit_of m (query_began n) = false
+commit_of m (relaxed_began n) = false
 commit_of m (accessed n a) = false
 commit_of m (settled_under n c) = false
 commit_of m (only_ended n) = false

@@ -19,7 +19,7 @@ use Rattle.rules.specs.Answers.{Call, BeginQuery, BeginRelaxed}
 use Rattle.rules.specs.Tables.{Tables}
 use Rattle.rules.proofs.Fresh.{fresh-good}
 use Rattle.history.specs.Runs.{Event, run, end_of}
-use Rattle.history.specs.Happened.{got, put, Happening, empty_committed, only_ended, update_began, queryBegan, none_so_far, did, told, happened, begun_with, happenings_after, happenings, clock_after, all_of, names}
+use Rattle.history.specs.Happened.{got, put, Happening, empty_committed, only_ended, update_began, query_began, none_so_far, did, told, happened, begun_with, happenings_after, happenings, clock_after, all_of, names}
 use Rattle.history.specs.Serial.{zeros, agrees, final, access_of, granted_to, place_of, insert, insert_all, entries_from, numbers_of, order, one_by_one, serial}
 use Rattle.history.proofs.Played.{played, played_end, run_played, end_played}
 use Rattle.history_samples.specs.Samples.{serializes, run_passes, mixed, past_writing, without_stamp, settled_later, settled_sooner, by_clock, agrees_in, empty_update, ended_query, stored, late_snapshot, timely_snapshot, fresher, circle, lost_update, kept_update, dirty_read, hasty, patient}
@@ -123,7 +123,7 @@ update-told : happenings base empty_update ≡ update_began 1 ∷ empty_committe
 unfolding computed empty_update
 update-told = happenings_so empty_update ∙ refl
 
-query-told : happenings base ended_query ≡ queryBegan 1 ∷ only_ended 1 ∷ []
+query-told : happenings base ended_query ≡ query_began 1 ∷ only_ended 1 ∷ []
 unfolding computed ended_query
 query-told = happenings_so ended_query ∙ refl
 

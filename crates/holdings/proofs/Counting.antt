@@ -46,11 +46,11 @@ module _ (u w : ℕ) (l c : List ℕ) (most : ℕ) (ok : Bool) (i : ℕ) (k : i 
   few s j = let e = h.at s j in let b = count-le i (λ x. holds_exclusive (lock l x) s) in omega arith
 
   -- no slot holds lock i exclusively
-  pub counting-none :
+  pub counting_none :
       {b : Bool} → b ≡ lock_ok u w (lock l i) → ((s : ℕ) → s < base.slots → (lock l i).exclusive ≢ suc s)
       → {c' : List ℕ} {most' : ℕ} {ok' : Bool} → c' ≡ c → most' ≡ most → ok' ≡ (b && ok) → Counting u w l c' most' ok' (i + 1)
   unfolding holds_exclusive
-  counting-none e n p q r =
+  counting_none e n p q r =
       rw (p, q, r)
       (record {
         within = omega arith;
@@ -61,14 +61,14 @@ module _ (u w : ℕ) (l c : List ℕ) (most : ℕ) (ok : Bool) (i : ℕ) (k : i 
       })
 
   -- one slot does
-  pub counting-one :
+  pub counting_one :
       {b : Bool} → b ≡ lock_ok u w (lock l i) → (lock l i).exclusive ≢ 0 → (lock l i).exclusive ≤ base.slots
       → {c' : List ℕ} {most' : ℕ} {ok' : Bool}
       → c' ≡ set c ((lock l i).exclusive - 1) (get_or c ((lock l i).exclusive - 1) 0 + 1)
       → most' ≡ bit_or most (get_or c ((lock l i).exclusive - 1) 0 + 1)
       → ok' ≡ (b && ok) → Counting u w l c' most' ok' (i + 1)
   unfolding holds_exclusive
-  counting-one e d m p q r =
+  counting_one e d m p q r =
       let z = h.size in
       rw (p, q, r)
       (record {

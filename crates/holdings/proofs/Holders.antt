@@ -17,7 +17,7 @@ use Rattle.rules.specs.Tables.{Lock, lock, lock_row, lock_words, txn, live_updat
 use Rattle.rules.specs.Good.{GoodLock}
 use Rattle.rules.specs.Tested.{lock_good}
 use Rattle.rules.proofs.Tests.{and_left, and_right, and_both, is_false, false_is, not_use, eq_make}
-use Rattle.rules.proofs.Counts.{everyBelow→, →everyBelow}
+use Rattle.rules.proofs.Counts.{every_below→, →every_below}
 use Rattle.rules.proofs.Bits.{bit-suc, bit_none, bit_below, no_bits}
 use Rattle.rules.proofs.EqualRows.{lock→Good, Good→lock}
 use Rattle.words.proofs.SlotWords.{and_at, or_at, sans_at}
@@ -163,13 +163,13 @@ pub locks-same : (t l : List ℕ) → locks_ok (updates_in base t) (holders_in t
 unfolding locks_ok locks_good
 locks-same t l =
     iff_eq (every_below base.items (λ x. lock_ok (updates_in base t) (holders_in t) (lock l x))) (every_below base.items (λ x. lock_good base t (lock l x)))
-    (λ a. →everyBelow base.items (λ x. lock_good base t (lock l x)) (λ x i. subst T (lock-same t (lock l x)) (everyBelow→ base.items (λ x. lock_ok (updates_in base t) (holders_in t) (lock l x)) a x i)))
-    (λ a. →everyBelow base.items (λ x. lock_ok (updates_in base t) (holders_in t) (lock l x)) (λ x i. subst T (sym (lock-same t (lock l x))) (everyBelow→ base.items (λ x. lock_good base t (lock l x)) a x i)))
+    (λ a. →every_below base.items (λ x. lock_good base t (lock l x)) (λ x i. subst T (lock-same t (lock l x)) (every_below→ base.items (λ x. lock_ok (updates_in base t) (holders_in t) (lock l x)) a x i)))
+    (λ a. →every_below base.items (λ x. lock_ok (updates_in base t) (holders_in t) (lock l x)) (λ x i. subst T (sym (lock-same t (lock l x))) (every_below→ base.items (λ x. lock_good base t (lock l x)) a x i)))
 
 -- locks that pass are good
 pub locks→Good : (t l : List ℕ) → T (locks_good base t l) → (x : ℕ) → x < base.items → GoodLock base t (lock l x)
 unfolding locks_good
-locks→Good t l h x i = lock→Good base t (lock l x) (everyBelow→ base.items (λ x. lock_good base t (lock l x)) h x i)
+locks→Good t l h x i = lock→Good base t (lock l x) (every_below→ base.items (λ x. lock_good base t (lock l x)) h x i)
 
 -- ---- nobody is live who may hold: no lock word is set
 none_ok : (h : Lock) → T (lock_ok 0 0 h) → (h.shared ≡ 0) × (h.exclusive ≡ 0) × (h.working ≡ 0)
@@ -188,21 +188,21 @@ none_ok h a = go h.exclusive refl
         last : (c : Bool) → T (c && eqb (0 * 2 / 2 ^ (h.exclusive % 64) % 2) 1) → T (bit 0 (h.exclusive % 64))
         last c b = and_right c _ b
 
-pub none_held-same : (l : List ℕ) → nothing_held l ≡ locks_ok 0 0 l
+pub none_held_same : (l : List ℕ) → nothing_held l ≡ locks_ok 0 0 l
 unfolding nothing_held locks_ok lock lock_ok
-none_held-same l =
+none_held_same l =
     iff_eq (every_below (lock_words base) (λ k. eqb (get_or l k 0) 0)) (locks_ok 0 0 l)
-    (λ a. →everyBelow base.items (λ x. lock_ok 0 0 (lock l x)) (λ x b.
+    (λ a. →every_below base.items (λ x. lock_ok 0 0 (lock l x)) (λ x b.
     let p = word a (lock_row * x) (omega arith) in
     let q = word a (lock_row * x + lock_exclusive_at) (omega arith) in
     let r = word a (lock_row * x + lock_working_at) (omega arith) in
     rw (p, q, r) tt))
-    (λ a. →everyBelow (lock_words base) (λ k. eqb (get_or l k 0) 0) (λ k b.
-    let n = none_ok (lock l (k / lock_row)) (everyBelow→ base.items (λ x. lock_ok 0 0 (lock l x)) a (k / lock_row) (omega arith)) in
+    (λ a. →every_below (lock_words base) (λ k. eqb (get_or l k 0) 0) (λ k b.
+    let n = none_ok (lock l (k / lock_row)) (every_below→ base.items (λ x. lock_ok 0 0 (lock l x)) a (k / lock_row) (omega arith)) in
     eq_make (get_or l k 0) 0 (at k (k % lock_row) (omega arith) refl n.0 n.1 n.2)))
   where
     word : T (every_below (lock_words base) (λ k. eqb (get_or l k 0) 0)) → (k : ℕ) → k < lock_words base → get_or l k 0 ≡ 0
-    word a k b = eqb→eq (get_or l k 0) 0 (everyBelow→ (lock_words base) (λ k. eqb (get_or l k 0) 0) a k b)
+    word a k b = eqb→eq (get_or l k 0) 0 (every_below→ (lock_words base) (λ k. eqb (get_or l k 0) 0) a k b)
 
     at : (k r : ℕ) → r < lock_row → k % lock_row ≡ r → get_or l (lock_row * (k / lock_row)) 0 ≡ 0 → get_or l (lock_row * (k / lock_row) + lock_exclusive_at) 0 ≡ 0 → get_or l (lock_row * (k / lock_row) + lock_working_at) 0 ≡ 0 → get_or l k 0 ≡ 0
     at k zero b e x y z = ap (λ (m : ℕ). get_or l m 0) (let g : k ≡ lock_row * (k / lock_row) = omega arith in g) ∙ x

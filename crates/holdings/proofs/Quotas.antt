@@ -11,9 +11,9 @@ use Rattle.rules.specs.Words.{bit, implies, every_below}
 use Rattle.rules.specs.Tables.{txn, may_hold, exclusive_lock, exclusives_of}
 use Rattle.rules.specs.Tested.{quota_most, full_idle, quota_good}
 use Rattle.rules.proofs.Tests.{and_also, false_is}
-use Rattle.rules.proofs.Counts.{→everyBelow}
+use Rattle.rules.proofs.Counts.{→every_below}
 use Rattle.rules.proofs.Bits.{bit_none}
-use Rattle.rules.proofs.Quotas.{Good→quota, exclusives-none}
+use Rattle.rules.proofs.Quotas.{Good→quota, exclusives_none}
 use Rattle.holdings.specs.Holding.{locks_good, quotas_good, Counted, quota_ok, quotas_ok}
 use Rattle.holdings.proofs.Holders.{holders_in, holders_at}
 use Rattle.holdings.proofs.Holders.{locks→Good}
@@ -49,7 +49,7 @@ module _ (t l : List ℕ) (s : ℕ) where
     where
       go : (c : Bool) → may_hold (txn t s) ≡ c → quota_ok n w ≡ quota_good base l s (txn t s)
       go true e = rw e (ap (λ (b : Bool). leb n base.quota && b) (sym (implies_not (eqb n base.quota) (eqb w exclusive_lock))))
-      go false e = rw (e, exclusives-none base t l (locks→Good t l h) s (false_is e))
+      go false e = rw (e, exclusives_none base t l (locks→Good t l h) s (false_is e))
 
   -- who holds fewer than the quota, and who may hold none
   quota_fewer : n < base.quota → T (quota_good base l s (txn t s))
@@ -73,12 +73,12 @@ module _ (t l : List ℕ) where
   unfolding quotas_good
   counted-few c most k h =
       and_also (locks_good base t l) _
-      (→everyBelow base.slots (λ s. quota_good base l s (txn t s)) (λ s i. quota_fewer t l s (let a = k.at s i in let b = k.bound s i in omega arith)))
+      (→every_below base.slots (λ s. quota_good base l s (txn t s)) (λ s i. quota_fewer t l s (let a = k.at s i in let b = k.bound s i in omega arith)))
 
   -- nobody is live who may hold
   pub idle-few : holders_in t ≡ 0 → locks_good base t l ≡ (locks_good base t l && quotas_good base t l)
   unfolding quotas_good
   idle-few e =
       and_also (locks_good base t l) _
-      (→everyBelow base.slots (λ s. quota_good base l s (txn t s))
+      (→every_below base.slots (λ s. quota_good base l s (txn t s))
       (λ s i. quota_idle t l s (false_is (sym (holders_at t s i) ∙ ap (λ (u : ℕ). bit u s) e ∙ bit_none s))))

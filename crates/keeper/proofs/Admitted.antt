@@ -12,8 +12,8 @@ use Rattle.rules.proofs.Tests.{true_is}
 use Rattle.rules.proofs.Equal.{good→Good}
 use Rattle.rules.proofs.Steps.{acts}
 use Rattle.rules.proofs.Judged.{way}
-use Rattle.rules.proofs.Ways.{Way, refused, waited, kept_waiting, began_update, began_query, began_relaxed, read_own, read_newest, readShared, readSettled, readVersion}
-use Rattle.rules.proofs.Ways.{wroteOwn, wroteSettled, wroteTaken, committedUpdate, committedEmpty, committed_settled, committed_query, aborted_update, aborted_settled, aborted_query, settledUpdate}
+use Rattle.rules.proofs.Ways.{Way, refused, waited, kept_waiting, began_update, began_query, began_relaxed, read_own, read_newest, read_shared, read_settled, read_version}
+use Rattle.rules.proofs.Ways.{wrote_own, wrote_settled, wrote_taken, committed_update, committed_empty, committed_settled, committed_query, aborted_update, aborted_settled, aborted_query, settled_update}
 use Rattle.done.specs.Able.{Able}
 
 -- the test of all tables passed, or not
@@ -33,20 +33,20 @@ way_able G c d (began_query s f l) = f.inside
 way_able G c d (began_relaxed s f l n) = f.inside
 way_able G c d (read_own n s x U h) = (U.caller.inside, U.known)
 way_able G c d (read_newest n s x U h) = (U.caller.inside, U.known)
-way_able G c d (readShared n s x U h f) = (U.caller.inside, U.known)
-way_able G c d (readSettled n s x C p i h) = (C.inside, i)
-way_able G c d (readVersion n s x C b i h f) = (C.inside, i, b)
-way_able G c d (wroteOwn n s x v U h) = (U.caller.inside, U.known)
-way_able G c d (wroteSettled n s x v C p i h) = (C.inside, i)
-way_able G c d (wroteTaken n s x v U h f r) = (U.caller.inside, U.known)
-way_able G c d (committedUpdate n s C u i l w) = (C.inside, u)
-way_able G c d (committedEmpty n s C u i e) = C.inside
+way_able G c d (read_shared n s x U h f) = (U.caller.inside, U.known)
+way_able G c d (read_settled n s x C p i h) = (C.inside, i)
+way_able G c d (read_version n s x C b i h f) = (C.inside, i, b)
+way_able G c d (wrote_own n s x v U h) = (U.caller.inside, U.known)
+way_able G c d (wrote_settled n s x v C p i h) = (C.inside, i)
+way_able G c d (wrote_taken n s x v U h f r) = (U.caller.inside, U.known)
+way_able G c d (committed_update n s C u i l w) = (C.inside, u)
+way_able G c d (committed_empty n s C u i e) = C.inside
 way_able G c d (committed_settled n s C p) = (C.inside, p)
 way_able G c d (committed_query n s C q) = (C.inside, q)
 way_able G c d (aborted_update n s C u) = C.inside
 way_able G c d (aborted_settled n s C p) = (C.inside, p)
 way_able G c d (aborted_query n s C q) = (C.inside, q)
-way_able G c d (settledUpdate n s C u i l r) = C.inside
+way_able G c d (settled_update n s C u i l r) = C.inside
 
 pub judged_able : (G : Tables) → Good base G → (c : Call) {d : Deed} → d ≡ judged base c G → Able G d
 judged_able G g c {d} e = subst (Able G) (sym e) (way_able G c (judged base c G) (way base G g c))

@@ -16,14 +16,14 @@ use Rattle.rules.specs.Words.{without_bit}
 use Rattle.rules.specs.Step.{begun, forgotten, committed_under, committed, settled_committed, ended, aborted, settled_aborted}
 use Rattle.rules.specs.Conditions.{Free}
 use Rattle.rules.proofs.EqualRows.{holder, holder_live}
-use Rattle.rules.proofs.EqualRanks.{awaits→, awaitsOn→}
+use Rattle.rules.proofs.EqualRanks.{awaits→, awaits_on→}
 use Rattle.rules.proofs.Views.{txn-set_txn, txn-set_txn-other, txn-top, lock-release}
 use Rattle.rules.proofs.Walks.{conflicts→holds}
 use Rattle.rules.proofs.Carried.{NoMore}
-use Rattle.rules.proofs.Leaves.{released-fewer}
+use Rattle.rules.proofs.Leaves.{released_fewer}
 use Rattle.rules.proofs.Noting.{closed-length, closed-row}
 use Rattle.rules.proofs.Joined.{forgotten-length, forgotten-row}
-use Rattle.line.proofs.Kept.{same-locks, rows-kept, sets-kept, left-kept}
+use Rattle.line.proofs.Kept.{same-locks, rows-kept, sets_kept, left-kept}
 use Rattle.line.proofs.Outsiders.{Outside, Harmless, Inv, carried}
 
 -- ---- on the good tables G, in which the transaction n waits, in slot s, for the item x
@@ -61,7 +61,7 @@ module _
           (rows-kept S G (begun k q r G) g x r F.inside (λ b d. txn-set_txn-other u r Q b d ∙ txn-top t last_number_at m b (omega arith)) (λ b d. same-locks (lock l x) b))
           (λ o. record {
             free = λ c. F.free (holder_live (txn t r) (holder S t (lock l x) (g.lock_good x known) r (conflicts→holds (lock l x) (wanted a) r c)).1).0;
-            behind = λ v. absurd (awaits→ (txn (set_txn u r Q) r) (awaitsOn→ x (txn (set_txn u r Q) r) v).0 (ap (λ (w : Txn). w.awaited_lock) (txn-set_txn u r Q S (length-set t last_number_at m ∙ g.txns_exact) F.inside)));
+            behind = λ v. absurd (awaits→ (txn (set_txn u r Q) r) (awaits_on→ x (txn (set_txn u r Q) r) v).0 (ap (λ (w : Txn). w.awaited_lock) (txn-set_txn u r Q S (length-set t last_number_at m ∙ g.txns_exact) F.inside)));
           })
         where
           m : ℕ
@@ -83,7 +83,7 @@ module _
         (gone G' r (txn-set_txn t' r no_txn S size i))
 
     released : (r b : ℕ) → NoMore b (lock l x) (lock (release S r l) x)
-    released r b = subst (NoMore b (lock l x)) (sym (lock-release S r l g.locks_exact x known)) (released-fewer r (lock l x) b)
+    released r b = subst (NoMore b (lock l x)) (sym (lock-release S r l g.locks_exact x known)) (released_fewer r (lock l x) b)
 
     pub commits : (r : ℕ) → r < S.slots → s ≢ r → Good S (committed S r G) → J (committed S r G)
     unfolding committed_under committed
@@ -104,7 +104,7 @@ module _
     unfolding ended
     query-ends r i d g' =
         carried S D a n s x G (ended S r G) g' I r d
-        (sets-kept S G (ended S r G) g x r i
+        (sets_kept S G (ended S r G) g x r i
         (λ b j e. (without_bit (txn t b).later_for r, txn-set_txn-other (forgotten S r t) r no_txn b e ∙ forgotten-row S r t g.txns_exact b j))
         (λ b e. same-locks (lock l x) b))
         (gone (ended S r G) r (txn-set_txn (forgotten S r t) r no_txn S (forgotten-length S r t ∙ g.txns_exact) i))

@@ -18,7 +18,7 @@ use Rattle.rules.specs.Step.{act, judged, done, version_read, begun, counted, re
 use Rattle.rules.specs.Changed.{looked_at}
 use Rattle.rules.specs.Promises.{after}
 use Rattle.rules.proofs.Tests.{true_is, false_is, same?}
-use Rattle.rules.proofs.EqualRanks.{awaits→, awaitsOn→}
+use Rattle.rules.proofs.EqualRanks.{awaits→, awaits_on→}
 use Rattle.rules.proofs.Views.{txn-set_txn, txn-set_txn-other, txn-top}
 use Rattle.rules.proofs.Noting.{noted-known, noted-size, closed-length, closed-row}
 use Rattle.rules.proofs.Notes.{Beside, beside_same, beside_on, same_beside}
@@ -30,8 +30,8 @@ use Rattle.rules.proofs.Waited.{only_this, cleared_there, cleared-idle}
 use Rattle.rules.proofs.Judged.{way}
 use Rattle.rules.proofs.Keeps.{keeps}
 use Rattle.rules.proofs.Steps.{acts}
-use Rattle.rules.proofs.Ways.{Way, Waiter, refused, waited, began_update, began_query, began_relaxed, read_own, read_newest, readShared, readSettled, readVersion}
-use Rattle.rules.proofs.Ways.{wroteOwn, wroteSettled, wroteTaken, committedUpdate, committedEmpty, committed_settled, committed_query, aborted_update, aborted_settled, aborted_query, settledUpdate, kept_waiting}
+use Rattle.rules.proofs.Ways.{Way, Waiter, refused, waited, began_update, began_query, began_relaxed, read_own, read_newest, read_shared, read_settled, read_version}
+use Rattle.rules.proofs.Ways.{wrote_own, wrote_settled, wrote_taken, committed_update, committed_empty, committed_settled, committed_query, aborted_update, aborted_settled, aborted_query, settled_update, kept_waiting}
 use Rattle.line.specs.InOrder.{OrderKept}
 use Rattle.line.proofs.Kept.{same-locks, rows-kept, left-kept, came_kept}
 
@@ -53,7 +53,7 @@ module _
 
     -- a row that awaits nothing is neither's
     idle-apart : (t' : List ℕ) (r : ℕ) → (T (awaits (txn t' r)) → ⊥) → (m : ℕ) → T (awaits_on x (txn t' m)) → m ≢ r
-    idle-apart t' r n m v e = n (subst (λ (q : ℕ). T (awaits (txn t' q))) e (awaitsOn→ x (txn t' m) v).0)
+    idle-apart t' r n m v e = n (subst (λ (q : ℕ). T (awaits (txn t' q))) e (awaits_on→ x (txn t' m) v).0)
 
     -- ---- slot r has a new row, which awaits nothing
     module _ (u : List ℕ) (r : ℕ) (Q : Txn) (size : length u ≡ txn_words S) (inside : r < S.slots) (none : Q.awaited_lock ≡ no_lock) where
@@ -158,21 +158,21 @@ module _
     stood c d (began_relaxed r F l y) v w o = headed S G g x a b i j h k r _ last_number_at _ F.inside (omega arith) refl v w o
     stood c d (read_own n r y U e) v w o = clears S G g x a b i j h k r U.caller.inside v w o
     stood c d (read_newest n r y U e) v w o = clears S G g x a b i j h k r U.caller.inside v w o
-    stood c d (readShared n r y U e f) v w o = joins r shared_lock y U.caller.inside U.update U.known v w o
+    stood c d (read_shared n r y U e f) v w o = joins r shared_lock y U.caller.inside U.update U.known v w o
     stood c d (kept_waiting r C q) v w o = o
-    stood c d (readSettled n r y C p l e) v w o = clears S G g x a b i j h k r C.inside v w o
-    stood c d (readVersion n r y C q l e f) v w o = reads S G g x a b i j h k r y C.inside l v w o
-    stood c d (wroteOwn n r y z U e) v w o = clears S G g x a b i j h k r U.caller.inside v w o
-    stood c d (wroteSettled n r y z C p l e) v w o = clears S G g x a b i j h k r C.inside v w o
-    stood c d (wroteTaken n r y z U e f m) v w o = joins r exclusive_lock y U.caller.inside U.update U.known v w o
-    stood c d (committedUpdate n r C u e l q) v w o = headed S G g x a b i j h k r no_txn clock_at _ C.inside (omega arith) refl v w o
+    stood c d (read_settled n r y C p l e) v w o = clears S G g x a b i j h k r C.inside v w o
+    stood c d (read_version n r y C q l e f) v w o = reads S G g x a b i j h k r y C.inside l v w o
+    stood c d (wrote_own n r y z U e) v w o = clears S G g x a b i j h k r U.caller.inside v w o
+    stood c d (wrote_settled n r y z C p l e) v w o = clears S G g x a b i j h k r C.inside v w o
+    stood c d (wrote_taken n r y z U e f m) v w o = joins r exclusive_lock y U.caller.inside U.update U.known v w o
+    stood c d (committed_update n r C u e l q) v w o = headed S G g x a b i j h k r no_txn clock_at _ C.inside (omega arith) refl v w o
     stood c d (committed_settled n r C p) v w o = gone S G g x a b i j h k r C.inside v w o
     stood c d (committed_query n r C q) v w o = ends S G g x a b i j h k r C.inside v w o
     stood c d (aborted_update n r C u) v w o = aborts S G g x a b i j h k r C.inside v w o
-    stood c d (committedEmpty n r C u p q) v w o = aborts S G g x a b i j h k r C.inside v w o
+    stood c d (committed_empty n r C u p q) v w o = aborts S G g x a b i j h k r C.inside v w o
     stood c d (aborted_settled n r C p) v w o = gone S G g x a b i j h k r C.inside v w o
     stood c d (aborted_query n r C q) v w o = ends S G g x a b i j h k r C.inside v w o
-    stood c d (settledUpdate n r C u e l y) v w o = headed S G g x a b i j h k r _ clock_at _ C.inside (omega arith) refl v w o
+    stood c d (settled_update n r C u e l y) v w o = headed S G g x a b i j h k r _ clock_at _ C.inside (omega arith) refl v w o
 
 -- no two have one rank, so who stood ahead stands ahead
 pub order-kept : (S : Sizes) → S.slots ≤ S.places → OrderKept S

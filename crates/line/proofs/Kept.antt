@@ -12,11 +12,11 @@ use Rattle.rules.specs.Good.{Good}
 use Rattle.rules.specs.Changed.{leaving}
 use Rattle.rules.specs.Promises.{SameButRank}
 use Rattle.rules.proofs.Carried.{NoMore}
-use Rattle.rules.proofs.EqualRanks.{→awaits, awaitsOn→}
+use Rattle.rules.proofs.EqualRanks.{→awaits, awaits_on→}
 use Rattle.rules.proofs.Views.{awaiting, lock-set_lock-other}
 use Rattle.rules.proofs.Walks.{ahead→, →ahead}
 use Rattle.rules.proofs.Lines.{awaits_on-rank, left-ahead}
-use Rattle.rules.proofs.Joins.{come-ahead}
+use Rattle.rules.proofs.Joins.{come_ahead}
 use Rattle.rules.proofs.Noting.{rank-least, rank_most, noted_there, noted_here}
 use Rattle.rules.proofs.Waiting.{same_row, but_rank, but_sets}
 
@@ -51,10 +51,10 @@ module _ (S : Sizes) (G G' : Tables) (g : Good S G) (x r : ℕ) (inside : r < S.
       }
 
   -- all others are as they were, but for their sets
-  pub sets-kept :
+  pub sets_kept :
       ((b : ℕ) → b < S.slots → b ≢ r → (m : ℕ) × (txn G'.txns b ≡ with_later_for (txn G.txns b) m))
       → ((b : ℕ) → b ≢ r → NoMore b (lock G.locks x) (lock G'.locks x)) → Kept S G G' x r
-  sets-kept rows locks =
+  sets_kept rows locks =
       record {
         rows = λ b i d. but_sets (txn G.txns b) (rows b i d).1;
         locks = locks;
@@ -87,7 +87,7 @@ module _ (S : Sizes) (G : Tables) (g : Good S G) (x r k y : ℕ) (inside : r < S
   t' = noted S t G.locks r k y
 
   new : T (awaits_on y (txn t r)) → ⊥
-  new h = idle (awaitsOn→ y (txn t r) h).0
+  new h = idle (awaits_on→ y (txn t r) h).0
 
   there : (b : ℕ) → b < S.slots → b ≢ r → txn t' b ≡ with_rank (txn t b) (raised y (rank_for S t G.locks r y) (txn t b))
   there = noted_there S t G.locks r k y new g.txns_exact
@@ -102,7 +102,7 @@ module _ (S : Sizes) (G : Tables) (g : Good S G) (x r k y : ℕ) (inside : r < S
         locks = λ b d. same-locks (lock G.locks x) b;
         order = λ a b i j d e h w u.
             (ahead→ x exclusive_lock (txn t a).rank (txn t b)
-            (come-ahead S t t' G.locks r y (rank_for S t G.locks r y) inside there idle (→awaits (txn t' r) (λ e. some (sym (ap (λ (w : Txn). w.awaited_lock) here) ∙ e)))
+            (come_ahead S t t' G.locks r y (rank_for S t G.locks r y) inside there idle (→awaits (txn t' r) (λ e. some (sym (ap (λ (w : Txn). w.awaited_lock) here) ∙ e)))
             (ap (λ (w : Txn). w.awaited_item) here) (ap (λ (w : Txn). w.rank) here) g.ranks_good (rank-least S t G.locks r y new) (rank_most S t G.locks r y new)
             x exclusive_lock a b i j d e h
             (→ahead x exclusive_lock (txn t' a).rank (txn t' b)

@@ -12,9 +12,9 @@ use Rattle.rules.specs.Locks.{Asked, wanted}
 use Rattle.rules.specs.Step.{cleared, locked, with_txns}
 use Rattle.rules.proofs.Tests.{same?}
 use Rattle.rules.proofs.Carried.{NoMore}
-use Rattle.rules.proofs.EqualRanks.{awaitsOn→}
+use Rattle.rules.proofs.EqualRanks.{awaits_on→}
 use Rattle.rules.proofs.Views.{awaiting, lock-set_lock}
-use Rattle.rules.proofs.Grants.{conflicts-fewer}
+use Rattle.rules.proofs.Grants.{conflicts_fewer}
 use Rattle.rules.proofs.Waited.{cleared_here, cleared_there, cleared-idle}
 use Rattle.line.proofs.Kept.{Kept, same-locks, set_other, left-kept}
 use Rattle.line.proofs.Outsiders.{Outside, Harmless, Inv, carried}
@@ -46,8 +46,8 @@ module _
         record {
           free = λ c.
               (I.harmless r (record { inside = o.inside; other = o.other; alive = v o.alive; out = λ z. o.out (subst D (sym e) z) })).free
-              (conflicts-fewer (wanted a) r (lock l x) (lock G'.locks x) m c);
-          behind = λ u. absurd (idle (awaitsOn→ x (txn G'.txns r) u).0);
+              (conflicts_fewer (wanted a) r (lock l x) (lock G'.locks x) m c);
+          behind = λ u. absurd (idle (awaits_on→ x (txn G'.txns r) u).0);
         }
 
     -- ---- a grant to slot r: its wait is cleared, and the lock of item y is h'
@@ -104,7 +104,7 @@ module _
         -- and awaits nothing now
         pub idle_now : T (awaits_on x (txn (locked S r y h' G).txns r)) → ⊥
         unfolding locked
-        idle_now v = cleared-idle S t g.txns_exact r inside (awaitsOn→ x (txn u r) v).0
+        idle_now v = cleared-idle S t g.txns_exact r inside (awaits_on→ x (txn u r) v).0
 
         pub lock_now : x ≡ y → lock (locked S r y h' G).locks x ≡ h'
         unfolding locked

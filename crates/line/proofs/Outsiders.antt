@@ -16,8 +16,8 @@ use Rattle.rules.specs.Step.{with_txns}
 use Rattle.rules.specs.Promises.{SameButRank}
 use Rattle.rules.proofs.Notes.{noting, Beside, beside_same}
 use Rattle.rules.proofs.Tests.{true_is, false_is, same?}
-use Rattle.rules.proofs.Grants.{conflicts-fewer}
-use Rattle.rules.proofs.EqualRanks.{→awaits, awaitsOn→, →awaitsOn}
+use Rattle.rules.proofs.Grants.{conflicts_fewer}
+use Rattle.rules.proofs.EqualRanks.{→awaits, awaits_on→, →awaits_on}
 use Rattle.rules.proofs.Noting.{rank-known, rank-last}
 use Rattle.rules.proofs.Decisions.{wanted-lock}
 use Rattle.line.specs.Served.{Waiting}
@@ -37,10 +37,10 @@ module _ (q r : Txn) (e : SameButRank q r) where
   same_on x h = subst (λ (w : Txn). T (awaits_on x w)) e h
 
 -- so the request waits on
-pub same-wait :
+pub same_wait :
     (S : Sizes) (G G' : Tables) (a : Asked) (n s x : ℕ) → Waiting S G a n s x → SameButRank (txn G'.txns s) (txn G.txns s)
     → Waiting S G' a n s x
-same-wait S G G' a n s x w e =
+same_wait S G G' a n s x w e =
     record {
       caller =
           record {
@@ -119,12 +119,12 @@ module _ (S : Sizes) (D : ℕ → Type 0) (a : Asked) (n s x : ℕ) where
   -- ---- the request waits on the item
   module _ (G : Tables) (w : Waiting S G a n s x) where
     pub waits_here : T (awaits_on x (txn G.txns s))
-    waits_here = →awaitsOn x (txn G.txns s) (→awaits (txn G.txns s) (λ e. wanted-lock a (sym w.lock_kind ∙ e))) w.item
+    waits_here = →awaits_on x (txn G.txns s) (→awaits (txn G.txns s) (λ e. wanted-lock a (sym w.lock_kind ∙ e))) w.item
 
     pub rank-within : Good S G → (txn G.txns s).rank ≤ waiters_on S G.txns x
     rank-within g =
         subst (λ (y : ℕ). (txn G.txns s).rank ≤ waiters_on S G.txns y) w.item
-        (g.ranks_good.most s w.caller.inside (awaitsOn→ x (txn G.txns s) waits_here).0)
+        (g.ranks_good.most s w.caller.inside (awaits_on→ x (txn G.txns s) waits_here).0)
 
   -- who is outside and does not share the item asks behind it
   pub asks-behind :
@@ -145,12 +145,12 @@ module _ (S : Sizes) (D : ℕ → Type 0) (a : Asked) (n s x : ℕ) where
   -- ---- slot r calls, and the others are kept
   module _ (G G' : Tables) (g' : Good S G') (I : Inv G) (r : ℕ) (apart : s ≢ r) (k : Kept S G G' x r) where
     waits_on : Waiting S G' a n s x
-    waits_on = same-wait S G G' a n s x I.waiting (k.rows s I.waiting.caller.inside apart)
+    waits_on = same_wait S G G' a n s x I.waiting (k.rows s I.waiting.caller.inside apart)
 
     kept_harmless : (b : ℕ) → b ≢ r → Outside G' b → Harmless G' b
     kept_harmless b d o =
         record {
-          free = λ c. H.free (conflicts-fewer (wanted a) b (lock G.locks x) (lock G'.locks x) (k.locks b d) c);
+          free = λ c. H.free (conflicts_fewer (wanted a) b (lock G.locks x) (lock G'.locks x) (k.locks b d) c);
           behind = λ u. go u (ltb (txn G'.txns s).rank (txn G'.txns b).rank) refl;
         }
       where

@@ -11,24 +11,24 @@ use borrow.Author.Tests.{eq-eqb, ne_eqb, leb-true, leb-false}
 use Rattle.names.specs.declared.Sizes.{Sizes}
 use Rattle.rules.specs.Tables.{Tables, txn, by_start, live_settled, an_update, a_settled, a_relaxed, shared_lock, lock, holds_shared, holds_exclusive, holds}
 use Rattle.rules.specs.Good.{Good}
-use Rattle.rules.specs.Locks.{Asked, to_read, toWrite}
+use Rattle.rules.specs.Locks.{Asked, to_read, to_write}
 use Rattle.rules.specs.Answers.{Call, BeginUpdate, BeginQuery, Read, Write, Commit, Abort, Settle, BeginRelaxed, Outcome, granted, code}
 use Rattle.rules.specs.Answers.{Wait, Deadlock, UnknownTransaction, UnknownItem, QueryMayNotWrite, StillWaiting, BadTables, QuotaSpent, PastWriting}
 use Rattle.rules.specs.Step.{step, held_back, holds_back}
 use Rattle.rules.specs.Conditions.{Caller, CallerIn, HeldBackIn, Names, When, then_tested, order, Answered}
 use Rattle.rules.specs.Promises.{code_of, after, asking}
 use Rattle.rules.proofs.Tests.{true_is, is_false, and_left, and_right, or_right, not_use, same?}
-use Rattle.rules.proofs.Counts.{someBelow→}
+use Rattle.rules.proofs.Counts.{some_below→}
 use Rattle.rules.proofs.EqualRows.{settled-live, update-live, reader-live, live-reader}
-use Rattle.rules.proofs.Answered.{code-exactly}
-use Rattle.rules.proofs.Calls.{version-reads}
+use Rattle.rules.proofs.Answered.{code_exactly}
+use Rattle.rules.proofs.Calls.{version_reads}
 use Rattle.rules.proofs.RowKinds.{start-reads, start_not_relaxed}
 use Rattle.rules.proofs.Keeps.{keeps}
 use Rattle.rules.proofs.Waiting.{one_caller}
 use Rattle.history.specs.Runs.{end_of}
-use Rattle.history.specs.Happened.{Happening, update_began, queryBegan, relaxedBegan, accessed, update_committed, empty_committed, settled_under, only_ended, nothing, did, told, names}
+use Rattle.history.specs.Happened.{Happening, update_began, query_began, relaxed_began, accessed, update_committed, empty_committed, settled_under, only_ended, nothing, did, told, names}
 use Rattle.history.proofs.Invariant.{View, Fair, Row, Locks, settled}
-use Rattle.history.proofs.Turns.{Same, New, Puts, Left, Settles, Turn, quiet, updateBegins, queryBegins, relaxedBegins, reads, writes, commits, commitsEmpty, settles, commitsSettled, ends}
+use Rattle.history.proofs.Turns.{Same, New, Puts, Left, Settles, Turn, quiet, update_begins, query_begins, relaxed_begins, reads, writes, commits, commits_empty, settles, commits_settled, ends}
 use Rattle.history.proofs.Seen.{seen, seen_fair}
 use Rattle.history.proofs.Happens.{Happens, step_happens, good-run}
 use Rattle.line.specs.Served.{Before, Gone, EveryCall, Supposed}
@@ -46,8 +46,8 @@ pub record Back (D : ℕ → Type 0) (n s x : ℕ) (W : View) : Type 0 where
 abbrev Something : Happening → Type 0
 Something nothing = ⊥
 Something (update_began n) = T true
-Something (queryBegan n) = T true
-Something (relaxedBegan n) = T true
+Something (query_began n) = T true
+Something (relaxed_began n) = T true
 Something (accessed n a) = T true
 Something (update_committed n c) = T true
 Something (empty_committed n c) = T true
@@ -127,17 +127,17 @@ module _ (D : ℕ → Type 0) (n s x items : ℕ) (known : x < items) (W W' : Vi
   -- ---- every turn that is not its own end
   turned : {c : Call} {h : Happening} → Turn items W W' c h → (T (names n c) → Something h → ⊥) → Back D n s x W'
   turned (quiet A) mine = same A
-  turned (updateBegins r N k e) mine = begun r N (λ z. omega arith)
-  turned (queryBegins r N q z e) mine = begun r N (λ i. let j = q.1 in omega arith)
-  turned (relaxedBegins r N q e) mine = begun r N (λ i. let j = q.1 in omega arith)
+  turned (update_begins r N k e) mine = begun r N (λ z. omega arith)
+  turned (query_begins r N q z e) mine = begun r N (λ i. let j = q.1 in omega arith)
+  turned (relaxed_begins r N q e) mine = begun r N (λ i. let j = q.1 in omega arith)
   turned (reads m r y v e b A g) mine = same A
   turned (writes m r y v e b P) mine = putting r y v P
   turned {c} (commits m r e a u L o i k) mine =
       left r (λ d. mine (subst (λ (j : ℕ). T (names j c)) (sym e ∙ ap W.number (sym d) ∙ B.name) a) tt) L
-  turned {c} (commitsEmpty m r e a u w L o i k) mine =
+  turned {c} (commits_empty m r e a u w L o i k) mine =
       left r (λ d. mine (subst (λ (j : ℕ). T (names j c)) (sym e ∙ ap W.number (sym d) ∙ B.name) a) tt) L
   turned (settles m r e Q) mine = settling r Q
-  turned {c} (commitsSettled m r e a u L o i k) mine =
+  turned {c} (commits_settled m r e a u L o i k) mine =
       left r (λ d. mine (subst (λ (j : ℕ). T (names j c)) (sym e ∙ ap W.number (sym d) ∙ B.name) a) tt) L
   turned {c} (ends m r e a L o i k) mine =
       left r (λ d. mine (subst (λ (j : ℕ). T (names j c)) (sym e ∙ ap W.number (sym d) ∙ B.name) a) tt) L
@@ -178,8 +178,8 @@ module _ (S : Sizes) (enough : S.slots ≤ S.places) (D : ℕ → Type 0) (n s x
   unfolding held_back holds_back
   served G g B gone =
       ap (λ (o : Outcome). o.answer.code)
-      (version-reads S G g n s (record { inside = B.alive.0; alive = B.alive.1; name = B.name }) (live-reader (txn G.txns s) B.alive.1 B.reader) x known B.not_own
-      (is_false (held_back S G.txns G.locks x s) (λ h. none (someBelow→ S.slots (holds_back G.txns G.locks x s) h))))
+      (version_reads S G g n s (record { inside = B.alive.0; alive = B.alive.1; name = B.name }) (live-reader (txn G.txns s) B.alive.1 B.reader) x known B.not_own
+      (is_false (held_back S G.txns G.locks x s) (λ h. none (some_below→ S.slots (holds_back G.txns G.locks x s) h))))
     where
       none : (b : ℕ) × (b < S.slots) × T (holds_back G.txns G.locks x s b) → ⊥
       none (b, i, h) =
@@ -244,14 +244,14 @@ module _ (S : Sizes) (enough : S.slots ≤ S.places) (G : Tables) (g : Good S G)
   only-reads : (u : ℕ) → code_of S (Write n x u) G ≡ code Wait → ⊥
   unfolding order then_tested
   only-reads u z =
-      let h = held (Write n x u) refl (tested S G (Write n x u) ((code-exactly S (Write n x u) G (code Wait)).0 z)).1 in
+      let h = held (Write n x u) refl (tested S G (Write n x u) ((code_exactly S (Write n x u) G (code Wait)).0 z)).1 in
       let e = h.1.wants.0 in
       omega arith
 
   module _ (z : code_of S (Read n x) G ≡ code Wait) where
     facts : (When S (Read n x) G UnknownItem → ⊥) × When S (Read n x) G Wait
     unfolding order then_tested
-    facts = tested S G (Read n x) ((code-exactly S (Read n x) G (code Wait)).0 z)
+    facts = tested S G (Read n x) ((code_exactly S (Read n x) G (code Wait)).0 z)
 
     known : x < S.items
     unfolding When
@@ -285,4 +285,4 @@ module _ (S : Sizes) (enough : S.slots ≤ S.places) (G : Tables) (g : Good S G)
       (a : Asked) (u v : ℕ) (cs : List Call) → code_of S (asking a n x u) G ≡ code Wait → let H = after S (asking a n x u) G in Supposed S H n s x cs
       → code_of S (asking a n x v) (end_of S cs H) ≡ granted
   reader-served to_read u v cs z p = read-served z cs p
-  reader-served toWrite u v cs z p = absurd (only-reads u z)
+  reader-served to_write u v cs z p = absurd (only-reads u z)

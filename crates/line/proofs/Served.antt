@@ -12,7 +12,7 @@ use Rattle.names.specs.declared.Sizes.{Sizes}
 use Rattle.rules.specs.Tables.{Tables, Txn, txn, live, live_update, is_reader, by_start, an_update, a_relaxed, no_lock, lock, holds, exclusives_of, fresh}
 use Rattle.rules.specs.Waits.{awaits, awaits_on, rank_for, conflicts, ahead, noted}
 use Rattle.rules.specs.Good.{Good}
-use Rattle.rules.specs.Locks.{Asked, to_read, toWrite, wanted}
+use Rattle.rules.specs.Locks.{Asked, to_read, to_write, wanted}
 use Rattle.rules.specs.Answers.{Call, Abort, Outcome, granted, code}
 use Rattle.rules.specs.Step.{act, step, judged, awaits_other, writes_further, with_txns, joined, asking_joins}
 use Rattle.rules.specs.Conditions.{CallerIn, Names, Wants}
@@ -20,7 +20,7 @@ use Rattle.rules.specs.Promises.{code_of, after, asking, Passes, SameButRank}
 use Rattle.rules.proofs.Tests.{true_is, false_is, is_false, and_right, and_both, not_use, eq_make, ne_make, same?}
 use Rattle.rules.proofs.EqualRows.{holder, holder_live, update-live, update-holds, reader-live}
 use Rattle.rules.proofs.Callers.{is_writer, is_reader_lem}
-use Rattle.rules.proofs.EqualRanks.{awaits→, awaitsOn→}
+use Rattle.rules.proofs.EqualRanks.{awaits→, awaits_on→}
 use Rattle.rules.proofs.Walks.{ahead→, blocks→, conflicts→holds}
 use Rattle.rules.proofs.RowKinds.{start-reads, live-relaxed}
 use Rattle.rules.proofs.Joined.{joined-beside}
@@ -29,7 +29,7 @@ use Rattle.rules.proofs.Noting.{rank-known, noted-known, noted_here, noted-size}
 use Rattle.rules.proofs.Views.{awaiting}
 use Rattle.rules.proofs.Waited.{only_this}
 use Rattle.rules.proofs.Refused.{NotedDown, HeldSilently, wait_is}
-use Rattle.rules.proofs.Granted.{granted-exactly}
+use Rattle.rules.proofs.Granted.{granted_exactly}
 use Rattle.rules.proofs.Calls.{update_aborts}
 use Rattle.rules.proofs.Decisions.{wanted-lock}
 use Rattle.rules.proofs.Judged.{way}
@@ -40,7 +40,7 @@ use Rattle.history.specs.Runs.{end_of}
 use Rattle.history.proofs.Seen.{reads_by_start_lem}
 use Rattle.history.proofs.Happens.{good-run, run-good}
 use Rattle.line.specs.Served.{Waiting, Before, Gone, Exchange, EveryCall, Served, WaitsOn, WaitsFrom, ServedInRuns}
-use Rattle.line.proofs.Outsiders.{Outside, Inv, wait_beside, waits_here, same-wait}
+use Rattle.line.proofs.Outsiders.{Outside, Inv, wait_beside, waits_here, same_wait}
 use Rattle.line.proofs.Turns.{turn}
 use Rattle.line.proofs.Readers.{reader-served}
 
@@ -83,7 +83,7 @@ module _ (S : Sizes) (D : ℕ → Type 0) (a : Asked) (n s x : ℕ) (G : Tables)
   stands = waits_here S D a n s x G w
 
   known : x < S.items
-  known = subst (λ (y : ℕ). y < S.items) w.item ((g.txn_good s w.caller.inside).item_known (awaits→ R (awaitsOn→ x R stands).0))
+  known = subst (λ (y : ℕ). y < S.items) w.item ((g.txn_good s w.caller.inside).item_known (awaits→ R (awaits_on→ x R stands).0))
 
   update : T (live_update (txn G.txns s))
   update =
@@ -92,7 +92,7 @@ module _ (S : Sizes) (D : ℕ → Type 0) (a : Asked) (n s x : ℕ) (G : Tables)
     where
       go : (b : Bool) → eqb R.kind an_update ≡ b → eqb R.kind an_update ≡ true
       go true e = e
-      go false e = absurd (awaits→ R (awaitsOn→ x R stands).0 ((g.txn_good s w.caller.inside).reader_idle (is_reader_lem G.txns s w.caller.alive e)))
+      go false e = absurd (awaits→ R (awaits_on→ x R stands).0 ((g.txn_good s w.caller.inside).reader_idle (is_reader_lem G.txns s w.caller.alive e)))
 
   nothing_else : awaits_other G.txns s (wanted a) x ≡ false
   unfolding awaits_other
@@ -108,7 +108,7 @@ module _ (S : Sizes) (D : ℕ → Type 0) (a : Asked) (n s x : ℕ) (G : Tables)
       }
 
   served : Inv S D a n s x G → ((m : ℕ) → D m → Gone S G m) → (v : ℕ) → code_of S (asking a n x v) G ≡ granted
-  served I gone v = (granted-exactly S G a n s x v g passes).1 (λ c. clear c.1.0 c.1.1 (blocks→ G.txns G.locks (wanted a) x (rank_for S G.txns G.locks s x) s c.1.0 c.1.2))
+  served I gone v = (granted_exactly S G a n s x v g passes).1 (λ c. clear c.1.0 c.1.1 (blocks→ G.txns G.locks (wanted a) x (rank_for S G.txns G.locks s x) s c.1.0 c.1.2))
     where
       outside : (b : ℕ) → b < S.slots → s ≢ b → T (live (txn G.txns b)) → Outside S D a n s x G b
       outside b i d h =
@@ -120,7 +120,7 @@ module _ (S : Sizes) (D : ℕ → Type 0) (a : Asked) (n s x : ℕ) (G : Tables)
       clear b i (d, inr c) =
           let u = ahead→ x (wanted a) (rank_for S G.txns G.locks s x) (txn G.txns b) c in
           let l = u.1 in
-          let m = (I.harmless b (outside b i d (waiter_lives S G g b i (awaitsOn→ x (txn G.txns b) u.0).0))).behind u.0 in
+          let m = (I.harmless b (outside b i d (waiter_lives S G g b i (awaits_on→ x (txn G.txns b) u.0).0))).behind u.0 in
           let q = rank-known S G.txns G.locks s x stands in
           omega arith
 
@@ -144,10 +144,10 @@ module _ (S : Sizes) (enough : S.slots ≤ S.places) (D : ℕ → Type 0) (a : A
   run-keeps (c ∷ cs) G g I p q = run-keeps cs (after S c G) (keeps S enough c G g) (one_call c G g I p.0 q.0) p.1 q.1
 
 -- ---- the request waits until a call of its own is granted
-still-waits :
+still_waits :
     (S : Sizes) (c : Call) (G : Tables) → Good S G → (a : Asked) (n s x : ℕ) → Waiting S G a n s x → (Names c n → code_of S c G ≢ granted)
     → Waiting S (after S c G) a n s x
-still-waits S c G g a n s x w quiet = go (stays_waiting S c G s g w.caller.inside (λ e. wanted-lock a (sym w.lock_kind ∙ e)))
+still_waits S c G g a n s x w quiet = go (stays_waiting S c G s g w.caller.inside (λ e. wanted-lock a (sym w.lock_kind ∙ e)))
   where
     R : Txn
     R = txn G.txns s
@@ -156,7 +156,7 @@ still-waits S c G g a n s x w quiet = go (stays_waiting S c G s g w.caller.insid
         SameButRank (txn (after S c G).txns s) R
         ⊎ ((Names c R.number × Wants c R.awaited_lock R.awaited_item × (code_of S c G ≡ granted)) ⊎ (c ≡ Abort R.number))
         → Waiting S (after S c G) a n s x
-    go (inl e) = same-wait S G (after S c G) a n s x w e
+    go (inl e) = same_wait S G (after S c G) a n s x w e
     go (inr (inl (h, j, z))) = absurd (quiet (subst (Names c) w.caller.name h) z)
     go (inr (inr e)) =
         let q : c ≡ Abort n = e ∙ ap Abort w.caller.name in
@@ -166,11 +166,11 @@ still-waits S c G g a n s x w quiet = go (stays_waiting S c G s g w.caller.insid
 -- ---- and from the answer 1 on
 asking-names : (a : Asked) (n x v : ℕ) → Names (asking a n x v) n
 asking-names to_read n x v = refl
-asking-names toWrite n x v = refl
+asking-names to_write n x v = refl
 
 asking-wants : (a : Asked) (n x v : ℕ) → Wants (asking a n x v) (wanted a) x
 asking-wants to_read n x v = (refl, refl)
-asking-wants toWrite n x v = (refl, refl)
+asking-wants to_write n x v = (refl, refl)
 
 pub waits-from : (S : Sizes) → WaitsFrom S
 waits-from S G a n s x v g C p z = noted_down (wait_is S (asking a n x v) G z)
@@ -218,7 +218,7 @@ waits-from S G a n s x v g C p z = noted_down (wait_is S (asking a n x v) G z)
         go true e =
             let h = true_is e in
             subst (λ (u : List ℕ). Waiting S (with_txns G u) a n s x) (sym (noted-known S t G.locks s (wanted a) x h))
-            (record { caller = C; lock_kind = (only_this t s (wanted a) x free (awaitsOn→ x (txn t s) h).0).0; item = (awaitsOn→ x (txn t s) h).1 })
+            (record { caller = C; lock_kind = (only_this t s (wanted a) x free (awaits_on→ x (txn t s) h).0).0; item = (awaits_on→ x (txn t s) h).1 })
         go false e =
             let here : txn (noted S t G.locks s (wanted a) x) s ≡ awaiting (txn t s) (wanted a) x (rank_for S t G.locks s x) =
             noted_here S t G.locks s (wanted a) x (false_is e) g.txns_exact C.inside in
@@ -244,7 +244,7 @@ module _ (S : Sizes) (enough : S.slots ≤ S.places) where
   pub waits_on : WaitsOn S
   unfolding end_of EveryCall
   waits_on G [] a n s x g w p = w
-  waits_on G (c ∷ cs) a n s x g w p = waits_on (after S c G) cs a n s x (keeps S enough c G g) (still-waits S c G g a n s x w p.0) p.1
+  waits_on G (c ∷ cs) a n s x g w p = waits_on (after S c G) cs a n s x (keeps S enough c G g) (still_waits S c G g a n s x w p.0) p.1
 
   pub served_in_runs : 1 ≤ S.places → ServedInRuns S
   served_in_runs room before cs a n s x u v C z p = go (eqb (txn (end_of S before (fresh S)).txns s).kind an_update) refl

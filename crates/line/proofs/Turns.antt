@@ -14,7 +14,7 @@ use Rattle.rules.specs.Tables.{Tables, tables, Txn, txn, live, by_start, Lock, l
 use Rattle.rules.specs.Tables.{clock, set_txn, new_txn, a_settled, no_lock, shared_lock, exclusive_lock, exclusives_of, unshare}
 use Rattle.rules.specs.Waits.{awaits, awaits_on, rank_for, raised, noted, conflicts}
 use Rattle.rules.specs.Good.{Good}
-use Rattle.rules.specs.Locks.{Asked, to_read, toWrite, wanted}
+use Rattle.rules.specs.Locks.{Asked, to_read, to_write, wanted}
 use Rattle.rules.specs.Answers.{Outcome, Call, BeginUpdate, BeginQuery, Read, Write, Commit, Abort, Settle, BeginRelaxed, Deed, granted, code, Wait}
 use Rattle.rules.specs.Step.{step, done, cleared, locked, replaced, shared_too, taken, version_read, with_txns, counted, read_noted, joined, asking_joins, grant_joins, joining, locked_anew, writes_further, settled}
 use Rattle.rules.specs.Conditions.{Caller, Updater, Names, Wants}
@@ -23,16 +23,16 @@ use Rattle.rules.specs.Promises.{code_of, after, Conflicting}
 use Rattle.rules.proofs.Tests.{true_is, false_is, or_left, or_right, same?}
 use Rattle.rules.proofs.Carried.{NoMore}
 use Rattle.rules.proofs.Callers.{caller-found}
-use Rattle.rules.proofs.EqualRanks.{awaits→, awaitsOn→}
+use Rattle.rules.proofs.EqualRanks.{awaits→, awaits_on→}
 use Rattle.rules.proofs.Views.{awaiting, reading, lock-set_lock, lock-unshare, txn-set_txn, txn-set_txn-other, txn-top}
 use Rattle.rules.proofs.Walks.{→ahead, →blocks}
 use Rattle.rules.proofs.Decisions.{conflicts_cases}
-use Rattle.rules.proofs.Grants.{conflicts-fewer, shared-others, replaced-others, taken-others}
+use Rattle.rules.proofs.Grants.{conflicts_fewer, shared-others, replaced-others, taken-others}
 use Rattle.rules.proofs.Noting.{noted-known, noted_there, noted_here}
 use Rattle.rules.proofs.Waited.{only_this}
-use Rattle.rules.proofs.Granted.{granted-exactly}
+use Rattle.rules.proofs.Granted.{granted_exactly}
 use Rattle.rules.proofs.InOrder.{raised-before}
-use Rattle.rules.proofs.Settles.{unshared-fewer}
+use Rattle.rules.proofs.Settles.{unshared_fewer}
 use Rattle.rules.proofs.Notes.{Beside, beside_on}
 use Rattle.rules.proofs.Joined.{joined-beside}
 use Rattle.rules.proofs.ReadNoted.{read_length, read-beside, holder_inside}
@@ -40,8 +40,8 @@ use Rattle.rules.proofs.Counting.{counted-beside}
 use Rattle.rules.proofs.Taken.{anew_joined}
 use Rattle.rules.proofs.Noting.{noted-size}
 use Rattle.rules.proofs.Waited.{waited-good}
-use Rattle.rules.proofs.Ways.{Way, Waiter, refused, waited, began_update, began_query, began_relaxed, read_own, read_newest, readShared, readSettled, readVersion}
-use Rattle.rules.proofs.Ways.{wroteOwn, wroteSettled, wroteTaken, committedUpdate, committedEmpty, committed_settled, committed_query, aborted_update, aborted_settled, aborted_query, settledUpdate, kept_waiting}
+use Rattle.rules.proofs.Ways.{Way, Waiter, refused, waited, began_update, began_query, began_relaxed, read_own, read_newest, read_shared, read_settled, read_version}
+use Rattle.rules.proofs.Ways.{wrote_own, wrote_settled, wrote_taken, committed_update, committed_empty, committed_settled, committed_query, aborted_update, aborted_settled, aborted_query, settled_update, kept_waiting}
 use Rattle.line.specs.Served.{Exchange}
 use Rattle.line.proofs.Kept.{Kept, same-locks, set_other, rows-kept, left-kept, came_kept}
 use Rattle.line.proofs.Ends.{begins, commits, settled-commits, query-ends, aborts, settled_aborts}
@@ -62,7 +62,7 @@ writes BeginRelaxed m k y h w e = absurd w
 -- a request is to read or to write
 kinds : (a : Asked) → (wanted a ≡ shared_lock) ⊎ (wanted a ≡ exclusive_lock)
 kinds to_read = inl refl
-kinds toWrite = inr refl
+kinds to_write = inr refl
 
 -- ---- the call c on the good tables G, in which the transaction n waits, in slot s, for the item x
 module _
@@ -130,7 +130,7 @@ module _
           idle h = new (only_this t r k y w.free h).1
 
           d : s ≢ r
-          d e = idle (subst (λ (m : ℕ). T (awaits (txn t m))) e (awaitsOn→ x (txn t s) (waits_here S D a n s x G I.waiting)).0)
+          d e = idle (subst (λ (m : ℕ). T (awaits (txn t m))) e (awaits_on→ x (txn t s) (waits_here S D a n s x G I.waiting)).0)
 
           here : txn t' r ≡ awaiting (txn t r) k y (rank_for S t l r y)
           here = noted_here S t l r k y new g.txns_exact w.caller.inside
@@ -166,7 +166,7 @@ module _
               (λ o. record {
                 free = λ u. (I.harmless r (was o)).free u;
                 behind = λ v.
-                    let e : y ≡ x = sym (ap (λ (w : Txn). w.awaited_item) here) ∙ (awaitsOn→ x (txn t' r) v).1 in
+                    let e : y ≡ x = sym (ap (λ (w : Txn). w.awaited_item) here) ∙ (awaits_on→ x (txn t' r) v).1 in
                     let low : (txn t s).rank < rank_for S t l r y = subst (λ (j : ℕ). (txn t s).rank < rank_for S t l r j) (sym e) (asks-behind S D a n s x G g I r (was o) (not_sharing (was o) e)) in
                     let its : (txn t' r).rank ≡ rank_for S t l r y = ap (λ (w : Txn). w.rank) here in
                     let ours : (txn t' s).rank ≡ (txn t s).rank =
@@ -221,7 +221,7 @@ module _
         own : x ≡ y → O (locked S r y h' G₁) r → (wanted a ≡ shared_lock) ⊎ (wanted a ≡ exclusive_lock) → T (conflicts h' (wanted a) r) → ⊥
         own e o (inl q) c = ⊎_elim unheld (λ p. let j = p.0 in omega arith) (conflicts_cases h' (wanted a) r c)
         own e o (inr q) c =
-            (granted-exactly S G to_read m r x 0 g
+            (granted_exactly S G to_read m r x 0 g
             (record { asks = subst (λ (j : ℕ). Updater S G m r shared_lock j) (sym e) U; room = λ p. absurd (let j : ◌≡◌ {A = ℕ} 0 1 = cc in omega arith) })
             ).0 (subst (λ (j : ℕ). code_of S (Read m j) G ≡ granted) (sym e) z)
             (stopped r (out-beside S D a n s x G G₁.txns beside r (was-out S D a n s x G₁ g₁ I₁ known r i y h' U.known others o)) to_read (subst (λ (j : ℕ). T (holds (lock l j) r) → ⊥) (sym e) h) (inr q))
@@ -263,10 +263,10 @@ module _
             no_exchange (Write m y v) quiet none m r v o U.caller (ap (λ (j : ℕ). Write m j v) (sym e)) (inl z)
             (subst (λ (j : ℕ). T (holds_shared (lock l j) r)) (sym e) p)
         never e o (inr p) =
-            (granted-exactly S G toWrite m r x v g
+            (granted_exactly S G to_write m r x v g
             (record { asks = subst (λ (j : ℕ). Updater S G m r exclusive_lock j) (sym e) U; room = λ q. unfold writes_further in (rw (ne_eqb (exclusives_of S l r) S.quota room)) })
             ).0 (subst (λ (j : ℕ). code_of S (Write m j v) G ≡ granted) (sym e) z)
-            (stopped r o toWrite (subst (λ (j : ℕ). T (holds (lock l j) r) → ⊥) (sym e) p) (inl refl))
+            (stopped r o to_write (subst (λ (j : ℕ). T (holds (lock l j) r) → ⊥) (sym e) p) (inl refl))
 
     -- ---- a working value is replaced
     replaces : (r y v : ℕ) → r < S.slots → y < S.items → s ≢ r → Good S (locked S r y (replaced (lock l y) v) G) → J (locked S r y (replaced (lock l y) v) G)
@@ -301,7 +301,7 @@ module _
         here' = txn-set_txn u' r Q S (length-set t clock_at (clock t + 1) ∙ g.txns_exact) i
 
         fewer' : (b : ℕ) → NoMore b (lock l x) (lock (unshare S r l) x)
-        fewer' b = subst (NoMore b (lock l x)) (sym (lock-unshare S r l g.locks_exact x known)) (unshared-fewer r (lock l x) b)
+        fewer' b = subst (NoMore b (lock l x)) (sym (lock-unshare S r l g.locks_exact x known)) (unshared_fewer r (lock l x) b)
 
     -- ---- every way
     pub turn :
@@ -321,27 +321,27 @@ module _
         clears_only S D a n s x G g I known r U.caller.inside (apart c quiet none m r refl U.caller (ap (λ (o : Outcome). o.answer.code) e)) g'
     turn c d (read_newest m r y U h) e quiet none g' =
         clears_only S D a n s x G g I known r U.caller.inside (apart c quiet none m r refl U.caller (ap (λ (o : Outcome). o.answer.code) e)) g'
-    turn c d (readShared m r y U h f) e quiet none g' =
+    turn c d (read_shared m r y U h f) e quiet none g' =
         let z = ap (λ (o : Outcome). o.answer.code) e in
         shares m r y U h f z (apart c quiet none m r refl U.caller z) g'
     turn c d (kept_waiting r C q) e quiet none g' = I
-    turn c d (readSettled m r y C p i h) e quiet none g' =
+    turn c d (read_settled m r y C p i h) e quiet none g' =
         clears_only S D a n s x G g I known r C.inside (apart c quiet none m r refl C (ap (λ (o : Outcome). o.answer.code) e)) g'
-    turn c d (readVersion m r y C q i h f) e quiet none g' =
+    turn c d (read_version m r y C q i h f) e quiet none g' =
         inv_beside S D a n s x G (counted (read_noted t l r y) r (looked_at S G r y))
         (λ b.
         beside_on (txn t b) (txn (read_noted t l r y) b) (txn (counted (read_noted t l r y) r (looked_at S G r y)) b)
         (read-beside S t l r y g.txns_exact C.inside (holder_inside S G g r C.inside y i) b)
         (counted-beside (read_noted t l r y) r (looked_at S G r y) S (read_length S t l r y g.txns_exact C.inside (holder_inside S G g r C.inside y i) ∙ g.txns_exact) C.inside b))
         I
-    turn c d (wroteOwn m r y v U h) e quiet none g' =
+    turn c d (wrote_own m r y v U h) e quiet none g' =
         replaces r y v U.caller.inside U.known (apart c quiet none m r refl U.caller (ap (λ (o : Outcome). o.answer.code) e)) g'
-    turn c d (wroteSettled m r y v C p i h) e quiet none g' =
+    turn c d (wrote_settled m r y v C p i h) e quiet none g' =
         replaces r y v C.inside i (apart c quiet none m r refl C (ap (λ (o : Outcome). o.answer.code) e)) g'
-    turn c d (wroteTaken m r y v U h alone room) e quiet none g' =
+    turn c d (wrote_taken m r y v U h alone room) e quiet none g' =
         let z = ap (λ (o : Outcome). o.answer.code) e in
         takes m r y v U h alone room z quiet none (apart c quiet none m r refl U.caller z) g'
-    turn c d (committedUpdate m r C u i f k) e quiet none g' =
+    turn c d (committed_update m r C u i f k) e quiet none g' =
         commits S D a n s x G g I known r C.inside (apart c quiet none m r refl C (ap (λ (o : Outcome). o.answer.code) e)) g'
     turn c d (committed_settled m r C p) e quiet none g' =
         settled-commits S D a n s x G g I known r C.inside (apart c quiet none m r refl C (ap (λ (o : Outcome). o.answer.code) e)) g'
@@ -349,11 +349,11 @@ module _
         query-ends S D a n s x G g I known r C.inside (apart c quiet none m r refl C (ap (λ (o : Outcome). o.answer.code) e)) g'
     turn c d (aborted_update m r C u) e quiet none g' =
         aborts S D a n s x G g I known r C.inside (apart c quiet none m r refl C (ap (λ (o : Outcome). o.answer.code) e)) g'
-    turn c d (committedEmpty m r C u i h) e quiet none g' =
+    turn c d (committed_empty m r C u i h) e quiet none g' =
         aborts S D a n s x G g I known r C.inside (apart c quiet none m r refl C (ap (λ (o : Outcome). o.answer.code) e)) g'
     turn c d (aborted_settled m r C p) e quiet none g' =
         settled_aborts S D a n s x G g I known r C.inside (apart c quiet none m r refl C (ap (λ (o : Outcome). o.answer.code) e)) g'
-    turn c d (settledUpdate m r C u i f v) e quiet none g' =
+    turn c d (settled_update m r C u i f v) e quiet none g' =
         settles r C.inside (apart c quiet none m r refl C (ap (λ (o : Outcome). o.answer.code) e)) g'
     turn c d (aborted_query m r C q) e quiet none g' =
         query-ends S D a n s x G g I known r C.inside (apart c quiet none m r refl C (ap (λ (o : Outcome). o.answer.code) e)) g'

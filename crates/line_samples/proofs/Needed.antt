@@ -15,8 +15,8 @@ use Rattle.rules.specs.Answers.{Call, Read, Write, Commit, Abort, Settle, Outcom
 use Rattle.rules.specs.Step.{act}
 use Rattle.rules.specs.Promises.{code_of}
 use Rattle.rules.proofs.Tests.{and_left, and_right}
-use Rattle.rules.proofs.EqualRanks.{awaitsOn→}
-use Rattle.rules.proofs.Decisions.{holder-alone}
+use Rattle.rules.proofs.EqualRanks.{awaits_on→}
+use Rattle.rules.proofs.Decisions.{holder_alone}
 use Rattle.rules.proofs.Callers.{caller-found}
 use Rattle.rules.proofs.Steps.{acts}
 use Rattle.history.specs.Runs.{end_of}
@@ -45,12 +45,12 @@ acts_at n k G = eqb (slot_of base G.txns 1) base.slots && eqb (act base (Read n 
 waits_so : (n s p : ℕ) (cs : List Call) → T (waits_at n s p (played_end base cs (fresh base))) → T (waits_at n s p (end_of base cs (fresh base)))
 waits_so n s p cs h = subst (λ (G : Tables). T (waits_at n s p G)) (sym (end_so cs)) h
 
-asks-so :
+asks_so :
     (n k : ℕ) (cs ds : List Call)
     → T (acts_at n k (played_end base ds (played_end base cs (fresh base))))
     → T (asks_at n k (end_of base ds (end_of base cs (fresh base))))
 unfolding asks_at acts_at
-asks-so n k cs ds h =
+asks_so n k cs ds h =
     let E = end_of base ds (end_of base cs (fresh base)) in
     let g : Good base E = good-run base (omega arith) ds (end_of base cs (fresh base)) (run-good base (omega arith) (omega arith) cs) in
     subst (λ (o : Outcome). T (eqb (slot_of base E.txns 1) base.slots && eqb o.answer.code k)) (sym (acts base (Read n 5) E g))
@@ -89,7 +89,7 @@ module _ (n s p : ℕ) (G : Tables) (inside : s < base.slots) (h : T (waits_at n
   -- only update 1 holds the item
   holder_is : Good base G → (m b : ℕ) → (txn G.txns b).number ≡ m → T (holds (lock G.locks 5) b) → m ≡ 1
   holder_is g m b e u =
-      sym e ∙ ap (λ (c : ℕ). (txn G.txns c).number) (sym (holder-alone base G g 5 (omega arith) 0 b parts.4 u))
+      sym e ∙ ap (λ (c : ℕ). (txn G.txns c).number) (sym (holder_alone base G g 5 (omega arith) 0 b parts.4 u))
       ∙ eqb→eq (txn G.txns 0).number 1 parts.3
 
 module _ (n k : ℕ) (G : Tables) (h : T (asks_at n k G)) where
@@ -137,7 +137,7 @@ only_one m B = first B.there
         → m ≡ 1
     first (inl h) = holder_is 2 1 1 G (omega arith) held_so good-G m B.slot B.caller.name h
     first (inr (h, l)) =
-        let k = good-G.ranks_good.least B.slot B.caller.inside (awaitsOn→ 5 (txn G.txns B.slot) h).0 in
+        let k = good-G.ranks_good.least B.slot B.caller.inside (awaits_on→ 5 (txn G.txns B.slot) h).0 in
         let e = rank 2 1 1 G (omega arith) held_so in absurd (omega arith)
 
 -- ---- 1 has not ended
@@ -193,7 +193,7 @@ past_too_little h =
 -- ---- 1 has ended, and 3 exchanged
 exchanged_so : T (asks_at 2 (code Wait) (end_of base exchange G))
 unfolding computed acts_at
-exchanged_so = asks-so 2 (code Wait) held exchange tt
+exchanged_so = asks_so 2 (code Wait) held exchange tt
 
 still : StillWaits base G 2 exchange
 unfolding EveryCall exchange
@@ -209,7 +209,7 @@ exchanges_needed P =
 -- ---- 1 has ended, and 2 was aborted
 aborted_so : T (asks_at 2 (code UnknownTransaction) (end_of base given_up G))
 unfolding computed acts_at
-aborted_so = asks-so 2 (code UnknownTransaction) held given_up tt
+aborted_so = asks_so 2 (code UnknownTransaction) held given_up tt
 
 none_exchanges : NoneExchanges base G 2 1 5 given_up
 unfolding EveryCall given_up
@@ -235,7 +235,7 @@ queued_so = waits_so 3 2 2 queued tt
 
 ended_so : T (asks_at 3 (code Wait) (end_of base (Commit 1 ∷ []) Q))
 unfolding computed acts_at
-ended_so = asks-so 3 (code Wait) queued (Commit 1 ∷ []) tt
+ended_so = asks_so 3 (code Wait) queued (Commit 1 ∷ []) tt
 
 pub waiters_needed : WaitersNeeded
 unfolding EveryCall

@@ -3,6 +3,8 @@
 // the sizes, and how the tables are laid out.
 //
 // Every function is proved against a definition of specs/, and none has a `requires`.
+#![tactic(auto, unfolding(crate::specs::Words::next_stamp, crate::specs::Words::item_of, crate::specs::Words::number_of, crate::specs::Words::held_at_last))]
+
 mod calls;
 mod deeds;
 mod layout;

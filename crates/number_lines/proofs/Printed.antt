@@ -31,8 +31,8 @@ wrote_none l at =
     record { bytes = sym (take-append-drop at l) ∙ ap (λ (k : ℕ). take at l ++ drop k l) z; index = z }
 
 -- what is written ends within what keeps its length
-pub wrote-within : {l m s : List ℕ} {at e : ℕ} → Wrote l at s m e → length m ≡ length l → at ≤ length l → e ≤ length l
+pub wrote_within : {l m s : List ℕ} {at e : ℕ} → Wrote l at s m e → length m ≡ length l → at ≤ length l → e ≤ length l
 unfolding written
-wrote-within {l} {m} {s} {at} {e} w k h =
+wrote_within {l} {m} {s} {at} {e} w k h =
     let n : length (take at l ++ (s ++ drop (at + length s) l)) ≡ length l = sym (ap length w.bytes) ∙ k in
     omega (arith, w.index, simp (length-append, length-take, length-drop) at n)

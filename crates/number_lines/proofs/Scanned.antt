@@ -18,10 +18,10 @@ use Rattle.number_lines.specs.declared.scan.Scan.{Scan}
 -- ---- a byte
 
 -- a byte that is no digit
-pub digit-below : (b : ℕ) → b < 48 → (h : Held) → digit_after b h ≡ spoilt
+pub digit_below : (b : ℕ) → b < 48 → (h : Held) → digit_after b h ≡ spoilt
 unfolding digit_after
-digit-below b l (reads ns v g) = rw (lt-leb 48 b l)
-digit-below b l spoilt = refl
+digit_below b l (reads ns v g) = rw (lt-leb 48 b l)
+digit_below b l spoilt = refl
 
 pub digit_above : (b : ℕ) → 57 < b → (h : Held) → digit_after b h ≡ spoilt
 unfolding digit_after

@@ -46,10 +46,10 @@ pub record Released (f : Lock → Lock) (before after : List ℕ) (x : ℕ) : Ty
 pub none_released : (f : Lock → Lock) (l : List ℕ) → length l ≡ lock_words base → Released f l l 0
 none_released f l e = record { within = omega arith; size = e; done = λ y b. absurd (omega arith); left = λ y b. refl }
 
-pub one-released :
+pub one_released :
     (f : Lock → Lock) (before after : List ℕ) (x : ℕ) (h : Lock) → x < base.items → Released f before after x → h ≡ f (lock after x)
     → Released f before (set_lock after x h) (x + 1)
-one-released f before after x h i r e =
+one_released f before after x h i r e =
     record {
       within = omega arith;
       size = length-set_lock after x h ∙ r.size;
@@ -78,16 +78,16 @@ lock-back l x e i =
     go y (inl q) = subst (λ (z : ℕ). lock (set_lock l x (lock l x)) z ≡ lock l z) (sym q) (lock-set_lock l x (lock l x) base e i)
     go y (inr d) = lock-set_lock-other l x (lock l x) y d
 
-pub all-released :
+pub all_released :
     (s : ℕ) (before after : List ℕ) (x : ℕ) → length before ≡ lock_words base → base.items ≤ x → Released (released s) before after x
     → after ≡ release base s before
-all-released s before after x e b r =
+all_released s before after x e b r =
     locks-same base after (release base s before) r.size (length-release base s before e)
     (λ y i. r.done y (omega arith) ∙ sym (lock-release base s before e y i))
 
-pub all-unshared :
+pub all_unshared :
     (s : ℕ) (before after : List ℕ) (x : ℕ) → length before ≡ lock_words base → base.items ≤ x → Released (unshared s) before after x
     → after ≡ unshare base s before
-all-unshared s before after x e b r =
+all_unshared s before after x e b r =
     locks-same base after (unshare base s before) r.size (length-unshare base s before e)
     (λ y i. r.done y (omega arith) ∙ sym (lock-unshare base s before e y i))

@@ -15,7 +15,7 @@ use Rattle.rules.specs.Tables.{masks_at, outside}
 use Rattle.rules.specs.Versions.{Version, no_version, versions_in, stamp_at, hidden_at, sees, place, revealed, row_of}
 use Rattle.rules.proofs.Tests.{not_make, not_use}
 use Rattle.rules.proofs.Bits.{without_none}
-use Rattle.rules.proofs.Choice.{Falls, Nests, length-versions_in, versions_in-row_of, length-row_of, row_of-unused, row_of-unhidden, older-seen, place-fits, place_above}
+use Rattle.rules.proofs.Choice.{Falls, Nests, length-versions_in, versions_in-row_of, length-row_of, row_of-unused, row_of-unhidden, older_seen, place-fits, place_above}
 use Rattle.rules.proofs.Revealed.{length-revealed, get_d_revealed, hidden-revealed, revealed_none, revealed-falls, revealed-nests}
 use Rattle.rules.proofs.EqualVersions.{unhidden-past}
 use Rattle.choices.specs.Pairs.{count_in, stamp_in, value_in, hidden_in}
@@ -73,7 +73,7 @@ module _ (r : List ℕ) (t : TidyRow r) (s : ℕ) (found : place (outside s) (ve
   shown_older i h b =
       let l : i < length vs = past i b in
       not_use (bit (get_or vs i no_version).hidden s)
-      (older-seen vs fall nest (outside s) (place (outside s) vs) i (omega arith) l (place-fits (outside s) vs found)) b
+      (older_seen vs fall nest (outside s) (place (outside s) vs) i (omega arith) l (place-fits (outside s) vs found)) b
     where
       past : (i : ℕ) → T (bit (get_or vs i no_version).hidden s) → i < length vs
       past i b = unhidden-past vs i s b
@@ -149,11 +149,11 @@ module _ (r : List ℕ) (t : TidyRow r) (s : ℕ) (found : place (outside s) (ve
       test_is =
           rw (own_stamp w k behind shown-inside, stamp-before w k behind shown-inside, hidden_before w k behind shown-inside, own_hidden w k behind shown-inside, shown-versions, ← is, ne_eqb k 0 (λ e. omega arith))
 
-      pub shown-all :
+      pub shown_all :
           (between q (get_or w (k * 2 + 1) 0) (get_or w (k * 2 + 1 - 2) 0)
           || not (eqb (get_or w (masks_at base + k - 1) 0) (get_or w (masks_at base + k) 0))) ≡ true
           → w ≡ row_of base (shown_to s q (versions_in base r))
-      shown-all e =
+      shown_all e =
           shown-row ∙ sym (ap (λ (b : Bool). row_of base (cond b (revealed s vs) (without (place (outside s) vs) (revealed s vs)))) (sym test_is ∙ e))
 
       pub shown-less :

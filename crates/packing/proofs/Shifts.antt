@@ -121,10 +121,10 @@ up_end old row from to n j h b =
 pub show_begin : (old : List ℕ) (s : ℕ) → Shown old old s 0
 show_begin old s = record { size = refl; before = λ i a. refl; shown = λ i a. absurd (omega arith); behind = λ i a. refl }
 
-pub show-step :
+pub show_step :
     (old row : List ℕ) (s k : ℕ) → masks_at base + k < length old → Shown old row s k → {w : ℕ} → w ≡ without_bit (get_or row (masks_at base + k) 0) s
     → Shown old (set row (masks_at base + k) w) s (k + 1)
-show-step old row s k l b {w} e =
+show_step old row s k l b {w} e =
     let z = b.size in
     let at = masks_at base + k in
     record {

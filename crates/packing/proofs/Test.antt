@@ -85,8 +85,8 @@ module _ (r : List ℕ) (t : TidyRow r) (s below next : ℕ) where
         → left_by s below next (versions_in base r) ≡ versions_in base r
     all_stay e = ap (λ (b : Bool). cond b vs (without (place (up_to s) vs) vs)) (sym test_is ∙ e)
 
-    pub one-goes :
+    pub one_goes :
         (ltb (get_or r (k * 2 + 1) 0) below
         || (ltb next (get_or r (k * 2 + 1 - 2) 0) || not (eqb (get_or r (masks_at base + k - 1) 0) (get_or r (masks_at base + k) 0)))) ≡ false
         → left_by s below next (versions_in base r) ≡ without k (versions_in base r)
-    one-goes e = ap (λ (b : Bool). cond b vs (without (place (up_to s) vs) vs)) (sym test_is ∙ e) ∙ ap (λ (j : ℕ). without j vs) (sym is)
+    one_goes e = ap (λ (b : Bool). cond b vs (without (place (up_to s) vs) vs)) (sym test_is ∙ e) ∙ ap (λ (j : ℕ). without j vs) (sym is)

@@ -14,7 +14,7 @@ use Rattle.names.specs.Sizes.{base}
 use Rattle.rules.specs.Tables.{version_row, masks_at}
 use Rattle.rules.specs.Versions.{Version, no_version, versions_in, row_of}
 use Rattle.rules.proofs.Choice.{length-versions_in}
-use Rattle.rules.proofs.RowBack.{rowOf-versionsIn}
+use Rattle.rules.proofs.RowBack.{row_of-versions_in}
 use Rattle.choices.specs.Pairs.{count_in, stamp_in, value_in, hidden_in}
 use Rattle.choices.proofs.Read.{version_at, version_in}
 use Rattle.packing.specs.Changed.{TidyRow, without}
@@ -27,19 +27,19 @@ pub row_is :
     → ((k : ℕ) → 2 * length vs < k → k < masks_at base → get_or w k 0 ≡ 0)
     → ((k : ℕ) → length vs ≤ k → get_or w (masks_at base + k) 0 ≡ 0) → w ≡ row_of base vs
 row_is w vs l c m p z y =
-    sym (rowOf-versionsIn base w l (omega arith) (λ k h b. z k (omega arith) b) (λ k h. y k (omega arith)))
+    sym (row_of-versions_in base w l (omega arith) (λ k h b. z k (omega arith) b) (λ k h. y k (omega arith)))
     ∙ ap (row_of base)
     (ext_get_or no_version (versions_in base w) vs (length-versions_in base w ∙ c)
     (λ k h. let n = length-versions_in base w in version_in w k (omega arith) ∙ p k (omega arith)))
 
 -- a row that is left as it is
 pub row_same : (r : List ℕ) → TidyRow r → r ≡ row_of base (versions_in base r)
-row_same r t = sym (rowOf-versionsIn base r t.size t.sound.most t.unused t.unhidden)
+row_same r t = sym (row_of-versions_in base r t.size t.sound.most t.unused t.unhidden)
 
 -- the words of two places, one by one
-pub three-words :
+pub three_words :
     (w r : List ℕ) (j k : ℕ) → stamp_in w j ≡ stamp_in r k → value_in w j ≡ value_in r k → hidden_in w j ≡ hidden_in r k → version_at w j ≡ version_at r k
-three-words w r j k a b c = λ i. record { stamp = a i; value = b i; hidden = c i }
+three_words w r j k a b c = λ i. record { stamp = a i; value = b i; hidden = c i }
 
 -- ---- a version written in front of those that stand from the second place on
 module _ (stamp value hidden : ℕ) (m : List ℕ) (vs : List Version) where
@@ -84,7 +84,7 @@ module _ (stamp value hidden : ℕ) (m : List ℕ) (vs : List Version) where
             hidden = (get_or-set_same paired (masks_at base) hidden 0 (let e = long in omega arith)) i;
           }
       one (suc k) h =
-          three-words w m (suc k) (suc k)
+          three_words w m (suc k) (suc k)
           (other (suc k * 2 + 1) (λ e. omega arith) (λ e. omega arith) (λ e. omega arith))
           (other (suc k * 2 + 2) (λ e. omega arith) (λ e. omega arith) (λ e. omega arith))
           (other (masks_at base + suc k) (λ e. omega arith) (λ e. omega arith) (λ e. omega arith))
@@ -92,10 +92,10 @@ module _ (stamp value hidden : ℕ) (m : List ℕ) (vs : List Version) where
 
 module _ (r : List ℕ) (t : TidyRow r) (stamp value hidden : ℕ) where
   -- it takes the place of the newest
-  pub front-instead :
+  pub front_instead :
       set (set (set r 1 stamp) 2 value) (masks_at base) hidden
       ≡ row_of base (record { stamp = stamp; value = value; hidden = hidden } ∷ drop 1 (versions_in base r))
-  front-instead =
+  front_instead =
       let n = length-versions_in base r in
       let least = t.sound.least in
       let most = t.sound.most in
@@ -108,18 +108,18 @@ module _ (r : List ℕ) (t : TidyRow r) (stamp value hidden : ℕ) where
       (λ k h. t.unhidden k (omega arith))
 
   -- all others are moved, and counted with it
-  pub front-of-all :
+  pub front_of_all :
       (m m' : List ℕ) → MovedBack r m 1 (1 + count_in r * 2) 2 → MovedBack m m' (masks_at base) (masks_at base + count_in r) 1 → count_in r < base.places
       → set (set (set (set m' 0 (count_in r + 1)) 1 stamp) 2 value) (masks_at base) hidden
       ≡ row_of base (record { stamp = stamp; value = value; hidden = hidden } ∷ versions_in base r)
-  front-of-all m m' b b' room =
+  front_of_all m m' b b' room =
       let n = length-versions_in base r in
       front_is stamp value hidden out (versions_in base r) (length-set m' 0 (count_in r + 1) ∙ b'.size ∙ b.size ∙ t.size)
       (get_or-set_same m' 0 (count_in r + 1) 0 (let e = b.size in let f = b'.size in let g = t.size in omega arith)
       ∙ (let e : count_in r + 1 ≡ suc (length (versions_in base r)) = omega arith in e))
       (omega arith)
       (λ k h.
-      three-words out r (suc k) k
+      three_words out r (suc k) k
       (pair (k * 2 + 1) (omega arith) (omega arith) (omega arith))
       (pair (k * 2 + 2) (omega arith) (omega arith) (omega arith))
       (mask k (omega arith))
@@ -217,10 +217,10 @@ module _ (r : List ℕ) (t : TidyRow r) (k : ℕ) (inside : k < count_in r) wher
           let most = t.sound.most in
           word (masks_at base + j) (λ e. omega arith) (λ e. omega arith) (λ e. omega arith) (λ e. omega arith)
 
-      pub gap-closed :
+      pub gap_closed :
           set (set (set (set m' 0 (count_in r - 1)) ((count_in r - 1) * 2 + 1) 0) ((count_in r - 1) * 2 + 2) 0) (masks_at base + (count_in r - 1)) 0
           ≡ row_of base (without k (versions_in base r))
-      gap-closed =
+      gap_closed =
           let n = length_without in
           let most = t.sound.most in
           row_is out (without k vs) (length-set cleared (masks_at base + last) 0 ∙ cleared-long)
@@ -238,7 +238,7 @@ module _ (r : List ℕ) (t : TidyRow r) (k : ℕ) (inside : k < count_in r) wher
           one j h true e =
               let l = ltb-true j k e in
               let most = t.sound.most in
-              three-words out r j j
+              three_words out r j j
               (pair (j * 2 + 1) (omega arith) (omega arith) ∙ u.before (j * 2 + 1) (omega arith))
               (pair (j * 2 + 2) (omega arith) (omega arith) ∙ u.before (j * 2 + 2) (omega arith))
               (mask j h ∙ u'.before (masks_at base + j) (omega arith) ∙ u.behind (masks_at base + j) (omega arith))
@@ -247,7 +247,7 @@ module _ (r : List ℕ) (t : TidyRow r) (k : ℕ) (inside : k < count_in r) wher
           one j h false e =
               let l = ltb-false j k e in
               let most = t.sound.most in
-              three-words out r j (suc j)
+              three_words out r j (suc j)
               (pair (j * 2 + 1) (omega arith) (omega arith)
               ∙ u.moved (j * 2 + 1) (omega arith) (omega arith)
               ∙ ap (λ (i : ℕ). get_or r i 0) (let z : j * 2 + 1 + 2 ≡ suc j * 2 + 1 = omega arith in z))

@@ -69,9 +69,9 @@ unfolding said said_of said_at hear_all hear silence onward noted words_of words
 part-alone = refl
 
 -- and with the other part behind it: `T1 reads writes 3`
-part-alone_then : said (84 ∷ 49 ∷ 32 ∷ 114 ∷ 101 ∷ 97 ∷ 100 ∷ 115 ∷ 32 ∷ 119 ∷ 114 ∷ 105 ∷ 116 ∷ 101 ∷ 115 ∷ 32 ∷ 51 ∷ []) ≡ bad
+part_alone_then : said (84 ∷ 49 ∷ 32 ∷ 114 ∷ 101 ∷ 97 ∷ 100 ∷ 115 ∷ 32 ∷ 119 ∷ 114 ∷ 105 ∷ 116 ∷ 101 ∷ 115 ∷ 32 ∷ 51 ∷ []) ≡ bad
 unfolding said said_of said_at hear_all hear silence onward noted words_of words_from hash uncommented is_name is_item same every worth
-part-alone_then = refl
+part_alone_then = refl
 
 -- `writes` before `reads`: `T1 writes 3 reads 3`
 wrong-order : said (84 ∷ 49 ∷ 32 ∷ 119 ∷ 114 ∷ 105 ∷ 116 ∷ 101 ∷ 115 ∷ 32 ∷ 51 ∷ 32 ∷ 114 ∷ 101 ∷ 97 ∷ 100 ∷ 115 ∷ 32 ∷ 51 ∷ []) ≡ bad

@@ -78,6 +78,6 @@ bits_with (i ∷ is) h x l = go (unknown i) refl (bits_with is h x l) (bits_with
         on ∙ ap (λ (t : Bool). t || some (eqb x) is) (set_at h i x) ∙ sym (or_assoc (bit h x) (eqb x i) (some (eqb x) is))
 
 -- the bits of the word are the items that are known
-pub items-are_bits : (items : List ℕ) (x : ℕ) → x ≤ 63 → bit (word_of items) x ≡ some (eqb x) items
+pub items_are_bits : (items : List ℕ) (x : ℕ) → x ≤ 63 → bit (word_of items) x ≡ some (eqb x) items
 unfolding word_of
-items-are_bits items x l = bits_with items 0 x l ∙ ap (λ (t : Bool). t || some (eqb x) items) (bit_none x)
+items_are_bits items x l = bits_with items 0 x l ∙ ap (λ (t : Bool). t || some (eqb x) items) (bit_none x)

@@ -59,9 +59,9 @@ module _ (q : Piece) (w : List ℕ) where
   unfolding hear onward noted
   hear-reading-writes e f = rw (e, f) refl
 
-  hear-reading_off : is_item w ≡ false → same w writes ≡ false → hear (heard Reading q) w ≡ heard Wrong q
+  hear_reading_off : is_item w ≡ false → same w writes ≡ false → hear (heard Reading q) w ≡ heard Wrong q
   unfolding hear onward noted
-  hear-reading_off e f = rw (e, f) refl
+  hear_reading_off e f = rw (e, f) refl
 
   hear-named-reads : same w reads ≡ true → hear (heard Named q) w ≡ heard ToRead q
   unfolding hear onward noted
@@ -71,9 +71,9 @@ module _ (q : Piece) (w : List ℕ) where
   unfolding hear onward noted
   hear-named-writes e f = rw (e, f) refl
 
-  hear-named_off : same w reads ≡ false → same w writes ≡ false → hear (heard Named q) w ≡ heard Wrong q
+  hear_named_off : same w reads ≡ false → same w writes ≡ false → hear (heard Named q) w ≡ heard Wrong q
   unfolding hear onward noted
-  hear-named_off e f = rw (e, f) refl
+  hear_named_off e f = rw (e, f) refl
 
 -- what is heard may be replaced by what it is
 heard_as : {p : Piece} (h k : Heard) (ws : List (List ℕ)) → h ≡ k → said_of (hear_all h ws) ≡ says p → said_of (hear_all k ws) ≡ says p
@@ -107,10 +107,10 @@ module _ (n r : List ℕ) (p : Piece) where
       (λ t. lost (piece n r x) p (hear (heard Writing (piece n r x)) w) ws (hear_writing_off (piece n r x) w t) e)
 
   -- behind `writes` there is one at least
-  to_write-only : (ws : List (List ℕ)) (x : List ℕ) → said_of (hear_all (heard ToWrite (piece n r x)) ws) ≡ says p → Writes n r x ws p × (part writes ws ≡ writes ∷ ws)
+  to_write_only : (ws : List (List ℕ)) (x : List ℕ) → said_of (hear_all (heard ToWrite (piece n r x)) ws) ≡ says p → Writes n r x ws p × (part writes ws ≡ writes ∷ ws)
   unfolding hear_all said_of said_at part
-  to_write-only [] x e = never p e
-  to_write-only (w ∷ ws) x e =
+  to_write_only [] x e = never p e
+  to_write_only (w ∷ ws) x e =
       passed (is_item w)
       (λ t. (one_written n r x w ws p t (writing_only ws (x ++ (worth 0 w ∷ [])) (heard_as (hear (heard ToWrite (piece n r x)) w) (heard Writing (piece n r (x ++ (worth 0 w ∷ [])))) ws (hear-first-written n r x w t) e)), refl))
       (λ t. lost (piece n r x) p (hear (heard ToWrite (piece n r x)) w) ws (hear_to_write_off (piece n r x) w t) e)
@@ -172,8 +172,8 @@ module _ (n : List ℕ) (p : Piece) where
       (λ t. one_read n r w ws p t (reading-only ws (r ++ (worth 0 w ∷ [])) (heard_as (hear (heard Reading (piece n r [])) w) (heard Reading (piece n (r ++ (worth 0 w ∷ [])) [])) ws (hear-read n r [] w t) e)))
       (λ t.
       passed (same w writes)
-      (λ u. none_read n r w ws p u (to_write-only n r p ws [] (heard_as (hear (heard Reading (piece n r [])) w) (heard ToWrite (piece n r [])) ws (hear-reading-writes (piece n r []) w t u) e)))
-      (λ u. lost (piece n r []) p (hear (heard Reading (piece n r [])) w) ws (hear-reading_off (piece n r []) w t u) e))
+      (λ u. none_read n r w ws p u (to_write_only n r p ws [] (heard_as (hear (heard Reading (piece n r [])) w) (heard ToWrite (piece n r [])) ws (hear-reading-writes (piece n r []) w t u) e)))
+      (λ u. lost (piece n r []) p (hear (heard Reading (piece n r [])) w) ws (hear_reading_off (piece n r []) w t u) e))
 
   -- behind `reads` there is one at least
   to_read-only : (ws : List (List ℕ)) → said_of (hear_all (heard ToRead (piece n [] [])) ws) ≡ says p → (s : Reads n [] ws p) × (part reads s.read ≡ reads ∷ s.read)
@@ -242,8 +242,8 @@ module _ (n : List ℕ) (p : Piece) where
       (λ t. both_parts w ws t (to_read-only n p ws (heard_as (hear (heard Named (piece n [] [])) w) (heard ToRead (piece n [] [])) ws (hear-named-reads (piece n [] []) w t) e)))
       (λ t.
       passed (same w writes)
-      (λ u. one_part w ws u (to_write-only n [] p ws [] (heard_as (hear (heard Named (piece n [] [])) w) (heard ToWrite (piece n [] [])) ws (hear-named-writes (piece n [] []) w t u) e)))
-      (λ u. lost (piece n [] []) p (hear (heard Named (piece n [] [])) w) ws (hear-named_off (piece n [] []) w t u) e))
+      (λ u. one_part w ws u (to_write_only n [] p ws [] (heard_as (hear (heard Named (piece n [] [])) w) (heard ToWrite (piece n [] [])) ws (hear-named-writes (piece n [] []) w t u) e)))
+      (λ u. lost (piece n [] []) p (hear (heard Named (piece n [] [])) w) ws (hear_named_off (piece n [] []) w t u) e))
 
 -- ---- a whole line
 

@@ -6,7 +6,7 @@ use native.Mathlib.Omega.{arith}
 use lib.Dec.{T, leb, leb→le, le→leb}
 use Rattle.rules.specs.Words.{count_below}
 use Rattle.rules.proofs.Tests.{and_left, and_right, and_both}
-use Rattle.rules.proofs.Counts.{count-fewer}
+use Rattle.rules.proofs.Counts.{count_fewer}
 use Rattle.rules.proofs.Lines.{count-more}
 
 module _
@@ -39,5 +39,5 @@ module _
         go zero e = omega arith
         go (suc m) e =
             let u = up_to_lem m i h a e in
-            let c = count-fewer n (up_to (suc m)) p (λ j l v. and_left (p j) _ v) in
+            let c = count_fewer n (up_to (suc m)) p (λ j l v. and_left (p j) _ v) in
             omega arith

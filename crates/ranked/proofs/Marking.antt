@@ -17,9 +17,9 @@ use Rattle.rules.specs.Waits.{awaits, awaits_on}
 use Rattle.rules.specs.Tested.{ranks_good}
 use borrow.Author.Tests.{eq-eqb, ne_eqb}
 use Rattle.rules.proofs.Tests.{and_left, and_right, and_both, or_cases, or_left, or_right, eq_make, is_true, is_false, same?}
-use Rattle.rules.proofs.Counts.{someBelow→, →someBelow}
+use Rattle.rules.proofs.Counts.{some_below→, →some_below}
 use Rattle.rules.proofs.Bits.{bit_none, one_bit_at}
-use Rattle.rules.proofs.EqualRanks.{awaits→, →awaits, awaitsOn→, →awaitsOn, ranks→Good}
+use Rattle.rules.proofs.EqualRanks.{awaits→, →awaits, awaits_on→, →awaits_on, ranks→Good}
 use Rattle.words.proofs.SlotWords.{or_at, shifted, one_shifted}
 use Rattle.words.proofs.Turns.{some_more}
 use Rattle.words.proofs.ZeroWords.{no_word}
@@ -95,10 +95,10 @@ module _ {t l w : List ℕ} {n : ℕ} (i : n < base.slots) (m : Marked t l w n) 
         size = m.size;
         at = λ x q h.
             m.at x q h
-            ∙ sym (some_more (marks t l x (suc q)) n ∙ ap (λ (b : Bool). b || some_below n (marks t l x (suc q))) (is_false (marks t l x (suc q) n) (λ u. idle n refl (awaitsOn→ x (txn t n) (marks→ t l x (suc q) n u).0).0)));
+            ∙ sym (some_more (marks t l x (suc q)) n ∙ ap (λ (b : Bool). b || some_below n (marks t l x (suc q))) (is_false (marks t l x (suc q) n) (λ u. idle n refl (awaits_on→ x (txn t n) (marks→ t l x (suc q) n u).0).0)));
         least = λ s h a. m.least s (before s h a) a;
         most = λ s h a. m.most s (before s h a) a;
-        apart = λ x r s h k d a b. m.apart x r s (before r h (awaitsOn→ x (txn t r) a).0) (before s k (awaitsOn→ x (txn t s) b).0) d a b;
+        apart = λ x r s h k d a b. m.apart x r s (before r h (awaits_on→ x (txn t r) a).0) (before s k (awaits_on→ x (txn t s) b).0) d a b;
       }
     where
       idle : (s : ℕ) → s ≡ n → T (awaits (txn t s)) → ⊥
@@ -113,7 +113,7 @@ module _ {t l w : List ℕ} {n : ℕ} (i : n < base.slots) (m : Marked t l w n) 
     waits = →awaits (txn t n) a
 
     here : T (awaits_on x (txn t n))
-    here = →awaitsOn x (txn t n) waits (sym ex)
+    here = →awaits_on x (txn t n) waits (sym ex)
 
     -- that is no rank
     pub rank_0 : p ≡ 0 → T (ranks_good base t l) → ⊥
@@ -133,7 +133,7 @@ module _ {t l w : List ℕ} {n : ℕ} (i : n < base.slots) (m : Marked t l w n) 
       rank-taken e g = both (marks→ t l x p other.0 other.2)
         where
           other : (s : ℕ) × (s < n) × T (marks t l x p s)
-          other = someBelow→ n (marks t l x p) (subst T (m.at x d hx ∙ marked n) (eq_make (get_or w x 0 / 2 ^ d % 2) 1 e))
+          other = some_below→ n (marks t l x p) (subst T (m.at x d hx ∙ marked n) (eq_make (get_or w x 0 / 2 ^ d % 2) 1 e))
 
           both :
               T (awaits_on x (txn t other.0)) × (((txn t other.0).rank ≡ p) ⊎ (T (holds_shared (lock l x) other.0) × ((txn t other.0).rank + sharing ≡ p)))
@@ -143,7 +143,7 @@ module _ {t l w : List ℕ} {n : ℕ} (i : n < base.slots) (m : Marked t l w n) 
               let b = other.1 in
               ⊎_elim
               (λ (r : (txn t s).rank ≡ p). (ranks→Good base t l g).apart x s n (omega arith) i (λ z. omega arith) u.0 here (r ∙ ep))
-              (λ (v : T (holds_shared (lock l x) s) × ((txn t s).rank + sharing ≡ p)). let r = v.1 in let k = m.least s b (awaitsOn→ x (txn t s) u.0).0 in omega arith)
+              (λ (v : T (holds_shared (lock l x) s) × ((txn t s).rank + sharing ≡ p)). let r = v.1 in let k = m.least s b (awaits_on→ x (txn t s) u.0).0 in omega arith)
               u.1
 
       -- it is free, and marked
@@ -168,9 +168,9 @@ module _ {t l w : List ℕ} {n : ℕ} (i : n < base.slots) (m : Marked t l w n) 
         fresh : (y s : ℕ) → s < n → T (awaits_on y (txn t s)) → T (awaits_on y (txn t n)) → (txn t s).rank ≢ (txn t n).rank
         unfolding bit
         fresh y s k b c e =
-            let z : y ≡ x = sym (awaitsOn→ y (txn t n) c).1 ∙ sym ex in
+            let z : y ≡ x = sym (awaits_on→ y (txn t n) c).1 ∙ sym ex in
             free (eqb→eq (get_or w x 0 / 2 ^ d % 2) 1
-            (subst T (sym (m.at x d hx ∙ marked n)) (→someBelow n (marks t l x p) s k (mark-rank t l x p s (subst (λ (y : ℕ). T (awaits_on y (txn t s))) z b) (e ∙ sym ep)))))
+            (subst T (sym (m.at x d hx ∙ marked n)) (→some_below n (marks t l x p) s k (mark-rank t l x p s (subst (λ (y : ℕ). T (awaits_on y (txn t s))) z b) (e ∙ sym ep)))))
 
         pub marked_more : {v : List ℕ} → v ≡ set w x word → Marked t l v (n + 1)
         marked_more {v} e =
@@ -192,7 +192,7 @@ module _ {t l w : List ℕ} {n : ℕ} (i : n < base.slots) (m : Marked t l w n) 
                 ap (λ (v : ℕ). bit v q) (get_or-set_other w x y word 0 e)
                 ∙ m.at y q k
                 ∙ sym (some_more (marks t l y (suc q)) n
-                ∙ ap (λ (b : Bool). b || some_below n (marks t l y (suc q))) (is_false (marks t l y (suc q) n) (λ u. e (sym (awaitsOn→ y (txn t n) (marks→ t l y (suc q) n u).0).1 ∙ sym ex))))
+                ∙ ap (λ (b : Bool). b || some_below n (marks t l y (suc q))) (is_false (marks t l y (suc q) n) (λ u. e (sym (awaits_on→ y (txn t n) (marks→ t l y (suc q) n u).0).1 ∙ sym ex))))
 
             pair :
                 (y r s : ℕ) → r < n + 1 → s < n + 1 → r ≢ s → T (awaits_on y (txn t r)) → T (awaits_on y (txn t s))

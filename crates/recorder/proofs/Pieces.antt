@@ -57,9 +57,9 @@ born input a c l f =
 -- ---- a piece
 
 -- the answers to a piece take as many bytes as its calls
-length-answered : (piece : List ℕ) (k : ℕ) (G : Tables) → length piece ≡ k * record_size → length (answer_records (answers_to (piece_calls piece) G)) ≡ length piece
+length_answered : (piece : List ℕ) (k : ℕ) (G : Tables) → length piece ≡ k * record_size → length (answer_records (answers_to (piece_calls piece) G)) ≡ length piece
 unfolding piece_calls
-length-answered piece k G e =
+length_answered piece k G e =
     omega (arith, e, length-answer_records (answers_to (piece_calls piece) G), length-answers_to (piece_calls piece) G, length-calls_in (length piece / record_size) piece)
 
 module _ (input calls out : List ℕ) (a : Answering) (h : Answered input calls out a) (piece l m : List ℕ) (used : ℕ) (r : Answering)
@@ -77,7 +77,7 @@ module _ (input calls out : List ℕ) (a : Answering) (h : Answered input calls 
   next =
       let wi : a.left ≤ a.count = h.within in
       let rd : length calls ≡ record_size * (a.count - a.left) = h.read in
-      let n : length said ≡ length piece = length-answered piece (records_next a) G lp in
+      let n : length said ≡ length piece = length_answered piece (records_next a) G lp in
       let f = put_front l said (omega arith) w in
       let here : take (length piece) m ≡ said = ap (λ (k : ℕ). take k m) (sym n ∙ sym f.1) ∙ f.0 in
       let more : piece_calls (calls ++ piece) ≡ piece_calls calls ++ piece_calls piece = piece-append calls piece (a.count - a.left) rd in

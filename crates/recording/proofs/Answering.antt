@@ -70,9 +70,9 @@ module _ (piece : List ℕ) (at : ℕ) (G H : Tables) (h : record_size ≤ lengt
   unfolding after_calls
   call-after = rw (s, next-calls)
 
-  call-answered : answered_from piece at G ≡ answer_bytes (step base (call_in (call_at at piece)) G).answer ++ answered_from piece (at + record_size) H
+  call_answered : answered_from piece at G ≡ answer_bytes (step base (call_in (call_at at piece)) G).answer ++ answered_from piece (at + record_size) H
   unfolding answers_to answer_records
-  call-answered = rw (s, next-calls)
+  call_answered = rw (s, next-calls)
 
   module _ (l : List ℕ) {m : List ℕ} {next : ℕ} (w : buffer m next ≡ put (answer_bytes (step base (call_in (call_at at piece)) G).answer) (buffer l at)) (room : length piece ≤ length l) where
     pub answer-next : next ≡ at + record_size
@@ -82,7 +82,7 @@ module _ (piece : List ℕ) (at : ℕ) (G H : Tables) (h : record_size ≤ lengt
 
     fits : at + length (answer_bytes (step base (call_in (call_at at piece)) G).answer ++ answered_from piece (at + record_size) H) ≤ length l
     fits =
-        let e = ap (λ (t : List ℕ). length t) call-answered in
+        let e = ap (λ (t : List ℕ). length t) call_answered in
         omega
         (arith, e, h, room, length-answer_records (answers_to (piece_calls (drop at piece)) G), length-answers_to (piece_calls (drop at piece)) G, length-piece_calls (drop at piece), length-drop at piece)
 
@@ -90,7 +90,7 @@ module _ (piece : List ℕ) (at : ℕ) (G H : Tables) (h : record_size ≤ lengt
     answer_turn =
         ap₂ (λ (k : ℕ) (b : Buffer). put (answered_from piece k H) b) answer-next w
         ∙ put-more l (answer_bytes (step base (call_in (call_at at piece)) G).answer) (answered_from piece (at + record_size) H) at fits
-        ∙ ap (λ (t : List ℕ). put t (buffer l at)) (sym call-answered)
+        ∙ ap (λ (t : List ℕ). put t (buffer l at)) (sym call_answered)
 
     pub after_turn : after_from piece next H ≡ after_from piece at G
     after_turn = ap (λ (k : ℕ). after_from piece k H) answer-next ∙ call-after

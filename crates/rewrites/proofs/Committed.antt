@@ -41,9 +41,9 @@ module _
     pub committed-size : i ≤ base.items → length cur ≡ version_words base
     committed-size h = ap length is ∙ length_so_far p.readers new v p.reading.few p.tidy.size i h
 
-    pub all-committed :
+    pub all_committed :
         i ≤ base.items → base.items ≤ i → (qs : List Reader) → Reading v qs stamp hidden below → cur ≡ rewritten base qs (with_new l s stamp hidden) v
-    all-committed a b qs k =
+    all_committed a b qs k =
         f qs k
         ∙ ap (so_far qs new v) (let e : i ≡ base.items = omega arith in e)
         ∙ all_done qs new v
@@ -107,14 +107,14 @@ module _
             ∙ ap (λ (ws : List ℕ). with_row i ws cur) (sym (row_same r tidy))
             ∙ row_back i cur)
 
-      pub one-committed :
+      pub one_committed :
           {next : List ℕ}
           → next
           ≡ cond (eqb (get_or l (lock_row * i + lock_exclusive_at) 0) (s + 1))
           (with_row i (row_of base (fronted below (record { stamp = stamp; value = get_or l (lock_row * i + lock_working_at) 0; hidden = hidden }) (versions_in base (row (version_row base) i cur)))) cur)
           cur
           → Committed v l (s + 1) stamp hidden below next (i + 1)
-      one-committed e =
+      one_committed e =
           λ qs k.
           e
           ∙ one (get_or l (lock_row * i + lock_working_at) 0) qs k (eqb (get_or l (lock_row * i + lock_exclusive_at) 0) (s + 1)) newer joined

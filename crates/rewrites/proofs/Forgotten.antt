@@ -40,9 +40,9 @@ module _ (v : List ℕ) (s below next : ℕ) (p : Leavable v s below next) (cur 
   pub forgotten-size : i ≤ base.items → length cur ≡ version_words base
   forgotten-size h = ap length is ∙ length_so_far p.readers same v p.staying.few p.tidy.size i h
 
-  pub all-forgotten :
+  pub all_forgotten :
       i ≤ base.items → base.items ≤ i → (qs : List Reader) → Staying v qs s below next → cur ≡ rewritten base qs (λ x vs. vs) v
-  all-forgotten a b qs k = f qs k ∙ ap (so_far qs same v) (let e : i ≡ base.items = omega arith in e) ∙ all_done qs same v
+  all_forgotten a b qs k = f qs k ∙ ap (so_far qs same v) (let e : i ≡ base.items = omega arith in e) ∙ all_done qs same v
 
   module _ (inside : i < base.items) where
     next_row : row (version_row base) i cur ≡ row (version_row base) i v
@@ -61,10 +61,10 @@ module _ (v : List ℕ) (s below next : ℕ) (p : Leavable v s below next) (cur 
         subst (λ (r : List ℕ). left_by s below next (versions_in base r) ≡ kept qs (versions_in base r)) (sym next_row)
         (left-kept qs k.starts k.relaxed k.split s below next k.beside (versions_of base v i) (p.tidy.rows i inside).sound.fall (p.tidy.rows i inside).sound.nest (λ j. k.known i j inside) (p.low i inside) (p.found i inside) (λ j a b. k.read i j inside a b))
 
-    pub one-forgotten :
+    pub one_forgotten :
         {new : List ℕ} → new ≡ with_row i (row_of base (left_by s below next (versions_in base (row (version_row base) i cur)))) cur
         → Forgotten v s below next new (i + 1)
-    one-forgotten e =
+    one_forgotten e =
         λ qs k.
         e
         ∙ ap (λ (vs : List Version). with_row i (row_of base vs) cur) (one_kept qs k)

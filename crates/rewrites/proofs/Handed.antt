@@ -18,7 +18,7 @@ use Rattle.rules.proofs.Tests.{same?, eq_make, true_is}
 use Rattle.rules.proofs.Counts.{some_mem}
 use Rattle.rules.proofs.RowKinds.{start-reads, start_not_relaxed, reads_up_to, relaxed-live, relaxed-reads, reads-outside}
 use Rattle.rules.proofs.Notes.{Beside as Notes-as-Beside}
-use Rattle.rules.proofs.Rows.{rows-mapped}
+use Rattle.rules.proofs.Rows.{rows_mapped}
 use Rattle.rules.proofs.Revealed.{revealed_none}
 use Rattle.rules.proofs.Readers.{reader_in_lem}
 use Rattle.rules.proofs.Ready.{gone_here, gone-live, gone-reads, gone_how, gone-relaxed, gone-room}
@@ -65,11 +65,11 @@ module _ (G : Tables) (g : Good base G) where
       left = set_txn u s no_txn
 
       -- who reads a version is the one that leaves, or stays
-      left-or-stays :
+      left_or_stays :
           (x k : ℕ) → x < base.items → 0 < k → k < length (versions_of base G.versions x)
           → (place (reader_in G.txns s) (versions_of base G.versions x) ≡ k) ⊎ T (read_by_some (readers base left) (versions_of base G.versions x) k)
       unfolding versions_of read_by_some
-      left-or-stays x k h z l =
+      left_or_stays x k h z l =
           let m = ((g.versions_good x h).reads k z).0 l in
           who m.0 m.1 m.2 m.3 (same? m.0 s)
         where
@@ -115,7 +115,7 @@ module _ (G : Tables) (g : Good base G) where
                   b;
               read = λ x k h z l.
                   subst (λ (q : Reader). (place q (versions_of base v x) ≡ k) ⊎ T (read_by_some (readers base left) (versions_of base v x) k)) reads
-                  (left-or-stays x k h z l);
+                  (left_or_stays x k h z l);
             }
 
         pub good-leaves :
@@ -145,7 +145,7 @@ module _ (G : Tables) (g : Good base G) where
               read = λ x k h z l.
                   subst (λ (q : Reader). (place q (versions_of base v x) ≡ k) ⊎ T (read_by_some (readers base left) (versions_of base v x) k))
                   (reads-outside t s (relaxed-live (txn t s) reader).1)
-                  (left-or-stays x k h z l);
+                  (left_or_stays x k h z l);
             }
 
         pub good_reveals : InOrder (starts base (set_txn u s no_txn)) q → Revealable G.versions s q
@@ -206,7 +206,7 @@ module _ (G : Tables) (g : Good base G) where
       → rewritten base qs (λ x vs. revealed s vs) G.versions ≡ rewritten base qs (λ x vs. vs) G.versions
   unfolding rewritten
   good-unhidden s start qs =
-      rows-mapped (version_row base) (λ x r. row_of base (kept qs (revealed s (versions_in base r)))) (λ x r. row_of base (kept qs (versions_in base r))) base.items 0 v v
+      rows_mapped (version_row base) (λ x r. row_of base (kept qs (revealed s (versions_in base r)))) (λ x r. row_of base (kept qs (versions_in base r))) base.items 0 v v
       g.versions_exact
       g.versions_exact
       (λ x h.

@@ -29,7 +29,7 @@ use Rattle.starts.specs.Ordered.{guard, InOrder}
 use Rattle.starts.specs.Beside.{Beside}
 use Rattle.starts.proofs.Split.{split_between}
 use Rattle.starts.proofs.Between.{first-most, read-within, read_same}
-use Rattle.starts.proofs.Tells.{within-below, within_both}
+use Rattle.starts.proofs.Tells.{within_below, within_both}
 use Rattle.packing.specs.Changed.{stays, fronted, needed, without, left_by, read_there, shown_to}
 use Rattle.rewrites.specs.Written.{claimed}
 
@@ -127,7 +127,7 @@ module _
     unfolding stays stamp_at hidden_at
     told =
         split_between qs us m split (get_or vs 0 no_version) new joined known
-        ∙ ap₂ ◌||◌ (within-below us new.stamp below next b (get_or vs 0 no_version).stamp) (ap not (turned new.hidden (get_or vs 0 no_version).hidden))
+        ∙ ap₂ ◌||◌ (within_below us new.stamp below next b (get_or vs 0 no_version).stamp) (ap not (turned new.hidden (get_or vs 0 no_version).hidden))
 
     pub front_kept : fronted below new vs ≡ kept qs (new ∷ vs)
     front_kept =

@@ -52,10 +52,10 @@ module _ (v : List ℕ) (s : ℕ) (q : List ℕ) (p : Revealable v s q) (cur : L
         subst (λ (r : List ℕ). shown_to s q (versions_in base r) ≡ kept qs (revealed s (versions_in base r))) (sym next_row)
         (shown-kept qs k.starts k.relaxed k.split q k.ordered s k.gone (versions_of base v i) (p.tidy.rows i inside).sound.fall (p.tidy.rows i inside).sound.nest (λ j. k.known i j inside) (p.low i inside) (p.found i inside) (λ j a b. k.read i j inside a b))
 
-    pub one-shown :
+    pub one_shown :
         {new : List ℕ} → new ≡ with_row i (row_of base (shown_to s q (versions_in base (row (version_row base) i cur)))) cur
         → ShownTo v s q new (i + 1)
-    one-shown e =
+    one_shown e =
         λ qs k.
         e
         ∙ ap (λ (vs : List Version). with_row i (row_of base vs) cur) (one_kept qs k)

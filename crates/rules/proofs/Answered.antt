@@ -21,14 +21,14 @@ use Rattle.rules.proofs.Ways.{refusal-code}
 use Rattle.rules.proofs.Judged.{goes}
 
 -- ---- the first whose condition holds is one
-pub answered-once :
+pub answered_once :
     (S : Sizes) (c : Call) (G : Tables) (rs : List Refusal) (j k : ℕ) → Answered S c G rs j → Answered S c G rs k → j ≡ k
 unfolding Answered
-answered-once S c G [] j k p q = p ∙ sym q
-answered-once S c G (r ∷ rs) j k (inl p) (inl q) = p.1 ∙ sym q.1
-answered-once S c G (r ∷ rs) j k (inl p) (inr q) = absurd (q.0 p.0)
-answered-once S c G (r ∷ rs) j k (inr p) (inl q) = absurd (p.0 q.0)
-answered-once S c G (r ∷ rs) j k (inr p) (inr q) = answered-once S c G rs j k p.1 q.1
+answered_once S c G [] j k p q = p ∙ sym q
+answered_once S c G (r ∷ rs) j k (inl p) (inl q) = p.1 ∙ sym q.1
+answered_once S c G (r ∷ rs) j k (inl p) (inr q) = absurd (q.0 p.0)
+answered_once S c G (r ∷ rs) j k (inr p) (inl q) = absurd (p.0 q.0)
+answered_once S c G (r ∷ rs) j k (inr p) (inr q) = answered_once S c G rs j k p.1 q.1
 
 -- ---- each refusal has a code of its own: they stand in the order of their codes behind a first that is none
 by_code : List Refusal
@@ -55,12 +55,12 @@ one_code : (r p : Refusal) → code r ≡ code p → r ≡ p
 one_code r p e = sym (of_code r) ∙ ap (λ (k : ℕ). get_or by_code k Wait) e ∙ of_code p
 
 -- so what is answered a refusal's code has its condition
-pub answered-when :
+pub answered_when :
     (S : Sizes) (c : Call) (G : Tables) (r : Refusal) (rs : List Refusal) (k : ℕ) → Answered S c G rs k → k ≡ code r → When S c G r
 unfolding Answered
-answered-when S c G r [] k p e = absurd (refusal-code r (sym e ∙ p))
-answered-when S c G r (q ∷ rs) k (inl p) e = subst (When S c G) (one_code q r (sym p.1 ∙ e)) p.0
-answered-when S c G r (q ∷ rs) k (inr p) e = answered-when S c G r rs k p.1 e
+answered_when S c G r [] k p e = absurd (refusal-code r (sym e ∙ p))
+answered_when S c G r (q ∷ rs) k (inl p) e = subst (When S c G) (one_code q r (sym p.1 ∙ e)) p.0
+answered_when S c G r (q ∷ rs) k (inr p) e = answered_when S c G r rs k p.1 e
 
 -- bad tables: the first of every list
 on_bad : (S : Sizes) (c : Call) (G : Tables) → (Good S G → ⊥) → Answered S c G (order c) (code BadTables)
@@ -77,8 +77,8 @@ answered S c G = go (good S G) refl
     go false e =
         subst (λ (o : Outcome). Answered S c G (order c) o.answer.code) (sym (step-bad S c G e)) (on_bad S c G (λ g. false_is e (Good→good S G g)))
 
-pub code-exactly : (S : Sizes) → CodeExactly S
-code-exactly S c G k = (
+pub code_exactly : (S : Sizes) → CodeExactly S
+code_exactly S c G k = (
   λ e. subst (Answered S c G (order c)) e (answered S c G),
-  λ h. answered-once S c G (order c) (step S c G).answer.code k (answered S c G) h,
+  λ h. answered_once S c G (order c) (step S c G).answer.code k (answered S c G) h,
 )

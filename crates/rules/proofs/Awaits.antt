@@ -16,8 +16,8 @@ use Rattle.rules.specs.Step.{with_txns}
 use Rattle.rules.proofs.Tests.{same?}
 use Rattle.rules.proofs.Views.{awaiting}
 use Rattle.rules.proofs.RowKinds.{live-number, update-live, settled-live, relaxed-live, reader-live, start-reads, update-holds}
-use Rattle.rules.proofs.Carried.{same_reads, same_notes, no_more-same, reads_by, txn-carried, row-reranked, lock-carried, versions-same, settled-carried, sets-carried}
-use Rattle.rules.proofs.Quotas.{quotas-but-rank}
+use Rattle.rules.proofs.Carried.{same_reads, same_notes, no_more_same, reads_by, txn_carried, row-reranked, lock_carried, versions-same, settled_carried, sets_carried}
+use Rattle.rules.proofs.Quotas.{quotas_but_rank}
 
 -- what may be written: nothing awaited, or a lock on a known item that the slot does not hold, an exclusive one if it has room for it
 pub record MayAwait (S : Sizes) (G : Tables) (s k x : ℕ) : Type 0 where
@@ -122,13 +122,13 @@ module _
         go (inr d) =
             subst (λ (w : Txn). GoodTxn S t' G.locks r w) (sym (there r i d))
             (row-reranked S t' G.locks r (f (txn t r)) (txn t r) (λ e. kept (txn t r) e ∙ (g.txn_good r i).rank_unused e)
-            (txn-carried S t t' G.locks G.locks r (txn t r) (let a = last' in omega arith) (let a = clock' in omega arith) (λ w. no_more-same r refl) (g.txn_good r i)))
+            (txn_carried S t t' G.locks G.locks r (txn t r) (let a = last' in omega arith) (let a = clock' in omega arith) (λ w. no_more_same r refl) (g.txn_good r i)))
 
     new_quota : GoodQuota S G.locks s R
     new_quota = record { most = λ u. (g.quota_good s inside).most (update-holds (txn t s) update); full_idle = λ u e d. may.room d e }
 
     quotas : (r : ℕ) → r < S.slots → GoodQuota S G.locks r (txn t' r)
-    quotas = quotas-but-rank S G.locks t t' s f there (subst (λ (w : Txn). GoodQuota S G.locks s w) (sym here) new_quota) g.quota_good
+    quotas = quotas_but_rank S G.locks t t' s f there (subst (λ (w : Txn). GoodQuota S G.locks s w) (sym here) new_quota) g.quota_good
 
     pub awaiting_good : GoodRanks S t' G.locks → ((a : ℕ) → Walk (waits_for t' G.locks) a a → ⊥) → Good S (with_txns G t')
     awaiting_good ranked uncircled =
@@ -140,13 +140,13 @@ module _
           clock_most = let a = clock' in let b = g.clock_most in omega arith;
           txn_good = rows;
           distinct = λ a b i j d h e. g.distinct a b i j d (subst T (live' b j) h) (sym (number' a i) ∙ e ∙ number' b j);
-          lock_good = λ y i. lock-carried S t t' (lock G.locks y) (λ r h u. subst T (sym (update' r ((g.lock_good y i).sharers r h).0)) u)
+          lock_good = λ y i. lock_carried S t t' (lock G.locks y) (λ r h u. subst T (sym (update' r ((g.lock_good y i).sharers r h).0)) u)
               (λ r h u. subst T (sym (holder' r ((g.lock_good y i).excluders r h).0)) u) (g.lock_good y i);
           quota_good = quotas;
           versions_good = λ x i. versions-same S t t' _ clock' reader' how' relaxed' (g.versions_good x i);
           ranks_good = ranked;
-          settled_good = settled-carried S G (with_txns G t') (λ r i h. (subst T (settled' r i) h, start' r i)) (λ r x i j a h. (h, refl)) g.settled_good;
-          sets_good = sets-carried S G (with_txns G t') g (λ a b i j h m. g.sets_good.apart a b i j (subst T (settled' a i) h) (subst T (relaxed' b j) m))
-              (λ q i h. subst T (sym (relaxed' q i)) h) sets' (λ q x i b. subst (λ (w : ℕ). T (bit w x)) (items' q i) b) (λ r x i. no_more-same r refl) (λ x q i b. b);
+          settled_good = settled_carried S G (with_txns G t') (λ r i h. (subst T (settled' r i) h, start' r i)) (λ r x i j a h. (h, refl)) g.settled_good;
+          sets_good = sets_carried S G (with_txns G t') g (λ a b i j h m. g.sets_good.apart a b i j (subst T (settled' a i) h) (subst T (relaxed' b j) m))
+              (λ q i h. subst T (sym (relaxed' q i)) h) sets' (λ q x i b. subst (λ (w : ℕ). T (bit w x)) (items' q i) b) (λ r x i. no_more_same r refl) (λ x q i b. b);
           no_circle = uncircled;
         }

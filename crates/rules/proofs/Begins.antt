@@ -21,11 +21,11 @@ use Rattle.rules.proofs.Tests.{same?, not_make, false_is}
 use Rattle.rules.proofs.Bits.{bit_none}
 use Rattle.rules.proofs.Views.{length-set_txn, last_number-set_txn, clock-set_txn, txn-set_txn, txn-set_txn-other, txn-top}
 use Rattle.rules.proofs.RowKinds.{update-live, settled-live, relaxed-live, holder_live, reader-live, free-number, reads_up_to, reads-outside}
-use Rattle.rules.proofs.Quotas.{exclusives-none, quotas-but}
-use Rattle.rules.proofs.Carried.{no_reads, no_notes, no_more-same, reads-alike, txn-carried, lock-carried, versions-carried, settled-carried, sets-carried}
+use Rattle.rules.proofs.Quotas.{exclusives_none, quotas_but}
+use Rattle.rules.proofs.Carried.{no_reads, no_notes, no_more_same, reads-alike, txn_carried, lock_carried, versions_carried, settled_carried, sets_carried}
 use Rattle.rules.proofs.EqualRanks.{awaits→}
 use Rattle.rules.proofs.Lines.{same-leaving, left-ranks, left-links}
-use Rattle.rules.proofs.Deadlock.{fewer-no-circle}
+use Rattle.rules.proofs.Deadlock.{fewer_no_circle}
 
 -- who may begin: an update, a query that starts at the clock, a relaxed query while nobody is past its writing
 pub data Beginner (S : Sizes) (G : Tables) (k q : ℕ) : Type 0 where
@@ -111,18 +111,18 @@ module _ (S : Sizes) (G : Tables) (g : Good S G) (k q s : ℕ) (inside : s < S.s
       go (inl e) = subst (λ (m : ℕ). GoodTxn S t' G.locks m (txn t' m)) (sym e) (subst (λ (w : Txn). GoodTxn S t' G.locks s w) (sym here) new_row)
       go (inr d) =
           subst (λ (w : Txn). GoodTxn S t' G.locks r w) (sym (there r d))
-          (txn-carried S t t' G.locks G.locks r (txn t r) (let a = last' in omega arith) (let a = clock' in omega arith) (λ w. no_more-same r refl) (g.txn_good r i))
+          (txn_carried S t t' G.locks G.locks r (txn t r) (let a = last' in omega arith) (let a = clock' in omega arith) (λ w. no_more_same r refl) (g.txn_good r i))
 
   -- who was not there holds nothing
   new_quota : GoodQuota S G.locks s R
   new_quota =
       record {
-        most = λ u. let a = exclusives-none S t G.locks g.lock_good s (λ h. unused (holder_live (txn t s) h).0) in omega arith;
+        most = λ u. let a = exclusives_none S t G.locks g.lock_good s (λ h. unused (holder_live (txn t s) h).0) in omega arith;
         full_idle = λ u e d. absurd (omega arith);
       }
 
   quotas : (r : ℕ) → r < S.slots → GoodQuota S G.locks r (txn t' r)
-  quotas = quotas-but S G.locks t t' s there (subst (λ (w : Txn). GoodQuota S G.locks s w) (sym here) new_quota) g.quota_good
+  quotas = quotas_but S G.locks t t' s there (subst (λ (w : Txn). GoodQuota S G.locks s w) (sym here) new_quota) g.quota_good
 
   apart : (a b : ℕ) → a < S.slots → b < S.slots → a ≢ b → T (live (txn t' b)) → (txn t' a).number ≢ (txn t' b).number
   apart a b i j d = go (same? a s) (same? b s)
@@ -173,10 +173,10 @@ module _ (S : Sizes) (G : Tables) (g : Good S G) (k q s : ℕ) (inside : s < S.s
           (sym (reads-outside t' s (ap (λ (w : Txn). w.kind) here ∙ e)))
           (not_make (bit (hidden_at vs 0) s) (λ b. unused (relaxed-live (txn t s) ((g.versions_good x i).from_relaxed 0 s b).1).0))
 
-  reader-new :
+  reader_new :
       (x : ℕ) → x < S.items → (r : ℕ) → T (is_reader (txn t' r))
       → (T (is_reader (txn t r)) × (reader_in t' r ≡ reader_in t r)) ⊎ T (sees (reader_in t' r) (get_or (versions_in S (row (version_row S) x G.versions)) 0 no_version))
-  reader-new x i r h = go (same? r s)
+  reader_new x i r h = go (same? r s)
     where
       go : (r ≡ s) ⊎ (r ≢ s) → (T (is_reader (txn t r)) × (reader_in t' r ≡ reader_in t r)) ⊎ T (sees (reader_in t' r) (get_or (versions_in S (row (version_row S) x G.versions)) 0 no_version))
       go (inl e) =
@@ -212,15 +212,15 @@ module _ (S : Sizes) (G : Tables) (g : Good S G) (k q s : ℕ) (inside : s < S.s
         clock_most = let a = clock' in let b = g.clock_most in omega arith;
         txn_good = rows;
         distinct = apart;
-        lock_good = λ x i. lock-carried S t t' (lock G.locks x) (λ r h u. rw (alive r (update-live (txn t r) u).0) u)
+        lock_good = λ x i. lock_carried S t t' (lock G.locks x) (λ r h u. rw (alive r (update-live (txn t r) u).0) u)
             (λ r h u. rw (alive r (holder_live (txn t r) u).0) u) (g.lock_good x i);
         quota_good = quotas;
-        versions_good = λ x i. versions-carried S t t' _ (let a = clock' in omega arith) (λ r j h. reader-stays r h) (λ r j h. reader-new x i r h) (λ r j h. relaxed-stays r h) (g.versions_good x i);
+        versions_good = λ x i. versions_carried S t t' _ (let a = clock' in omega arith) (λ r j h. reader-stays r h) (λ r j h. reader_new x i r h) (λ r j h. relaxed-stays r h) (g.versions_good x i);
         ranks_good = left-ranks S t t' G.locks s inside rows' idle g.ranks_good G.locks (λ x r d. refl);
-        settled_good = settled-carried S G (begun k q s G) settled (λ r x i j a h. (h, refl)) g.settled_good;
-        sets_good = sets-carried S G (begun k q s G) g kept-apart (λ r i h. relaxed-stays r h) (λ r i. sets r (same? r s)) (λ r x i b. read r x (same? r s) b)
-            (λ r x i. no_more-same r refl) (λ x r i b. b);
-        no_circle = fewer-no-circle S G g t' G.locks links;
+        settled_good = settled_carried S G (begun k q s G) settled (λ r x i j a h. (h, refl)) g.settled_good;
+        sets_good = sets_carried S G (begun k q s G) g kept-apart (λ r i h. relaxed-stays r h) (λ r i. sets r (same? r s)) (λ r x i b. read r x (same? r s) b)
+            (λ r x i. no_more_same r refl) (λ x r i b. b);
+        no_circle = fewer_no_circle S G g t' G.locks links;
       }
     where
       -- the newcomer is none of those past their writing

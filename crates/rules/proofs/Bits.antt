@@ -185,11 +185,11 @@ below_bits (suc k) h f =
     omega arith
 
 -- ---- two words with the same bits are one
-same-below : (n a c : ℕ) → a < 2 ^ n → c < 2 ^ n → ((b : ℕ) → bit a b ≡ bit c b) → a ≡ c
-same-below zero a c l m f = omega arith
-same-below (suc n) a c l m f =
+same_below : (n a c : ℕ) → a < 2 ^ n → c < 2 ^ n → ((b : ℕ) → bit a b ≡ bit c b) → a ≡ c
+same_below zero a c l m f = omega arith
+same_below (suc n) a c l m f =
     let q : 2 ^ suc n ≡ 2 ^ n * 2 = pow-suc 2 n in
-    let e : a / 2 ≡ c / 2 = same-below n (a / 2) (c / 2) (omega arith) (omega arith) (λ b. sym (bit-suc a b) ∙ f (suc b) ∙ bit-suc c b) in
+    let e : a / 2 ≡ c / 2 = same_below n (a / 2) (c / 2) (omega arith) (omega arith) (λ b. sym (bit-suc a b) ∙ f (suc b) ∙ bit-suc c b) in
     let d : eqb (a % 2) 1 ≡ eqb (c % 2) 1 = sym (bit_zero a) ∙ f 0 ∙ bit_zero c in
     digits (eqb (c % 2) 1) refl d e
   where
@@ -199,7 +199,7 @@ same-below (suc n) a c l m f =
 
 pub same_bits : (a c : ℕ) → ((b : ℕ) → bit a b ≡ bit c b) → a ≡ c
 same_bits a c f =
-    same-below (a + c) a c (lt_of_lt_of_le (below_power a) (pow_mono {i = a} {j = a + c} (omega arith)))
+    same_below (a + c) a c (lt_of_lt_of_le (below_power a) (pow_mono {i = a} {j = a + c} (omega arith)))
     (lt_of_lt_of_le (below_power c) (pow_mono {i = c} {j = a + c} (omega arith))) f
 
 -- ---- two words together, by their bits

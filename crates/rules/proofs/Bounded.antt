@@ -21,13 +21,13 @@ use Rattle.rules.specs.Step.{locked, locked_anew, replaced, taken, with_new, com
 use Rattle.rules.proofs.Tests.{same?}
 use Rattle.rules.proofs.Choice.{length-versions_in, place-le}
 use Rattle.rules.proofs.Views.{lock-set_lock, lock-set_lock-other, lock-release, lock-unshare}
-use Rattle.rules.proofs.Steps.{acts, cond-case}
-use Rattle.rules.proofs.Fresh.{zeros, fresh-row, fresh-row_zero}
+use Rattle.rules.proofs.Steps.{acts, cond_case}
+use Rattle.rules.proofs.Fresh.{zeros, fresh-row, fresh_row_zero}
 use Rattle.rules.proofs.ChangedVersions.{ended-versions, committed-versions, settled-commit-versions, settled-abort-versions}
 use Rattle.rules.proofs.RowKinds.{settled-starts}
 use Rattle.rules.proofs.Judged.{way}
-use Rattle.rules.proofs.Ways.{refusal-most, Way, refused, waited, began_update, began_query, began_relaxed, read_own, read_newest, readShared, readSettled, readVersion}
-use Rattle.rules.proofs.Ways.{wroteOwn, wroteSettled, wroteTaken, committedUpdate, committedEmpty, committed_settled, committed_query, aborted_update, aborted_settled, aborted_query, settledUpdate, kept_waiting}
+use Rattle.rules.proofs.Ways.{refusal-most, Way, refused, waited, began_update, began_query, began_relaxed, read_own, read_newest, read_shared, read_settled, read_version}
+use Rattle.rules.proofs.Ways.{wrote_own, wrote_settled, wrote_taken, committed_update, committed_empty, committed_settled, committed_query, aborted_update, aborted_settled, aborted_query, settled_update, kept_waiting}
 
 -- the value of a write, if it is one, is at most B
 unfoldable pub Asks : ℕ → Call → Type 0
@@ -66,7 +66,7 @@ module _ (B : ℕ) where
   unfolding kept_from
   kept_from_values qs vs k [] none = none
   kept_from_values qs vs k (w ∷ ws) (more h r) =
-      cond-case (Values B) (eqb k 0 || read_by_some qs vs k) _ _
+      cond_case (Values B) (eqb k 0 || read_by_some qs vs k) _ _
       (λ e. more h (kept_from_values qs vs (suc k) ws r)) (λ e. kept_from_values qs vs (suc k) ws r)
 
   kept_values : (qs : List Reader) (vs : List Version) → Values B vs → Values B (kept qs vs)
@@ -80,12 +80,12 @@ module _ (B : ℕ) where
 
   new_values : (l : List ℕ) (s c m x : ℕ) (vs : List Version) → (lock l x).working ≤ B → Values B vs → Values B (with_new l s c m x vs)
   unfolding with_new
-  new_values l s c m x vs h b = cond-case (Values B) (holds_exclusive (lock l x) s) _ _ (λ e. more h b) (λ e. b)
+  new_values l s c m x vs h b = cond_case (Values B) (holds_exclusive (lock l x) s) _ _ (λ e. more h b) (λ e. b)
 
   -- ---- locks
   released-working : (s : ℕ) (h : Lock) → h.working ≤ B → (released s h).working ≤ B
   unfolding released
-  released-working s h b = cond-case (λ (k : Lock). k.working ≤ B) (holds_exclusive h s) _ _ (λ e. omega arith) (λ e. b)
+  released-working s h b = cond_case (λ (k : Lock). k.working ≤ B) (holds_exclusive h s) _ _ (λ e. omega arith) (λ e. b)
 
   module _ (S : Sizes) (G : Tables) (g : Good S G) (b : Bounded B S G) where
     locked_bounded : (s x : ℕ) → x < S.items → (h : Lock) → h.working ≤ B → Bounded B S (locked S s x h G)
@@ -137,8 +137,8 @@ module _ (B : ℕ) where
           }
 
       -- request E6
-      settled-commit_bounded : (s : ℕ) → s < S.slots → T (live_settled (txn G.txns s)) → Bounded B S (settled_committed S s G)
-      settled-commit_bounded s i p =
+      settled_commit_bounded : (s : ℕ) → s < S.slots → T (live_settled (txn G.txns s)) → Bounded B S (settled_committed S s G)
+      settled_commit_bounded s i p =
           record {
             working = unfold settled_committed committed_under in (released_all s);
             values = λ x j.
@@ -147,8 +147,8 @@ module _ (B : ℕ) where
                 (new_values G.locks s (txn G.txns s).start 0 x (versions_of S G.versions x) (b.working x j) (b.values x j)));
           }
 
-      settled-abort_bounded : (s : ℕ) → s < S.slots → Bounded B S (settled_aborted S s G)
-      settled-abort_bounded s i =
+      settled_abort_bounded : (s : ℕ) → s < S.slots → Bounded B S (settled_aborted S s G)
+      settled_abort_bounded s i =
           record {
             working = unfold settled_aborted in (released_all s);
             values = λ x j. subst (Values B) (sym (settled-abort-versions S G g enough s i x j)) (kept_values (readers S (settled_aborted S s G).txns) (versions_of S G.versions x) (b.values x j));
@@ -206,29 +206,29 @@ module _ (B : ℕ) where
         way_bounded c d a (began_relaxed s free l z) = (bare (last_number G.txns + 1) (let m = g.last_most in omega arith), record { working = b.working; values = b.values })
         way_bounded c d a (read_own n s x u h) = (found _ 0 (b.working x u.known) (omega arith), record { working = b.working; values = b.values })
         way_bounded c d a (read_newest n s x u h) = (found _ 1 (newest-bound x u.known) (omega arith), record { working = b.working; values = b.values })
-        way_bounded c d a (readShared n s x u h f) =
+        way_bounded c d a (read_shared n s x u h f) =
             (found _ 1 (newest-bound x u.known) (omega arith), anew_bounded s shared_lock x u.known _ (b.working x u.known))
         way_bounded c d a (kept_waiting s C q) = (no Wait, b)
-        way_bounded c d a (readSettled n s x C p i h) = (found _ 0 (b.working x i) (omega arith), record { working = b.working; values = b.values })
-        way_bounded c d a (readVersion n s x C q i o k) =
+        way_bounded c d a (read_settled n s x C p i h) = (found _ 0 (b.working x i) (omega arith), record { working = b.working; values = b.values })
+        way_bounded c d a (read_version n s x C q i o k) =
             let start = reader_in G.txns s in
             let vs = versions_of S G.versions x in
             (found _ _ (value_at vs (b.values x i) (place start vs)) (place-bound start x i), record { working = b.working; values = b.values })
-        way_bounded c d a (wroteOwn n s x v u h) = (bare 0 (omega arith), locked_bounded s x u.known (replaced (lock G.locks x) v) a)
-        way_bounded c d a (wroteSettled n s x v C p i h) = (bare 0 (omega arith), locked_bounded s x i (replaced (lock G.locks x) v) a)
-        way_bounded c d a (wroteTaken n s x v u h f r) = (bare 0 (omega arith), anew_bounded s exclusive_lock x u.known (taken (lock G.locks x) s v) a)
-        way_bounded c d a (committedEmpty n s C u i e) = (bare (clock G.txns) (let m = g.clock_most in omega arith), aborted_bounded s)
-        way_bounded c d a (committedUpdate n s C u i l w) = (bare (clock G.txns + 1) (let m = g.clock_most in omega arith), committed_bounded s C.inside u)
-        way_bounded c d a (committed_settled n s C p) = (bare (txn G.txns s).start (let k = (g.txn_good s C.inside).reader_start (settled-starts (txn G.txns s) p) in let m = g.clock_most in omega arith), settled-commit_bounded s C.inside p)
+        way_bounded c d a (wrote_own n s x v u h) = (bare 0 (omega arith), locked_bounded s x u.known (replaced (lock G.locks x) v) a)
+        way_bounded c d a (wrote_settled n s x v C p i h) = (bare 0 (omega arith), locked_bounded s x i (replaced (lock G.locks x) v) a)
+        way_bounded c d a (wrote_taken n s x v u h f r) = (bare 0 (omega arith), anew_bounded s exclusive_lock x u.known (taken (lock G.locks x) s v) a)
+        way_bounded c d a (committed_empty n s C u i e) = (bare (clock G.txns) (let m = g.clock_most in omega arith), aborted_bounded s)
+        way_bounded c d a (committed_update n s C u i l w) = (bare (clock G.txns + 1) (let m = g.clock_most in omega arith), committed_bounded s C.inside u)
+        way_bounded c d a (committed_settled n s C p) = (bare (txn G.txns s).start (let k = (g.txn_good s C.inside).reader_start (settled-starts (txn G.txns s) p) in let m = g.clock_most in omega arith), settled_commit_bounded s C.inside p)
         way_bounded c d a (committed_query n s C q) =
             let (m, k) = totals s C.inside in
             (record { code = omega arith; value = omega arith; number = omega arith; looked = omega arith }, ended_bounded s C.inside)
         way_bounded c d a (aborted_update n s C u) = (bare 0 (omega arith), aborted_bounded s)
-        way_bounded c d a (aborted_settled n s C p) = (bare 0 (omega arith), settled-abort_bounded s C.inside)
+        way_bounded c d a (aborted_settled n s C p) = (bare 0 (omega arith), settled_abort_bounded s C.inside)
         way_bounded c d a (aborted_query n s C q) =
             let (m, k) = totals s C.inside in
             (record { code = omega arith; value = omega arith; number = omega arith; looked = omega arith }, ended_bounded s C.inside)
-        way_bounded c d a (settledUpdate n s C u i l z) = (bare (clock G.txns + 1) (let m = g.clock_most in omega arith), settled_bounded s)
+        way_bounded c d a (settled_update n s C u i l z) = (bare (clock G.txns + 1) (let m = g.clock_most in omega arith), settled_bounded s)
 
         -- a call whose value is within the bound is answered so, and leaves the tables so
         pub step_bounded : (c : Call) → Asks B c → Both (step S c G)
@@ -244,5 +244,5 @@ fresh_bounded B S =
       working = λ x i. let z = zeros (lock_words S) (lock_row * x + 2) in omega arith;
       values = λ x i.
           subst (λ (r : List ℕ). Values B (versions_in S r)) (sym (fresh-row S x i))
-          (more (let z = fresh-row_zero S x 1 in omega arith) none);
+          (more (let z = fresh_row_zero S x 1 in omega arith) none);
     }

@@ -24,10 +24,10 @@ use Rattle.rules.proofs.Counts.{first-le, first_passes, first-least}
 unfoldable bears : List ℕ → ℕ → ℕ → Bool
 bears t n s = live (txn t s) && eqb (txn t s).number n
 
-pub caller-in :
+pub caller_in :
     (S : Sizes) (G : Tables) (n : ℕ) → eqb (slot_of S G.txns n) S.slots ≡ false → Caller S G n (slot_of S G.txns n)
 unfolding slot_of bears
-caller-in S G n e =
+caller_in S G n e =
     record {
       inside = i;
       alive = and_left (live (txn G.txns s)) _ ok;
@@ -44,27 +44,27 @@ caller-in S G n e =
     ok = first_passes (bears G.txns n) 0 S.slots (let k = i in omega arith)
 
 -- the same as the caller of a call that names n
-pub caller-is :
+pub caller_is :
     (S : Sizes) (G : Tables) (c : Call) (n : ℕ) → Names c n → eqb (slot_of S G.txns n) S.slots ≡ false
     → CallerIn c S G (slot_of S G.txns n)
-caller-is S G c n h e =
-    let C = caller-in S G n e in
+caller_is S G c n h e =
+    let C = caller_in S G n e in
     record { inside = C.inside; alive = C.alive; named = subst (Names c) (sym C.name) h }
 
 -- whoever bears the number is not before the slot that is found
-not-before :
+not_before :
     (S : Sizes) (t : List ℕ) (s n : ℕ) → s < S.slots → T (live (txn t s)) → (txn t s).number ≡ n → slot_of S t n ≤ s
 unfolding slot_of bears
-not-before S t s n i a e =
+not_before S t s n i a e =
     first-least (bears t n) s 0 S.slots (omega arith) (omega arith)
     (and_both (live (txn t s)) _ a (eq_make (txn t s).number n e))
 
-pub caller-none :
+pub caller_none :
     (S : Sizes) (t : List ℕ) (n : ℕ) → eqb (slot_of S t n) S.slots ≡ true
     → (s : ℕ) → s < S.slots → T (live (txn t s)) → (txn t s).number ≢ n
-caller-none S t n e s i a q =
+caller_none S t n e s i a q =
     let z : slot_of S t n ≡ S.slots = eqb-true (slot_of S t n) S.slots e in
-    let l : slot_of S t n ≤ s = not-before S t s n i a q in
+    let l : slot_of S t n ≤ s = not_before S t s n i a q in
     omega arith
 
 -- on good tables a number is borne once, so its slot is found
@@ -75,8 +75,8 @@ caller-found S G g s n i a e = go (same? (slot_of S G.txns n) s)
   where
     C : Caller S G n (slot_of S G.txns n)
     C =
-        caller-in S G n
-        (ne_eqb (slot_of S G.txns n) S.slots (λ z. let k : slot_of S G.txns n ≤ s = not-before S G.txns s n i a e in omega arith))
+        caller_in S G n
+        (ne_eqb (slot_of S G.txns n) S.slots (λ z. let k : slot_of S G.txns n ≤ s = not_before S G.txns s n i a e in omega arith))
 
     go : (slot_of S G.txns n ≡ s) ⊎ (slot_of S G.txns n ≢ s) → slot_of S G.txns n ≡ s
     go (inl q) = q
@@ -111,29 +111,29 @@ free-found S t e =
         let d : free_slot S t ≢ S.slots = eqb-false (free_slot S t) S.slots e in
         omega (arith, first-le (λ s. not (live (txn t s))) 0 S.slots)
 
-pub free-none :
+pub free_none :
     (S : Sizes) (t : List ℕ) → eqb (free_slot S t) S.slots ≡ true → (s : ℕ) → s < S.slots → T (live (txn t s))
-free-none S t e s i =
+free_none S t e s i =
     let z : free_slot S t ≡ S.slots = eqb-true (free_slot S t) S.slots e in
     free-before S t s i (omega arith)
 
 -- ---- the kind of a live transaction
 -- a query, relaxed or not
-pub is-query :
+pub is_query :
     (t : List ℕ) (s : ℕ) → T (live (txn t s)) → query_kind (txn t s).kind ≡ true → T (any_query (txn t s))
 unfolding any_query
-is-query t s a e = and_both (live (txn t s)) _ a (true_is e)
+is_query t s a e = and_both (live (txn t s)) _ a (true_is e)
 
 pub any-query-kind : (t : List ℕ) (s : ℕ) → T (any_query (txn t s)) → query_kind (txn t s).kind ≡ true
 unfolding any_query
 any-query-kind t s h = is_true (query_kind (txn t s).kind) (and_right (live (txn t s)) _ h)
 
-pub is-update :
+pub is_update :
     (S : Sizes) (G : Tables) → Good S G
     → (s : ℕ) → s < S.slots → T (live (txn G.txns s)) → query_kind (txn G.txns s).kind ≡ false
     → eqb (txn G.txns s).kind a_settled ≡ false → T (live_update (txn G.txns s))
 unfolding live_update query_kind
-is-update S G g s i a e f = and_both (live (txn G.txns s)) _ a (go (g.txn_good s i).kind_listed)
+is_update S G g s i a e f = and_both (live (txn G.txns s)) _ a (go (g.txn_good s i).kind_listed)
   where
     k : ℕ
     k = (txn G.txns s).kind
@@ -154,10 +154,10 @@ unfolding is_reader
 is_reader_lem t s a e = and_both (live (txn t s)) _ a (not_make (eqb (txn t s).kind an_update) (λ h. false_is e h))
 
 -- request E6
-pub is-settled :
+pub is_settled :
     (t : List ℕ) (s : ℕ) → T (live (txn t s)) → eqb (txn t s).kind a_settled ≡ true → T (live_settled (txn t s))
 unfolding live_settled
-is-settled t s a e = and_both (live (txn t s)) _ a (true_is e)
+is_settled t s a e = and_both (live (txn t s)) _ a (true_is e)
 
 pub settled-kind : (t : List ℕ) (s : ℕ) → T (live_settled (txn t s)) → (txn t s).kind ≡ a_settled
 settled-kind t s h = (settled-live (txn t s) h).1
@@ -176,10 +176,10 @@ pub update-alive : (t : List ℕ) (s : ℕ) → T (live_update (txn t s)) → T 
 update-alive t s h = (update-live (txn t s) h).0
 
 -- who reads is a query, past its writing, or a relaxed query
-pub reader-cases :
+pub reader_cases :
     (S : Sizes) (G : Tables) → Good S G → (s : ℕ) → s < S.slots → T (is_reader (txn G.txns s))
     → T (live_query (txn G.txns s)) ⊎ (T (live_settled (txn G.txns s)) ⊎ T (live_relaxed (txn G.txns s)))
-reader-cases S G g s i q = go (g.txn_good s i).kind_listed
+reader_cases S G g s i q = go (g.txn_good s i).kind_listed
   where
     r : Txn
     r = txn G.txns s
@@ -208,10 +208,10 @@ unfolding holds_back
 back-settled t l x s b h =
     and_left (live_settled (txn t b)) _ (and_right (holds_exclusive (lock l x) b) _ (and_right (not (eqb s b)) _ h))
 
-pub held-by-start :
+pub held_by_start :
     (S : Sizes) (G : Tables) → Good S G → (s : ℕ) → s < S.slots → T (is_reader (txn G.txns s)) → (x b : ℕ) → b < S.slots
     → T (holds_back G.txns G.locks x s b) → T (by_start (txn G.txns s))
-held-by-start S G g s i q x b j h = go (reader-cases S G g s i q)
+held_by_start S G g s i q x b j h = go (reader_cases S G g s i q)
   where
     go :
         T (live_query (txn G.txns s)) ⊎ (T (live_settled (txn G.txns s)) ⊎ T (live_relaxed (txn G.txns s)))

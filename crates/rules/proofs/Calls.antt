@@ -11,13 +11,13 @@ use Rattle.names.specs.Sizes.{last_word}
 use Rattle.rules.specs.Tables.{Tables, last_number, clock, txn, live_update, any_query, is_reader, query_kind, an_update, a_query, a_settled, a_relaxed, no_lock, shared_lock, exclusive_lock, some_settled}
 use Rattle.rules.specs.Tables.{slot_of, free_slot, lock, holds_exclusive, exclusives_of}
 use Rattle.rules.specs.Good.{Good}
-use Rattle.rules.specs.Locks.{to_read, toWrite}
+use Rattle.rules.specs.Locks.{to_read, to_write}
 use Rattle.rules.specs.Answers.{Call, BeginUpdate, BeginQuery, Read, Write, Commit, Abort, BeginRelaxed, says, granted, refuses, QuotaSpent}
 use Rattle.rules.specs.Step.{step, act, judged, done, meets_settled, begin_by, begun, read_by, write_by, commit_update, commit_by, abort_by, version_read, access, awaits_other, held_back, start_read, writes_past, writes_further}
 use Rattle.rules.specs.Step.{with_txns, read_noted, counted, committed, ended, aborted}
 use Rattle.rules.specs.Changed.{looked_at, chosen}
 use Rattle.rules.proofs.Steps.{acts}
-use Rattle.rules.proofs.Callers.{Caller, caller-found, is-query, any-query-kind, update-kind}
+use Rattle.rules.proofs.Callers.{Caller, caller-found, is_query, any-query-kind, update-kind}
 use Rattle.rules.proofs.RowKinds.{reader-live, any-query-reads, holder_no_query, update-holds}
 use Rattle.rules.proofs.Tests.{is_true, is_false}
 
@@ -60,13 +60,13 @@ module _ (S : Sizes) (G : Tables) (g : Good S G) where
     within = ne_eqb s S.slots (let i = C.inside in omega arith)
 
     -- ---- a query, or one past its writing, which reads what it does not hold and nobody holds back
-    pub version-reads :
+    pub version_reads :
         T (is_reader (txn G.txns s)) → (x : ℕ) → x < S.items → (T (holds_exclusive (lock G.locks x) s) → ⊥) → held_back S G.txns G.locks x s ≡ false
         → step S (Read n x) G
         ≡ says granted (chosen S G s x).value 0 (looked_at S G s x)
         (with_txns G (counted (read_noted G.txns G.locks s x) s (looked_at S G s x)))
     unfolding act judged done read_by start_read version_read awaits_other
-    version-reads reader x known other free =
+    version_reads reader x known other free =
         on_good (Read n x)
         ∙ rw (
           found,
@@ -99,7 +99,7 @@ module _ (S : Sizes) (G : Tables) (g : Good S G) where
       no_query : query_kind (txn G.txns s).kind ≡ false
       no_query =
           is_false (query_kind (txn G.txns s).kind)
-          (λ k. holder_no_query (txn G.txns s) (update-holds (txn G.txns s) update) (is-query G.txns s C.alive (is_true _ k)))
+          (λ k. holder_no_query (txn G.txns s) (update-holds (txn G.txns s) update) (is_query G.txns s C.alive (is_true _ k)))
 
       not_past : eqb (txn G.txns s).kind a_settled ≡ false
       not_past = ne_eqb (txn G.txns s).kind a_settled (λ e. let u = update-kind G.txns s update in omega arith)
@@ -116,7 +116,7 @@ module _ (S : Sizes) (G : Tables) (g : Good S G) where
 
       pub update-writes :
           (x v : ℕ) → x < S.items → awaits_other G.txns s exclusive_lock x ≡ false → writes_further S G.locks s x ≡ false
-          → step S (Write n x v) G ≡ done S (access S toWrite s x v G) G
+          → step S (Write n x v) G ≡ done S (access S to_write s x v G) G
       unfolding act judged done write_by writes_past
       update-writes x v known free room =
           on_good (Write n x v) ∙ rw (found, within, lt-leb S.items x known, no_query, free, not_past, room)

@@ -15,7 +15,7 @@ use Rattle.rules.specs.Tables.{holds_shared, holds_exclusive, holds, no_lock, Re
 use Rattle.rules.specs.Versions.{Version, no_version, versions_in, versions_of, stamp_at, hidden_now, sees, place}
 use Rattle.rules.specs.Good.{GoodReads, GoodNotes, GoodTxn, GoodLock, GoodVersions, GoodSettled, GoodSets, Good}
 use Rattle.rules.proofs.Tests.{or_cases, or_left, or_right}
-use Rattle.rules.proofs.Choice.{Falls, Nests, length-versions_in, older-seen}
+use Rattle.rules.proofs.Choice.{Falls, Nests, length-versions_in, older_seen}
 use Rattle.rules.proofs.Reading.{reads-newest}
 use Rattle.rules.proofs.EqualRows.{holder}
 
@@ -97,16 +97,16 @@ pub record NoMore (s : ℕ) (h h' : Lock) : Type 0 where
   pub shared : T (holds_shared h' s) → T (holds_shared h s)
   pub exclusive : T (holds_exclusive h' s) → T (holds_exclusive h s)
 
-pub no_more-holds : (s : ℕ) (h h' : Lock) → NoMore s h h' → T (holds h' s) → T (holds h s)
+pub no_more_holds : (s : ℕ) (h h' : Lock) → NoMore s h h' → T (holds h' s) → T (holds h s)
 unfolding holds
-no_more-holds s h h' n a = go (or_cases (holds_shared h' s) (holds_exclusive h' s) a)
+no_more_holds s h h' n a = go (or_cases (holds_shared h' s) (holds_exclusive h' s) a)
   where
     go : T (holds_shared h' s) ⊎ T (holds_exclusive h' s) → T (holds h s)
     go (inl b) = or_left (holds_shared h s) _ (n.shared b)
     go (inr b) = or_right (holds_shared h s) _ (n.exclusive b)
 
-pub no_more-same : (s : ℕ) {h h' : Lock} → h' ≡ h → NoMore s h h'
-no_more-same s e =
+pub no_more_same : (s : ℕ) {h h' : Lock} → h' ≡ h → NoMore s h h'
+no_more_same s e =
     record { shared = λ a. subst (λ (o : Lock). T (holds_shared o s)) e a; exclusive = λ a. subst (λ (o : Lock). T (holds_exclusive o s)) e a }
 
 -- a row of the same kind and with the same start reads in the same way
@@ -119,11 +119,11 @@ reads-alike t t' s e = reads_by t t' s (ap (λ (w : Txn). w.kind) e) (ap (λ (w 
 
 module _ (S : Sizes) (t t' : List ℕ) where
   -- a row: the last number and the clock did not fall, and what its slot holds of the item that it awaits did not grow
-  pub txn-carried :
+  pub txn_carried :
       (l l' : List ℕ) (s : ℕ) (r : Txn) → last_number t ≤ last_number t' → clock t ≤ clock t'
       → (r.awaited_lock ≢ no_lock → NoMore s (lock l r.awaited_item) (lock l' r.awaited_item))
       → GoodTxn S t l s r → GoodTxn S t' l' s r
-  txn-carried l l' s r a b n g =
+  txn_carried l l' s r a b n g =
       record {
         free = g.free;
         given = let c = g.given in omega arith;
@@ -139,15 +139,15 @@ module _ (S : Sizes) (t t' : List ℕ) where
         rank_unused = g.rank_unused;
         reads_good = g.reads_good;
         notes_good = g.notes_good;
-        awaits_shared = λ e h. g.awaits_shared e (no_more-holds s _ _ (n (λ z. absurd (omega arith))) h);
+        awaits_shared = λ e h. g.awaits_shared e (no_more_holds s _ _ (n (λ z. absurd (omega arith))) h);
         awaits_exclusive = λ e h. g.awaits_exclusive e ((n (λ z. absurd (omega arith))).exclusive h);
       }
 
   -- a lock: its holders live on
-  pub lock-carried :
+  pub lock_carried :
       (h : Lock) → ((s : ℕ) → T (holds_shared h s) → T (live_update (txn t s)) → T (live_update (txn t' s)))
       → ((s : ℕ) → T (holds_exclusive h s) → T (may_hold (txn t s)) → T (may_hold (txn t' s))) → GoodLock S t h → GoodLock S t' h
-  lock-carried h f e g =
+  lock_carried h f e g =
       record {
         sharers = λ s a. let b = g.sharers s a in (b.0, f s a b.1);
         excluders = λ s a. let b = g.excluders s a in (b.0, e s a b.1);
@@ -156,7 +156,7 @@ module _ (S : Sizes) (t t' : List ℕ) where
       }
 
   -- a row of versions: the clock did not fall, the readers live on and read as they did, and a new one may read the newest version
-  pub versions-carried :
+  pub versions_carried :
       (r : List ℕ) → clock t ≤ clock t'
       → ((s : ℕ) → s < S.slots → T (is_reader (txn t s)) → T (is_reader (txn t' s)) × (reader_in t' s ≡ reader_in t s))
       → ((s : ℕ) → s < S.slots → T (is_reader (txn t' s))
@@ -164,7 +164,7 @@ module _ (S : Sizes) (t t' : List ℕ) where
       → ((q : ℕ) → q < S.slots → T (live_relaxed (txn t q)) → T (live_relaxed (txn t' q)))
       → GoodVersions S t r → GoodVersions S t' r
   unfolding Falls Nests
-  versions-carried r up kept new relaxed g =
+  versions_carried r up kept new relaxed g =
       record {
         count_least = g.count_least;
         count_most = g.count_most;
@@ -189,7 +189,7 @@ module _ (S : Sizes) (t t' : List ℕ) where
 
       old : (s : ℕ) → s < S.slots → Same s ⊎ T (sees (reader_in t' s) (get_or vs 0 no_version)) → T (sees (reader_in t' s) (get_or vs (length vs - 1) no_version))
       old s i (inl e) = rw e.1 (g.last s i e.0)
-      old s i (inr b) = older-seen vs g.fall g.nest (reader_in t' s) 0 (length vs - 1) (omega arith) (let z = some in omega arith) b
+      old s i (inr b) = older_seen vs g.fall g.nest (reader_in t' s) 0 (length vs - 1) (omega arith) (let z = some in omega arith) b
 
       here : (k : ℕ) → ((s : ℕ) × (s < S.slots) × T (is_reader (txn t s)) × (place (reader_in t s) vs ≡ k)) → ((s : ℕ) × (s < S.slots) × T (is_reader (txn t' s)) × (place (reader_in t' s) vs ≡ k))
       here k (s, i, q, e) = let f = kept s i q in (s, i, f.0, ap (λ (p : Reader). place p vs) f.1 ∙ e)
@@ -203,18 +203,18 @@ module _ (S : Sizes) (t t' : List ℕ) where
       (r : List ℕ) → clock t' ≡ clock t → ((s : ℕ) → s < S.slots → is_reader (txn t' s) ≡ is_reader (txn t s)) → ((s : ℕ) → s < S.slots → reader_in t' s ≡ reader_in t s)
       → ((s : ℕ) → s < S.slots → live_relaxed (txn t' s) ≡ live_relaxed (txn t s)) → GoodVersions S t r → GoodVersions S t' r
   versions-same r c reads how relaxed g =
-      versions-carried r (omega arith) (λ s i h. (subst T (sym (reads s i)) h, how s i)) (λ s i h. inl (subst T (reads s i) h, how s i))
+      versions_carried r (omega arith) (λ s i h. (subst T (sym (reads s i)) h, how s i)) (λ s i h. inl (subst T (reads s i) h, how s i))
       (λ q i h. subst T (sym (relaxed q i)) h) g
 
 -- those past their writing: whoever is one was one, with the same stamp; it holds exclusively no more than it held, and of that the newest
 -- version is the same
-pub settled-carried :
+pub settled_carried :
     (S : Sizes) (G G' : Tables)
     → ((s : ℕ) → s < S.slots → T (live_settled (txn G'.txns s)) → T (live_settled (txn G.txns s)) × ((txn G'.txns s).start ≡ (txn G.txns s).start))
     → ((s x : ℕ) → s < S.slots → x < S.items → T (live_settled (txn G.txns s)) → T (holds_exclusive (lock G'.locks x) s)
     → T (holds_exclusive (lock G.locks x) s) × (stamp_at (versions_of S G'.versions x) 0 ≡ stamp_at (versions_of S G.versions x) 0))
     → GoodSettled S G → GoodSettled S G'
-settled-carried S G G' was held g =
+settled_carried S G G' was held g =
     record {
       apart = λ r s i j d a b e.
           let p = was r i a in
@@ -231,7 +231,7 @@ settled-carried S G G' was held g =
 
 -- request E11: no relaxed query beside one past its writing; those that there were live on; every slot is in the sets in which it was, has
 -- read no more, and holds no more than before, and of no item is the newest version hidden from more
-pub sets-carried :
+pub sets_carried :
     (S : Sizes) (G G' : Tables) → Good S G
     → ((r s : ℕ) → r < S.slots → s < S.slots → T (live_settled (txn G'.txns r)) → T (live_relaxed (txn G'.txns s)) → ⊥)
     → ((q : ℕ) → q < S.slots → T (live_relaxed (txn G.txns q)) → T (live_relaxed (txn G'.txns q)))
@@ -240,17 +240,17 @@ pub sets-carried :
     → ((s x : ℕ) → x < S.items → NoMore s (lock G.locks x) (lock G'.locks x))
     → ((x q : ℕ) → x < S.items → T (bit (hidden_now S G'.versions x) q) → T (bit (hidden_now S G.versions x) q))
     → GoodSets S G'
-sets-carried S G G' g apart stays sets reads held hid =
+sets_carried S G G' g apart stays sets reads held hid =
     record {
       apart = apart;
       of_relaxed = λ s q i b.
           let m = g.sets_good.of_relaxed s q i (subst (λ (w : ℕ). T (bit w q)) (sets s i) b) in
           (m.0, stays q m.0 m.1);
-      holdsRead = λ x s q i j e b.
+      holds_read = λ x s q i j e b.
           let o = (held s x i).exclusive e in
-          subst (λ (w : ℕ). T (bit w q)) (sym (sets s ((g.lock_good x i).excluders s o).0)) (g.sets_good.holdsRead x s q i j o (reads q x j b));
-      holdsHidden = λ x s q i h b.
-          let o = no_more-holds s _ _ (held s x i) h in
+          subst (λ (w : ℕ). T (bit w q)) (sym (sets s ((g.lock_good x i).excluders s o).0)) (g.sets_good.holds_read x s q i j o (reads q x j b));
+      holds_hidden = λ x s q i h b.
+          let o = no_more_holds s _ _ (held s x i) h in
           subst (λ (w : ℕ). T (bit w q)) (sym (sets s (holder S G.txns (lock G.locks x) (g.lock_good x i) s o).0))
-          (g.sets_good.holdsHidden x s q i o (hid x q i b));
+          (g.sets_good.holds_hidden x s q i o (hid x q i b));
     }

@@ -20,7 +20,7 @@ use Rattle.rules.specs.Good.{Good, GoodVersions}
 use Rattle.rules.specs.Step.{forgotten, committed_under, committed, settled_committed, ended, settled_aborted, with_new}
 use Rattle.rules.specs.Changed.{Committed, Ended, RelaxedEnded, SettledEnded}
 use Rattle.rules.proofs.Tests.{same?, is_true, is_false}
-use Rattle.rules.proofs.Rows.{rows-mapped}
+use Rattle.rules.proofs.Rows.{rows_mapped}
 use Rattle.rules.proofs.Views.{length-set_txn, outside-set_txn, txn-set_txn, txn-set_txn-other, txn-top}
 use Rattle.rules.proofs.RowKinds.{update-live, settled-live, update_no_reader}
 use Rattle.rules.proofs.Trim.{kept_fixed}
@@ -29,7 +29,7 @@ use Rattle.rules.proofs.Readers.{readers-same, same-reader, readers-lt}
 use Rattle.rules.proofs.Rewrites.{length-rewritten, row-rewritten, versions-rewritten}
 use Rattle.rules.proofs.EqualVersions.{Good→read}
 use Rattle.rules.proofs.Joined.{forgotten-length, forgotten-row, forgotten-word, forgotten_none}
-use Rattle.rules.proofs.RowBack.{rowOf-versionsIn, length-row, row_words}
+use Rattle.rules.proofs.RowBack.{row_of-versions_in, length-row, row_words}
 use Rattle.rules.proofs.Changes.{set_txn-changes, top-changes, release-changes}
 
 -- a free row is no reader
@@ -53,7 +53,7 @@ pub rewritten-same :
     → ((x : ℕ) → x < S.items → f x (versions_of S v x) ≡ h x (versions_of S v x)) → rewritten S qs f v ≡ rewritten S qs h v
 unfolding rewritten versions_of
 rewritten-same S qs f h v e same =
-    rows-mapped (version_row S) (λ x r. row_of S (kept qs (f x (versions_in S r)))) (λ x r. row_of S (kept qs (h x (versions_in S r)))) S.items 0 v v e e
+    rows_mapped (version_row S) (λ x r. row_of S (kept qs (f x (versions_in S r)))) (λ x r. row_of S (kept qs (h x (versions_in S r)))) S.items 0 v v e e
     (λ k i.
     subst
     (λ (y : ℕ). row_of S (kept qs (f y (versions_in S (row (version_row S) k v)))) ≡ row_of S (kept qs (h y (versions_in S (row (version_row S) k v)))))
@@ -118,10 +118,10 @@ module _ (S : Sizes) (G : Tables) (g : Good S G) (enough : S.slots ≤ S.places)
     unfolding versions_of
     reveals_nothing x i = revealed_none s (versions_in S (row (version_row S) x v)) (λ k b. strict ((g.versions_good x i).from_relaxed k s b).1)
 
-    pub strict-ended :
+    pub strict_ended :
         ended S s G ≡ tables (set_txn G.txns s no_txn) G.locks (rewritten S (readers S (set_txn G.txns s no_txn)) (λ x vs. vs) G.versions)
     unfolding ended
-    strict-ended =
+    strict_ended =
         ap (λ (w : List ℕ). tables (set_txn w s no_txn) G.locks (rewritten S (readers S (set_txn w s no_txn)) (λ x vs. revealed s vs) v)) forgets_nothing
         ∙ ap (tables (set_txn t s no_txn) G.locks)
         (rewritten-same S (readers S (set_txn t s no_txn)) (λ x vs. revealed s vs) (λ x vs. vs) v g.versions_exact reveals_nothing)
@@ -132,7 +132,7 @@ module _ (S : Sizes) (G : Tables) (g : Good S G) (enough : S.slots ≤ S.places)
     pub ended-changes : Ended S s G (ended S s G)
     unfolding versions_of
     ended-changes =
-        subst (Ended S s G) (sym strict-ended)
+        subst (Ended S s G) (sym strict_ended)
         (record {
           txns = set_txn-changes S t g.txns_exact s inside no_txn;
           locks = refl;
@@ -203,7 +203,7 @@ module _ (S : Sizes) (G : Tables) (g : Good S G) (enough : S.slots ≤ S.places)
         rows x known
         ∙ rw (is_false (holds_exclusive (lock l x) s) n)
         (ap (row_of S) (kept_fixed (readers S t) (versions_in S r) (Good→read S t r q))
-        ∙ rowOf-versionsIn S r (length-row (version_row S) x S.items v g.versions_exact known) q.count_most q.unused q.unhidden)
+        ∙ row_of-versions_in S r (length-row (version_row S) x S.items v g.versions_exact known) q.count_most q.unused q.unhidden)
 
     pub committed-changes : Committed S s G (committed S s G)
     unfolding committed committed_under with_new
@@ -220,12 +220,12 @@ module _ (S : Sizes) (G : Tables) (g : Good S G) (enough : S.slots ≤ S.places)
   settled-room : length (readers S (set_txn t s no_txn)) < S.places
   settled-room = let a = left-readers S t g.txns_exact s inside in omega arith
 
-  settled-end-changes :
+  settled_end_changes :
       (f : ℕ → List Version → List Version)
       → SettledEnded S s (λ x. f x (versions_of S v x)) G
       (tables (set_txn t s no_txn) (release S s G.locks) (rewritten S (readers S (set_txn t s no_txn)) f v))
   unfolding versions_of
-  settled-end-changes f =
+  settled_end_changes f =
       record {
         txns = set_txn-changes S t g.txns_exact s inside no_txn;
         locks = release-changes S s G.locks g.locks_exact;
@@ -242,7 +242,7 @@ module _ (S : Sizes) (G : Tables) (g : Good S G) (enough : S.slots ≤ S.places)
 
   pub settled-abort-changes : SettledEnded S s (λ x. versions_of S G.versions x) G (settled_aborted S s G)
   unfolding settled_aborted
-  settled-abort-changes = settled-end-changes (λ x vs. vs)
+  settled-abort-changes = settled_end_changes (λ x vs. vs)
 
   module _ (past : T (live_settled (txn G.txns s))) where
     -- it is in no set
@@ -255,7 +255,7 @@ module _ (S : Sizes) (G : Tables) (g : Good S G) (enough : S.slots ≤ S.places)
     unfolding settled_committed committed_under
     settled-commit-changes =
         subst (λ (w : ℕ). SettledEnded S s (λ x. with_new G.locks s (txn t s).start w x (versions_of S v x)) G (settled_committed S s G)) settled-alone
-        (settled-end-changes (with_new G.locks s (txn t s).start (txn t s).later_for))
+        (settled_end_changes (with_new G.locks s (txn t s).start (txn t s).later_for))
 
     pub settled-commit-versions :
         (x : ℕ) → x < S.items

@@ -166,10 +166,10 @@ cleared-same S t s e f p =
     ∙ set_awaited-same t s
 
 -- ---- locks
-pub setLock-changes :
+pub set_lock-changes :
     (S : Sizes) (l : List ℕ) → length l ≡ lock_words S → (x : ℕ) → x < S.items → (h : Lock) → LockChanged x h l (set_lock l x h)
 unfolding set_lock
-setLock-changes S l e x known h =
+set_lock-changes S l e x known h =
     record { size = length-set_lock l x h; here = lock-set_lock l x h S e known; others = out }
   where
     apart : (j : ℕ) → j ≢ 3 * x → j ≢ 3 * x + 1 → j ≢ 3 * x + 2 → get_or (set_lock l x h) j 0 ≡ get_or l j 0
@@ -238,7 +238,7 @@ module _ (S : Sizes) (G : Tables) (g : Good S G) (s : ℕ) (inside : s < S.slots
             (subst (λ (m : ℕ). AwaitedChanged S s no_lock 0 0 m (leaving u s) u (cleared S u s))
             (ap (λ (r : Txn). r.later_for) (joined_here G.txns s w S g.txns_exact inside))
             (cleared-changes S u (joined_length G.txns s w ∙ g.txns_exact) s inside));
-        locks = setLock-changes S G.locks g.locks_exact x known h;
+        locks = set_lock-changes S G.locks g.locks_exact x known h;
         versions = refl;
       }
 
@@ -254,12 +254,12 @@ module _ (S : Sizes) (G : Tables) (g : Good S G) (s : ℕ) (inside : s < S.slots
   -- ---- who holds an item and may call awaits nothing: its awaited lock would be the one that it has
   module _ (x : ℕ) (known : x < S.items) where
     -- a caller that passes test 6 awaits nothing or this very lock
-    awaits-this :
+    awaits_this :
         (k : ℕ) → awaits_other G.txns s k x ≡ false
         → ((txn G.txns s).awaited_lock ≢ no_lock → (txn G.txns s).awaited_lock ≡ k → (txn G.txns s).awaited_item ≡ x → ⊥)
         → cleared S G.txns s ≡ G.txns
     unfolding awaits_other
-    awaits-this k e n = go (same? m no_lock)
+    awaits_this k e n = go (same? m no_lock)
       where
         m : ℕ
         m = (txn G.txns s).awaited_lock
@@ -282,25 +282,25 @@ module _ (S : Sizes) (G : Tables) (g : Good S G) (s : ℕ) (inside : s < S.slots
 
     read-idle : T (holds (lock G.locks x) s) → awaits_other G.txns s shared_lock x ≡ false → cleared S G.txns s ≡ G.txns
     read-idle a e =
-        awaits-this shared_lock e
+        awaits_this shared_lock e
         (λ d q z. (g.txn_good s inside).awaits_shared q (subst (λ (y : ℕ). T (holds (lock G.locks y) s)) (sym z) a))
 
     write-idle : T (holds_exclusive (lock G.locks x) s) → awaits_other G.txns s exclusive_lock x ≡ false → cleared S G.txns s ≡ G.txns
     write-idle a e =
-        awaits-this exclusive_lock e
+        awaits_this exclusive_lock e
         (λ d q z. (g.txn_good s inside).awaits_exclusive q (subst (λ (y : ℕ). T (holds_exclusive (lock G.locks y) s)) (sym z) a))
 
     -- a granted read of an item that the caller holds leaves the very same tables
-    pub own-unchanged :
+    pub own_unchanged :
         T (holds (lock G.locks x) s) → awaits_other G.txns s shared_lock x ≡ false → with_txns G (cleared S G.txns s) ≡ G
-    own-unchanged a e = ap (with_txns G) (read-idle a e)
+    own_unchanged a e = ap (with_txns G) (read-idle a e)
 
     -- and a granted write of one that it holds exclusively writes the working value alone
-    pub replace-unchanged :
+    pub replace_unchanged :
         (v : ℕ) → T (holds_exclusive (lock G.locks x) s) → awaits_other G.txns s exclusive_lock x ≡ false
         → locked S s x (replaced (lock G.locks x) v) G ≡ with_locks G G.txns (set_lock G.locks x (replaced (lock G.locks x) v))
     unfolding locked
-    replace-unchanged v a e = ap (λ (t : List ℕ). with_locks G t (set_lock G.locks x (replaced h v))) (write-idle a e)
+    replace_unchanged v a e = ap (λ (t : List ℕ). with_locks G t (set_lock G.locks x (replaced h v))) (write-idle a e)
 
   -- ---- request E6: one past its writing awaits nothing
   module _ (past : T (live_settled (txn G.txns s))) where

@@ -161,14 +161,14 @@ Falls→falls (v ∷ w ∷ vs) f =
 unfoldable pub Nests : List Version → Type 0
 Nests vs = (i j : ℕ) → i < j → j < length vs → (q : ℕ) → T (bit (hidden_at vs j) q) → T (bit (hidden_at vs i) q)
 
-nests-head :
+nests_head :
     (v : Version) (vs : List Version) → T (nests (v ∷ vs)) → (j : ℕ) → j < length vs → (q : ℕ) → T (bit (hidden_at vs j) q) → T (bit v.hidden q)
 unfolding nests hidden_at
-nests-head v [] t j h q b = absurd (not-suc-le-zero h)
-nests-head v (w ∷ vs) t zero h q b = contains→ v.hidden w.hidden (and_left (contains v.hidden w.hidden) (nests (w ∷ vs)) t) q b
-nests-head v (w ∷ vs) t (suc j) h q b =
+nests_head v [] t j h q b = absurd (not-suc-le-zero h)
+nests_head v (w ∷ vs) t zero h q b = contains→ v.hidden w.hidden (and_left (contains v.hidden w.hidden) (nests (w ∷ vs)) t) q b
+nests_head v (w ∷ vs) t (suc j) h q b =
     contains→ v.hidden w.hidden (and_left (contains v.hidden w.hidden) (nests (w ∷ vs)) t) q
-    (nests-head w vs (and_right (contains v.hidden w.hidden) (nests (w ∷ vs)) t) j (le_of_suc-le-suc h) q b)
+    (nests_head w vs (and_right (contains v.hidden w.hidden) (nests (w ∷ vs)) t) j (le_of_suc-le-suc h) q b)
 
 pub nests_tail : (v : Version) (vs : List Version) → T (nests (v ∷ vs)) → T (nests vs)
 unfolding nests
@@ -179,7 +179,7 @@ pub nests→Nests : (vs : List Version) → T (nests vs) → Nests vs
 unfolding Nests hidden_at
 nests→Nests [] t i j l h q b = absurd (not-suc-le-zero h)
 nests→Nests (v ∷ vs) t i zero l h q b = absurd (not-suc-le-zero l)
-nests→Nests (v ∷ vs) t zero (suc j) l h q b = nests-head v vs t j (le_of_suc-le-suc h) q b
+nests→Nests (v ∷ vs) t zero (suc j) l h q b = nests_head v vs t j (le_of_suc-le-suc h) q b
 nests→Nests (v ∷ vs) t (suc i) (suc j) l h q b =
     nests→Nests vs (nests_tail v vs t) i j (le_of_suc-le-suc l) (le_of_suc-le-suc h) q b
 
@@ -193,11 +193,11 @@ Nests→nests (v ∷ w ∷ vs) f =
     (Nests→nests (w ∷ vs) (λ i j l h. f (suc i) (suc j) (omega arith) (omega arith)))
 
 -- ---- the one law of what a reader may read: who may read a version may read the older ones
-pub older-seen :
+pub older_seen :
     (vs : List Version) → Falls vs → Nests vs → (q : Reader) (i j : ℕ) → i ≤ j → j < length vs
     → T (sees q (get_or vs i no_version)) → T (sees q (get_or vs j no_version))
 unfolding Falls Nests stamp_at hidden_at sees
-older-seen vs f n q i j l h k = go q (eq-or-lt_of_le l) k
+older_seen vs f n q i j l h k = go q (eq-or-lt_of_le l) k
   where
     go : (q : Reader) → (i ≡ j) ⊎ (i < j) → T (sees q (get_or vs i no_version)) → T (sees q (get_or vs j no_version))
     go q (inl e) k = subst (λ (m : ℕ). T (sees q (get_or vs m no_version))) e k
@@ -270,9 +270,9 @@ place-least q (v ∷ vs) (suc k) h l = go (sees q v) (place-least q vs k (le_of_
     go false m = omega arith
 
 -- if the last version is, one is chosen
-pub place-exists :
+pub place_exists :
     (q : Reader) (vs : List Version) → 0 < length vs → T (sees q (get_or vs (length vs - 1) no_version)) → place q vs < length vs
-place-exists q vs h l = let a = place-least q vs (length vs - 1) (omega arith) l in omega arith
+place_exists q vs h l = let a = place-least q vs (length vs - 1) (omega arith) l in omega arith
 
 -- what a reader finds depends on what it may read of each version
 pub place_same :

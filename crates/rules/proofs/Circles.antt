@@ -11,7 +11,7 @@ use lib.Dec.{T}
 use Rattle.rules.specs.Words.{some_below, tabulate_from}
 use Rattle.rules.specs.Waits.{Walk, one, more, marked, spread, rounds, reached}
 use Rattle.rules.proofs.Tests.{and_left, and_right, and_both, or_cases, or_left, or_right}
-use Rattle.rules.proofs.Counts.{someBelow→, →someBelow}
+use Rattle.rules.proofs.Counts.{some_below→, →some_below}
 
 pub get_d_tabulate : {A : Type 0} (n i : ℕ) (f : ℕ → A) (d : A) (k : ℕ) → k < n → get_or (tabulate_from i n f) k d ≡ f (i + k)
 unfolding tabulate_from
@@ -67,14 +67,14 @@ grown_cons true false h g = absurd (h tt)
 grown_cons false true h g = new g
 grown_cons false false h g = kept g
 
-grown-tabulate :
+grown_tabulate :
     (m : List Bool) (i : ℕ) (f : ℕ → Bool) → ((k : ℕ) → T (get_or m k false) → T (f (i + k)))
     → Grown m (tabulate_from i (length m) f)
 unfolding tabulate_from
-grown-tabulate [] i f h = none
-grown-tabulate (b ∷ m) i f h =
+grown_tabulate [] i f h = none
+grown_tabulate (b ∷ m) i f h =
     grown_cons b (f i) (λ t. rw add-zero at (h 0 t))
-    (grown-tabulate m (suc i) f (λ k t. rw suc-add (rw add-suc at (h (suc k) t))))
+    (grown_tabulate m (suc i) f (λ k t. rw suc-add (rw add-suc at (h (suc k) t))))
 
 module _ (n : ℕ) (E : ℕ → ℕ → Bool) where
   -- b is marked, or a marked slot below n waits for it
@@ -93,7 +93,7 @@ module _ (n : ℕ) (E : ℕ → ℕ → Bool) where
   unfolding spread met marked
   grown-spread m e =
       subst (λ (k : ℕ). Grown m (tabulate_from 0 k (met m))) e
-      (grown-tabulate m 0 (met m) (λ k t. rw zero-add (or_left (marked m k) (some_below n (λ a. marked m a && E a k)) t)))
+      (grown_tabulate m 0 (met m) (λ k t. rw zero-add (or_left (marked m k) (some_below n (λ a. marked m a && E a k)) t)))
 
   -- where no slot is left to mark, further rounds mark none
   stays : (k : ℕ) (m : List Bool) → spread n E m ≡ m → rounds n E k m ≡ m
@@ -146,7 +146,7 @@ module _ (n : ℕ) (E : ℕ → ℕ → Bool) where
       go : T (marked m b) ⊎ T (some_below n (λ a. marked m a && E a b)) → Walk E a b
       go (inl u) = s b h u
       go (inr u) =
-          let r = someBelow→ n (λ a. marked m a && E a b) u in
+          let r = some_below→ n (λ a. marked m a && E a b) u in
           more (s r.0 r.1 (and_left (marked m r.0) (E r.0 b) r.2)) (and_right (marked m r.0) (E r.0 b) r.2)
 
   sound-rounds :
@@ -177,5 +177,5 @@ module _ (n : ℕ) (E : ℕ → ℕ → Bool) where
         subst (λ (m : List Bool). T (marked m c)) (reached_stable a)
         (subst T (sym (spread_at (reached n E a) c (within b c e)))
         (or_right (marked (reached n E a) c) (some_below n (λ x. marked (reached n E a) x && E x c))
-        (→someBelow n (λ x. marked (reached n E a) x && E x c) b (walk_within w)
+        (→some_below n (λ x. marked (reached n E a) x && E x c) b (walk_within w)
         (and_both (marked (reached n E a) b) (E b c) (walk→reached w) e))))

@@ -22,7 +22,7 @@ use Rattle.rules.specs.Changed.{ReadsChanged, Counted}
 use Rattle.rules.proofs.Tests.{same?, true_is, and_both}
 use Rattle.rules.proofs.Views.{reading, set_txn-same, set_reads-row, length-set_txn, last_number-set_txn, clock-set_txn, txn-set_txn, txn-set_txn-other}
 use Rattle.rules.proofs.RowKinds.{live-number, query-live, settled-live, relaxed-live, holder_live, holder_no_query}
-use Rattle.rules.proofs.Carried.{no_more-same, same_notes, sets-carried}
+use Rattle.rules.proofs.Carried.{no_more_same, same_notes, sets_carried}
 use Rattle.rules.proofs.Notes.{Beside, written-beside, relaxed-beside, apart-beside, beside-good}
 
 -- ---- a number held at the last word
@@ -205,12 +205,12 @@ module _ (S : Sizes) (G : Tables) (g : Good S G) (s : ℕ) (inside : s < S.slots
   pub counted-good : Good S (with_txns G (counted G.txns s k))
   counted-good =
       beside-good S G g t' (counted-length t s k ∙ g.txns_exact) (counted-last t s k) (counted-clock t s k) beside free reads notes
-      (sets-carried S G (with_txns G t') g
+      (sets_carried S G (with_txns G t') g
       (apart-beside S G g t' (counted-length t s k ∙ g.txns_exact) (counted-last t s k) (counted-clock t s k) beside)
       (λ q i h. subst T (sym (relaxed-beside S G g t' (counted-length t s k ∙ g.txns_exact) (counted-last t s k) (counted-clock t s k) beside q)) h)
       (λ r i. same (λ (r : Txn). r.later_for) (λ r n w. refl) r)
       (λ q x i b. subst (λ (w : ℕ). T (bit w x)) (same (λ (r : Txn). r.items_read) (λ r n w. refl) q) b)
-      (λ r x i. no_more-same r refl) (λ x q i b. b))
+      (λ r x i. no_more_same r refl) (λ x q i b. b))
 
   -- a query's read, told as the words that it changes; and that of one past its writing, which changes none
   pub query-counted : T (live_query (txn G.txns s)) → Counted s k G (with_txns G (counted G.txns s k))

@@ -21,34 +21,34 @@ split-le i n h = go (ltb i n) refl
     go false e = inr (let k : n ≤ i = ltb-false i n e in omega arith)
 
 -- ---- below n
-pub everyBelow→ : (n : ℕ) (p : ℕ → Bool) → T (every_below n p) → (i : ℕ) → i < n → T (p i)
+pub every_below→ : (n : ℕ) (p : ℕ → Bool) → T (every_below n p) → (i : ℕ) → i < n → T (p i)
 unfolding every_below
-everyBelow→ zero p h i l = absurd (not-suc-le-zero l)
-everyBelow→ (suc n) p h i l = go (λ k. everyBelow→ n p (and_right (p n) (every_below n p) h) i k) (split-le i n l)
+every_below→ zero p h i l = absurd (not-suc-le-zero l)
+every_below→ (suc n) p h i l = go (λ k. every_below→ n p (and_right (p n) (every_below n p) h) i k) (split-le i n l)
   where
     go : (i < n → T (p i)) → (i < n) ⊎ (i ≡ n) → T (p i)
     go f (inl k) = f k
     go f (inr e) = subst (λ (m : ℕ). T (p m)) (sym e) (and_left (p n) (every_below n p) h)
 
-pub →everyBelow : (n : ℕ) (p : ℕ → Bool) → ((i : ℕ) → i < n → T (p i)) → T (every_below n p)
+pub →every_below : (n : ℕ) (p : ℕ → Bool) → ((i : ℕ) → i < n → T (p i)) → T (every_below n p)
 unfolding every_below
-→everyBelow zero p h = tt
-→everyBelow (suc n) p h =
-    and_both (p n) (every_below n p) (h n (omega arith)) (→everyBelow n p (λ i l. h i (omega arith)))
+→every_below zero p h = tt
+→every_below (suc n) p h =
+    and_both (p n) (every_below n p) (h n (omega arith)) (→every_below n p (λ i l. h i (omega arith)))
 
-pub someBelow→ : (n : ℕ) (p : ℕ → Bool) → T (some_below n p) → (i : ℕ) × (i < n) × T (p i)
+pub some_below→ : (n : ℕ) (p : ℕ → Bool) → T (some_below n p) → (i : ℕ) × (i < n) × T (p i)
 unfolding some_below
-someBelow→ zero p h = absurd h
-someBelow→ (suc n) p h = go (λ k. someBelow→ n p k) (or_cases (p n) (some_below n p) h)
+some_below→ zero p h = absurd h
+some_below→ (suc n) p h = go (λ k. some_below→ n p k) (or_cases (p n) (some_below n p) h)
   where
     go : (T (some_below n p) → (i : ℕ) × (i < n) × T (p i)) → T (p n) ⊎ T (some_below n p) → (i : ℕ) × (i < suc n) × T (p i)
     go f (inl t) = (n, omega arith, t)
     go f (inr t) = let r = f t in (r.0, (let k = r.1 in omega arith), r.2)
 
-pub →someBelow : (n : ℕ) (p : ℕ → Bool) (i : ℕ) → i < n → T (p i) → T (some_below n p)
+pub →some_below : (n : ℕ) (p : ℕ → Bool) (i : ℕ) → i < n → T (p i) → T (some_below n p)
 unfolding some_below
-→someBelow zero p i l t = absurd (not-suc-le-zero l)
-→someBelow (suc n) p i l t = go (λ k. →someBelow n p i k t) (split-le i n l)
+→some_below zero p i l t = absurd (not-suc-le-zero l)
+→some_below (suc n) p i l t = go (λ k. →some_below n p i k t) (split-le i n l)
   where
     go : (i < n → T (some_below n p)) → (i < n) ⊎ (i ≡ n) → T (some_below (suc n) p)
     go f (inl k) = or_right (p n) (some_below n p) (f k)
@@ -83,10 +83,10 @@ count-le (suc n) p = go (p n) (count-le n p)
     go false h = omega arith
 
 -- where fewer pass
-pub count-fewer : (n : ℕ) (p q : ℕ → Bool) → ((i : ℕ) → i < n → T (p i) → T (q i)) → count_below n p ≤ count_below n q
+pub count_fewer : (n : ℕ) (p q : ℕ → Bool) → ((i : ℕ) → i < n → T (p i) → T (q i)) → count_below n p ≤ count_below n q
 unfolding count_below
-count-fewer zero p q f = omega arith
-count-fewer (suc n) p q f = go (p n) (q n) (f n (omega arith)) (count-fewer n p q (λ i l. f i (omega arith)))
+count_fewer zero p q f = omega arith
+count_fewer (suc n) p q f = go (p n) (q n) (f n (omega arith)) (count_fewer n p q (λ i l. f i (omega arith)))
   where
     go : (a b : Bool) → (T a → T b) → count_below n p ≤ count_below n q → cond a (suc (count_below n p)) (count_below n p) ≤ cond b (suc (count_below n q)) (count_below n q)
     go true true h k = omega arith
@@ -95,11 +95,11 @@ count-fewer (suc n) p q f = go (p n) (q n) (f n (omega arith)) (count-fewer n p 
     go false false h k = k
 
 -- where all that pass but perhaps x passed before
-pub count-one-more :
+pub count_one_more :
     (n : ℕ) (p q : ℕ → Bool) (x : ℕ) → ((i : ℕ) → i < n → i ≢ x → T (p i) → T (q i)) → count_below n p ≤ suc (count_below n q)
 unfolding count_below
-count-one-more zero p q x f = omega arith
-count-one-more (suc n) p q x f = go (count-one-more n p q x (λ i l. f i (omega arith))) (same? n x)
+count_one_more zero p q x f = omega arith
+count_one_more (suc n) p q x f = go (count_one_more n p q x (λ i l. f i (omega arith))) (same? n x)
   where
     step : (a b : Bool) → (T a → T b) → count_below n p ≤ suc (count_below n q) → cond a (suc (count_below n p)) (count_below n p) ≤ suc (cond b (suc (count_below n q)) (count_below n q))
     step true true h k = omega arith
@@ -114,7 +114,7 @@ count-one-more (suc n) p q x f = go (count-one-more n p q x (λ i l. f i (omega 
     last false false k = omega arith
 
     go : count_below n p ≤ suc (count_below n q) → (n ≡ x) ⊎ (n ≢ x) → count_below (suc n) p ≤ suc (count_below (suc n) q)
-    go k (inl e) = last (p n) (q n) (count-fewer n p q (λ i l. f i (omega arith) (λ z. omega arith)))
+    go k (inl e) = last (p n) (q n) (count_fewer n p q (λ i l. f i (omega arith) (λ z. omega arith)))
     go k (inr d) = step (p n) (q n) (f n (omega arith) d) k
 
 pub count_none : (n : ℕ) (p : ℕ → Bool) → ((i : ℕ) → i < n → T (p i) → ⊥) → count_below n p ≡ 0
@@ -142,8 +142,8 @@ pub count_some : (n : ℕ) (p : ℕ → Bool) → count_below n p ≢ 0 → (i :
 count_some n p d = go (some_below n p) refl
   where
     go : (c : Bool) → some_below n p ≡ c → (i : ℕ) × (i < n) × T (p i)
-    go true f = someBelow→ n p (true_is f)
-    go false f = absurd (d (count_none n p (λ i b h. subst T f (→someBelow n p i b h))))
+    go true f = some_below→ n p (true_is f)
+    go false f = absurd (d (count_none n p (λ i b h. subst T f (→some_below n p i b h))))
 
 -- ---- the lowest that passes
 pub first-le : (p : ℕ → Bool) (s n : ℕ) → first_from p s n ≤ s + n

@@ -14,9 +14,9 @@ use Rattle.rules.specs.Conditions.{Circle}
 use Rattle.rules.proofs.EqualRows.{holder}
 use Rattle.rules.proofs.Tests.{true_is, false_is, same?}
 use Rattle.rules.proofs.Views.{awaiting}
-use Rattle.rules.proofs.EqualRanks.{awaits→, →awaits, awaitsOn→, →awaitsOn, waiter_inside}
+use Rattle.rules.proofs.EqualRanks.{awaits→, →awaits, awaits_on→, →awaits_on, waiter_inside}
 use Rattle.rules.proofs.Walks.{walk_map, circle_through, sink, circle→walk, walk→circle, waits-for→, →waits-for, ahead→}
-use Rattle.rules.proofs.Joins.{come-ahead}
+use Rattle.rules.proofs.Joins.{come_ahead}
 use Rattle.rules.proofs.Noting.{noted-known, noted-length, noted_there, noted_here, rank-least, rank_most}
 
 module _ (S : Sizes) (G : Tables) (g : Good S G) (s k x : ℕ) (inside : s < S.slots) (known : x < S.items) (some : k ≢ no_lock) where
@@ -90,11 +90,11 @@ module _ (S : Sizes) (G : Tables) (g : Good S G) (s k x : ℕ) (inside : s < S.s
             (inl (subst (λ (m : ℕ). T (conflicts (lock l y) m b)) kind (subst (λ (z : ℕ). T (conflicts (lock l z) (txn t' a).awaited_lock b)) item c)))
         go (inr c) =
             let c' = subst (λ (m : ℕ). T (ahead y m (txn t' a).rank (txn t' b))) kind (subst (λ (z : ℕ). T (ahead z (txn t' a).awaited_lock (txn t' a).rank (txn t' b))) item c) in
-            let n = waiter_inside S t' size b (awaits→ (txn t' b) (awaitsOn→ y (txn t' b) (ahead→ y j (txn t' a).rank (txn t' b) c').0).0) in
+            let n = waiter_inside S t' size b (awaits→ (txn t' b) (awaits_on→ y (txn t' b) (ahead→ y j (txn t' a).rank (txn t' b) c').0).0) in
             →waits-for t l a b waits v.1
-            (inr (come-ahead S t t' l s x (rank_for S t l s x) inside there idle (→awaits (txn t' s) (λ e. some (sym (ap (λ (w : Txn). w.awaited_lock) here) ∙ e)))
+            (inr (come_ahead S t t' l s x (rank_for S t l s x) inside there idle (→awaits (txn t' s) (λ e. some (sym (ap (λ (w : Txn). w.awaited_lock) here) ∙ e)))
             (ap (λ (w : Txn). w.awaited_item) here) (ap (λ (w : Txn). w.rank) here) g.ranks_good (rank-least S t l s x new) (rank_most S t l s x new)
-            y j a b i n d f (→awaitsOn y (txn t a) (→awaits (txn t a) waits) refl) c'))
+            y j a b i n d f (→awaits_on y (txn t a) (→awaits (txn t a) waits) refl) c'))
 
     pub new_no_circle : (T (awaits (txn t s)) → ⊥) → (Circle S G s k x → ⊥) → (a : ℕ) → Walk (waits_for t' l) a a → ⊥
     new_no_circle idle f a w = go (circle_through (waits_for t l) (waits_for t' l) s (same idle) w)
@@ -120,14 +120,14 @@ module _ (S : Sizes) (G : Tables) (g : Good S G) where
   repeated s k x h w = g.no_circle s (subst (λ (u : List ℕ). Walk (waits_for u G.locks) s s) (noted-known S G.txns G.locks s k x h) w)
 
   -- a grant: slot s awaits nothing afterwards, and every link that is new leads to s
-  pub grant-no-circle :
+  pub grant_no_circle :
       (s : ℕ) (t' l' : List ℕ) → ((b : ℕ) → T (waits_for t' l' s b) → ⊥)
       → ((a b : ℕ) → b ≢ s → T (waits_for t' l' a b) → T (waits_for G.txns G.locks a b))
       → (a : ℕ) → Walk (waits_for t' l') a a → ⊥
-  grant-no-circle s t' l' stop sub a w = g.no_circle a (sink (waits_for G.txns G.locks) (waits_for t' l') s stop sub w)
+  grant_no_circle s t' l' stop sub a w = g.no_circle a (sink (waits_for G.txns G.locks) (waits_for t' l') s stop sub w)
 
   -- no new link
-  pub fewer-no-circle :
+  pub fewer_no_circle :
       (t' l' : List ℕ) → ((a b : ℕ) → T (waits_for t' l' a b) → T (waits_for G.txns G.locks a b))
       → (a : ℕ) → Walk (waits_for t' l') a a → ⊥
-  fewer-no-circle t' l' sub a w = g.no_circle a (walk_map sub w)
+  fewer_no_circle t' l' sub a w = g.no_circle a (walk_map sub w)

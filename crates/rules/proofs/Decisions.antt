@@ -11,7 +11,7 @@ use Rattle.rules.specs.Words.{bit, without_bit}
 use Rattle.rules.specs.Tables.{Tables, txn, Lock, lock, holds, holds_shared, holds_exclusive, no_lock, shared_lock, exclusive_lock}
 use Rattle.rules.specs.Waits.{rank_for, conflicts, ahead, blocks, blocked}
 use Rattle.rules.specs.Good.{Good}
-use Rattle.rules.specs.Locks.{Asked, to_read, toWrite, wanted, exclusively, sharing, nothing, held_by, decide, decision}
+use Rattle.rules.specs.Locks.{Asked, to_read, to_write, wanted, exclusively, sharing, nothing, held_by, decide, decision}
 use Rattle.rules.specs.Locks.{Cell, OwnValue, ReplaceValue, NewestValue, ExchangeLock, TakeShared, TakeExclusive, Conflict}
 use Rattle.rules.specs.Locks.{another_shares, another_excludes, another_ahead}
 use Rattle.rules.specs.Answers.{granted}
@@ -19,14 +19,14 @@ use Rattle.rules.specs.Step.{cell_deed, conflicted, access, done}
 use Rattle.rules.specs.Conditions.{NeedsLock}
 use Rattle.rules.proofs.EqualRows.{holder}
 use Rattle.rules.proofs.Tests.{and_left, and_right, and_both, or_cases, or_left, or_right, true_is, false_is, ne_make, ne_use, eq_make, is_false, same?}
-use Rattle.rules.proofs.Counts.{someBelow→, →someBelow}
+use Rattle.rules.proofs.Counts.{some_below→, →some_below}
 use Rattle.rules.proofs.Walks.{blocks→, →blocks}
 use Rattle.rules.proofs.Bits.{bit_none, no_bits, without_bit_here, without_bit_there}
 
 -- a wanted lock is a lock
 pub wanted-lock : (a : Asked) → wanted a ≢ no_lock
 wanted-lock to_read e = omega arith
-wanted-lock toWrite e = omega arith
+wanted-lock to_write e = omega arith
 
 -- ---- who is in the way of a request by slot s, at the rank that it has
 abbrev pub blocked_for : Sizes → List ℕ → List ℕ → ℕ → ℕ → ℕ → Bool
@@ -36,7 +36,7 @@ pub blocked-other :
     (S : Sizes) (t l : List ℕ) (k x s : ℕ) → T (blocked_for S t l k x s) ↔ ((b : ℕ) × (b < S.slots) × T (blocks t l k x (rank_for S t l s x) s b))
 unfolding blocked
 blocked-other S t l k x s =
-    (someBelow→ S.slots (blocks t l k x (rank_for S t l s x) s), λ r. →someBelow S.slots (blocks t l k x (rank_for S t l s x) s) r.0 r.1 r.2)
+    (some_below→ S.slots (blocks t l k x (rank_for S t l s x) s), λ r. →some_below S.slots (blocks t l k x (rank_for S t l s x) s) r.0 r.1 r.2)
 
 -- the two ways to hold in conflict
 pub conflicts_cases : (h : Lock) (k b : ℕ) → T (conflicts h k b) → T (holds_exclusive h b) ⊎ ((k ≡ exclusive_lock) × T (holds_shared h b))
@@ -53,7 +53,7 @@ conflicts_cases h k b t = go (or_cases (holds_exclusive h b) (eqb k exclusive_lo
 -- what the table asks of the others, for a call to read and for a call to write
 unfoldable against : Asked → Bool → Bool → Bool → Bool
 against to_read shares excludes earlier = excludes || earlier
-against toWrite shares excludes earlier = shares || (excludes || earlier)
+against to_write shares excludes earlier = shares || (excludes || earlier)
 
 module _ (S : Sizes) (t l : List ℕ) (x s : ℕ) where
   abbrev o : Lock
@@ -62,34 +62,34 @@ module _ (S : Sizes) (t l : List ℕ) (x s : ℕ) where
   another_shares_lem : (b : ℕ) → b < S.slots → s ≢ b → T (holds_shared (lock l x) b) → T (another_shares S (lock l x) s)
   unfolding another_shares
   another_shares_lem b i d h =
-      →someBelow S.slots (λ b. not (eqb s b) && holds_shared o b) b i (and_both (not (eqb s b)) _ (ne_make s b d) h)
+      →some_below S.slots (λ b. not (eqb s b) && holds_shared o b) b i (and_both (not (eqb s b)) _ (ne_make s b d) h)
 
   another_excludes_lem : (b : ℕ) → b < S.slots → s ≢ b → T (holds_exclusive (lock l x) b) → T (another_excludes S (lock l x) s)
   unfolding another_excludes
   another_excludes_lem b i d h =
-      →someBelow S.slots (λ b. not (eqb s b) && holds_exclusive o b) b i (and_both (not (eqb s b)) _ (ne_make s b d) h)
+      →some_below S.slots (λ b. not (eqb s b) && holds_exclusive o b) b i (and_both (not (eqb s b)) _ (ne_make s b d) h)
 
   another_ahead_lem : (k b : ℕ) → b < S.slots → s ≢ b → T (ahead x k (rank_for S t l s x) (txn t b)) → T (another_ahead S t l k x s)
   unfolding another_ahead
   another_ahead_lem k b i d h =
-      →someBelow S.slots (λ b. not (eqb s b) && ahead x k (rank_for S t l s x) (txn t b)) b i (and_both (not (eqb s b)) _ (ne_make s b d) h)
+      →some_below S.slots (λ b. not (eqb s b) && ahead x k (rank_for S t l s x) (txn t b)) b i (and_both (not (eqb s b)) _ (ne_make s b d) h)
 
   shares_another : T (another_shares S (lock l x) s) → (b : ℕ) × (b < S.slots) × (s ≢ b) × T (holds_shared (lock l x) b)
   unfolding another_shares
   shares_another h =
-      let r = someBelow→ S.slots (λ b. not (eqb s b) && holds_shared o b) h in
+      let r = some_below→ S.slots (λ b. not (eqb s b) && holds_shared o b) h in
       (r.0, r.1, ne_use s r.0 (and_left (not (eqb s r.0)) _ r.2), and_right (not (eqb s r.0)) _ r.2)
 
   excludes_another : T (another_excludes S (lock l x) s) → (b : ℕ) × (b < S.slots) × (s ≢ b) × T (holds_exclusive (lock l x) b)
   unfolding another_excludes
   excludes_another h =
-      let r = someBelow→ S.slots (λ b. not (eqb s b) && holds_exclusive o b) h in
+      let r = some_below→ S.slots (λ b. not (eqb s b) && holds_exclusive o b) h in
       (r.0, r.1, ne_use s r.0 (and_left (not (eqb s r.0)) _ r.2), and_right (not (eqb s r.0)) _ r.2)
 
   ahead_another : (k : ℕ) → T (another_ahead S t l k x s) → (b : ℕ) × (b < S.slots) × (s ≢ b) × T (ahead x k (rank_for S t l s x) (txn t b))
   unfolding another_ahead
   ahead_another k h =
-      let r = someBelow→ S.slots (λ b. not (eqb s b) && ahead x k (rank_for S t l s x) (txn t b)) h in
+      let r = some_below→ S.slots (λ b. not (eqb s b) && ahead x k (rank_for S t l s x) (txn t b)) h in
       (r.0, r.1, ne_use s r.0 (and_left (not (eqb s r.0)) _ r.2), and_right (not (eqb s r.0)) _ r.2)
 
   blocked_against : (a : Asked) → T (blocked_for S t l (wanted a) x s) → T (against a (another_shares S (lock l x) s) (another_excludes S (lock l x) s) (another_ahead S t l (wanted a) x s))
@@ -104,16 +104,16 @@ module _ (S : Sizes) (t l : List ℕ) (x s : ℕ) where
               (a : Asked) (b : ℕ) → b < S.slots → (s ≢ b) × (T (conflicts o (wanted a) b) ⊎ T (ahead x (wanted a) (rank_for S t l s x) (txn t b)))
               → T (against a (another_shares S o s) (another_excludes S o s) (another_ahead S t l (wanted a) x s))
           pick to_read b i (d, inr c) = unfold against in or_right (another_excludes S o s) _ (another_ahead_lem shared_lock b i d c)
-          pick toWrite b i (d, inr c) =
+          pick to_write b i (d, inr c) =
               unfold against in or_right (another_shares S o s) _ (or_right (another_excludes S o s) _ (another_ahead_lem exclusive_lock b i d c))
           pick to_read b i (d, inl c) = held (conflicts_cases o shared_lock b c)
             where
               held : T (holds_exclusive o b) ⊎ ((shared_lock ≡ exclusive_lock) × T (holds_shared o b)) → T (against to_read (another_shares S o s) (another_excludes S o s) (another_ahead S t l shared_lock x s))
               held (inl e) = unfold against in or_left (another_excludes S o s) _ (another_excludes_lem b i d e)
               held (inr e) = absurd (let q = e.0 in omega arith)
-          pick toWrite b i (d, inl c) = held (conflicts_cases o exclusive_lock b c)
+          pick to_write b i (d, inl c) = held (conflicts_cases o exclusive_lock b c)
             where
-              held : T (holds_exclusive o b) ⊎ ((exclusive_lock ≡ exclusive_lock) × T (holds_shared o b)) → T (against toWrite (another_shares S o s) (another_excludes S o s) (another_ahead S t l exclusive_lock x s))
+              held : T (holds_exclusive o b) ⊎ ((exclusive_lock ≡ exclusive_lock) × T (holds_shared o b)) → T (against to_write (another_shares S o s) (another_excludes S o s) (another_ahead S t l exclusive_lock x s))
               held (inl e) = unfold against in or_right (another_shares S o s) _ (or_left (another_excludes S o s) _ (another_excludes_lem b i d e))
               held (inr e) = unfold against in or_left (another_shares S o s) _ (another_shares_lem b i d e.1)
 
@@ -157,11 +157,11 @@ never_both_lem S G g x i a b e f = go (g.lock_good x i).never_both
     go (inl z) = subst T (bit_none b) (subst (λ (w : ℕ). T (bit w b)) z f)
     go (inr z) = let p : h.exclusive ≡ suc a = eqb→eq h.exclusive (suc a) e in omega arith
 
-pub holder-alone :
+pub holder_alone :
     (S : Sizes) (G : Tables) → Good S G
     → (x : ℕ) → x < S.items → (a b : ℕ) → T (holds_exclusive (lock G.locks x) a) → T (holds (lock G.locks x) b) → a ≡ b
 unfolding holds
-holder-alone S G g x i a b e f = go (or_cases (holds_shared (lock G.locks x) b) (holds_exclusive (lock G.locks x) b) f)
+holder_alone S G g x i a b e f = go (or_cases (holds_shared (lock G.locks x) b) (holds_exclusive (lock G.locks x) b) f)
   where
     go : T (holds_shared (lock G.locks x) b) ⊎ T (holds_exclusive (lock G.locks x) b) → a ≡ b
     go (inl t) = absurd (never_both_lem S G g x i a b e t)
@@ -184,13 +184,13 @@ grants? t e = subst (λ (d : Cell). T (grants d)) e t
 -- ---- the six cells: what each says of the caller's holding and of the others. d is what is decided for slot s that asks a
 pub data CellIs (S : Sizes) (t l : List ℕ) (x s : ℕ) : Asked → Cell → Type 0 where
   own_cell : T (holds_exclusive (lock l x) s) → CellIs S t l x s to_read OwnValue
-  replace_cell : T (holds_exclusive (lock l x) s) → CellIs S t l x s toWrite ReplaceValue
+  replace_cell : T (holds_exclusive (lock l x) s) → CellIs S t l x s to_write ReplaceValue
   newest_cell : T (holds_shared (lock l x) s) → CellIs S t l x s to_read NewestValue
-  exchange_cell : T (holds_shared (lock l x) s) → (T (blocked_for S t l exclusive_lock x s) → ⊥) → CellIs S t l x s toWrite ExchangeLock
+  exchange_cell : T (holds_shared (lock l x) s) → (T (blocked_for S t l exclusive_lock x s) → ⊥) → CellIs S t l x s to_write ExchangeLock
   share_cell : (T (holds (lock l x) s) → ⊥) → (T (blocked_for S t l shared_lock x s) → ⊥) → CellIs S t l x s to_read TakeShared
-  exclude_cell : (T (holds (lock l x) s) → ⊥) → (T (blocked_for S t l exclusive_lock x s) → ⊥) → CellIs S t l x s toWrite TakeExclusive
+  exclude_cell : (T (holds (lock l x) s) → ⊥) → (T (blocked_for S t l exclusive_lock x s) → ⊥) → CellIs S t l x s to_write TakeExclusive
   read_conflict : (T (holds (lock l x) s) → ⊥) → T (blocked_for S t l shared_lock x s) → CellIs S t l x s to_read Conflict
-  write_conflict : (T (holds_exclusive (lock l x) s) → ⊥) → T (blocked_for S t l exclusive_lock x s) → CellIs S t l x s toWrite Conflict
+  write_conflict : (T (holds_exclusive (lock l x) s) → ⊥) → T (blocked_for S t l exclusive_lock x s) → CellIs S t l x s to_write Conflict
 
 module _ (S : Sizes) (G : Tables) (g : Good S G) (x : ℕ) (known : x < S.items) (s : ℕ) where
   abbrev t : List ℕ
@@ -224,25 +224,25 @@ module _ (S : Sizes) (G : Tables) (g : Good S G) (x : ℕ) (known : x < S.items)
       unwritten k m n u =
           unfold against in
           ⊎_elim k (λ v. ⊎_elim m n (or_cases (another_excludes S h s) (another_ahead S t l exclusive_lock x s) v))
-          (or_cases (another_shares S h s) _ (blocked_against S t l x s toWrite u))
+          (or_cases (another_shares S h s) _ (blocked_against S t l x s to_write u))
 
       go :
           (a : Asked) (e w o p q : Bool) → holds_exclusive h s ≡ e → holds_shared h s ≡ w → another_shares S h s ≡ o
           → another_excludes S h s ≡ p → another_ahead S t l (wanted a) x s ≡ q
           → CellIs S t l x s a (decide a (cond e exclusively (cond w sharing nothing)) o p q)
       go to_read true w o p q e f m n k = own_cell (true_is e)
-      go toWrite true w o p q e f m n k = replace_cell (true_is e)
+      go to_write true w o p q e f m n k = replace_cell (true_is e)
       go to_read false true o p q e f m n k = newest_cell (true_is f)
-      go toWrite false true true p q e f m n k = write_conflict (false_is e) (shares-blocked S t l x s (true_is m))
-      go toWrite false true false p true e f m n k = write_conflict (false_is e) (ahead-blocked S t l x s exclusive_lock (true_is k))
-      go toWrite false true false p false e f m n k = exchange_cell (true_is f) (unwritten (false_is m) (shared_open (true_is f)) (false_is k))
+      go to_write false true true p q e f m n k = write_conflict (false_is e) (shares-blocked S t l x s (true_is m))
+      go to_write false true false p true e f m n k = write_conflict (false_is e) (ahead-blocked S t l x s exclusive_lock (true_is k))
+      go to_write false true false p false e f m n k = exchange_cell (true_is f) (unwritten (false_is m) (shared_open (true_is f)) (false_is k))
       go to_read false false o true q e f m n k = read_conflict (neither e f) (excludes_blocked S t l x s shared_lock (true_is n))
       go to_read false false o false true e f m n k = read_conflict (neither e f) (ahead-blocked S t l x s shared_lock (true_is k))
       go to_read false false o false false e f m n k = share_cell (neither e f) (unread (false_is n) (false_is k))
-      go toWrite false false true p q e f m n k = write_conflict (false_is e) (shares-blocked S t l x s (true_is m))
-      go toWrite false false false true q e f m n k = write_conflict (false_is e) (excludes_blocked S t l x s exclusive_lock (true_is n))
-      go toWrite false false false false true e f m n k = write_conflict (false_is e) (ahead-blocked S t l x s exclusive_lock (true_is k))
-      go toWrite false false false false false e f m n k = exclude_cell (neither e f) (unwritten (false_is m) (false_is n) (false_is k))
+      go to_write false false true p q e f m n k = write_conflict (false_is e) (shares-blocked S t l x s (true_is m))
+      go to_write false false false true q e f m n k = write_conflict (false_is e) (excludes_blocked S t l x s exclusive_lock (true_is n))
+      go to_write false false false false true e f m n k = write_conflict (false_is e) (ahead-blocked S t l x s exclusive_lock (true_is k))
+      go to_write false false false false false e f m n k = exclude_cell (neither e f) (unwritten (false_is m) (false_is n) (false_is k))
 
   -- the table says conflict exactly where a further lock is needed and somebody is in the way
   pub decision-conflict :
@@ -287,11 +287,11 @@ module _ (S : Sizes) (G : Tables) (g : Good S G) (x : ℕ) (known : x < S.items)
 
   -- ---- what a lock that is not in the way looks like
   -- without a conflict, and not held exclusively by s, it is held exclusively by nobody
-  pub none-excludes :
+  pub none_excludes :
       (k : ℕ) → (T (holds_exclusive (lock G.locks x) s) → ⊥) → (T (blocked_for S G.txns G.locks k x s) → ⊥)
       → (lock G.locks x).exclusive ≡ 0
   unfolding holds_exclusive holds
-  none-excludes k m n = go h.exclusive refl
+  none_excludes k m n = go h.exclusive refl
     where
       go : (w : ℕ) → h.exclusive ≡ w → h.exclusive ≡ 0
       go zero e = e

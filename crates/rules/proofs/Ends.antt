@@ -21,12 +21,12 @@ use Rattle.rules.proofs.Tests.{is_false, false_is, or_cases, or_right}
 use Rattle.rules.proofs.Bits.{bit_none}
 use Rattle.rules.proofs.Views.{clock-set_txn, txn-top}
 use Rattle.rules.proofs.RowKinds.{update-live, settled-live, relaxed-live, settled-reads, settled-starts, update_no_reader}
-use Rattle.rules.proofs.Carried.{versions-carried}
+use Rattle.rules.proofs.Carried.{versions_carried}
 use Rattle.rules.proofs.Notes.{Beside, same_beside}
 use Rattle.rules.proofs.Noting.{closed-length, closed-last, closed-clock}
 use Rattle.rules.proofs.Waited.{cleared-good, cleared_here, cleared-last, cleared-clock, cleared-update, cleared_as_closed}
-use Rattle.rules.proofs.Leaves.{released-good, released-other, released-holds, released-shares_still, left-good}
-use Rattle.rules.proofs.Ready.{gone-reads, gone_how, gone_lives, gone-relaxed, Ready, old_ready, committed-ready, rewritten-size, rewritten-good, rewritten-top}
+use Rattle.rules.proofs.Leaves.{released-good, released-other, released-holds, released_shares_still, left-good}
+use Rattle.rules.proofs.Ready.{gone-reads, gone_how, gone_lives, gone-relaxed, Ready, old_ready, committed_ready, rewritten-size, rewritten-good, rewritten-top}
 
 -- who does not hold an item exclusively puts no version there
 pub not_new : (l : List ℕ) (s c m x : ℕ) (vs : List Version) → holds_exclusive (lock l x) s ≡ false → with_new l s c m x vs ≡ vs
@@ -45,7 +45,7 @@ left_other S G g s inside rests r x i h = go (or_cases (holds_shared (lock (rele
         → holds_exclusive (lock G.locks x) s ≡ false
     go (inr e) = released-other S G g s inside rests r x i e
     go (inl a) =
-        let b = released-shares_still S G g s inside rests r x i a in
+        let b = released_shares_still S G g s inside rests r x i a in
         is_false (holds_exclusive (lock G.locks x) s) (λ e. never b e (g.lock_good x i).never_both)
       where
         never :
@@ -62,7 +62,7 @@ module _ (S : Sizes) (enough : S.slots ≤ S.places) (G : Tables) (g : Good S G)
       left-good S (tables t₁ (release S s G.locks) G.versions) (released-good S H h s inside rests) s inside (released-holds S H h s inside rests) rests strict
       u usize same (closed-last S G.txns s ∙ sym (h_last)) (let a = h_clock in let b = closed-clock S G.txns s in omega arith)
       (let b = closed-clock S G.txns s in let c = g.clock_most in omega arith) G.versions g.versions_exact
-      (λ x i. versions-carried S t₁ (set_txn u s no_txn) _ (let a = clock-set_txn u s no_txn in let b = closed-clock S G.txns s in let c = h_clock in omega arith)
+      (λ x i. versions_carried S t₁ (set_txn u s no_txn) _ (let a = clock-set_txn u s no_txn in let b = closed-clock S G.txns s in let c = h_clock in omega arith)
       (λ r j q. let d = reader-other r q in (subst T (sym (gone-reads S t₁ u s inside usize beside r d)) q, gone_how S t₁ u s inside usize beside r d))
       (λ r j q. inl (let k = gone_lives S t₁ u s inside usize beside r q in (k.1, gone_how S t₁ u s inside usize beside r k.0)))
       (λ r j q. subst T (sym (gone-relaxed S t₁ u s inside usize beside r (λ e. strict (subst (λ (m : ℕ). T (live_relaxed (txn t₁ m))) e q)))) q)
@@ -181,8 +181,8 @@ module _ (S : Sizes) (enough : S.slots ≤ S.places) (G : Tables) (g : Good S G)
     committed-good =
         rewritten-ends resting writes_not u u_size u_rows (get_or-set_other G.txns 1 0 c 0 (omega arith)) u_later (let a = u_clock in let b = g.clock_most in omega arith)
         (with_new G.locks s c m)
-        (committed-ready S enough G g s inside u u_size (λ r d. same_beside (txn G.txns r) (txn u r) (u_rows r d)) u_later writes_not c m above (let a = u_clock in omega arith)
-        (λ x q i h b. g.sets_good.holdsHidden x s q i (unfold holds in (or_right (holds_shared (lock G.locks x) s) _ h)) b)
+        (committed_ready S enough G g s inside u u_size (λ r d. same_beside (txn G.txns r) (txn u r) (u_rows r d)) u_later writes_not c m above (let a = u_clock in omega arith)
+        (λ x q i h b. g.sets_good.holds_hidden x s q i (unfold holds in (or_right (holds_shared (lock G.locks x) s) _ h)) b)
         (λ q b. g.sets_good.of_relaxed s q inside b))
         (λ x e. not_new G.locks s c m x (versions_of S G.versions x) e)
 
@@ -202,9 +202,9 @@ module _ (S : Sizes) (enough : S.slots ≤ S.places) (G : Tables) (g : Good S G)
     settled-commit-good =
         rewritten-ends past_rests past_not G.txns g.txns_exact (λ r d. refl) refl (omega arith) g.clock_most
         (with_new G.locks s q (txn G.txns s).later_for)
-        (committed-ready S enough G g s inside G.txns g.txns_exact (λ r d. same_beside (txn G.txns r) (txn G.txns r) refl) (omega arith) past_not q (txn G.txns s).later_for
+        (committed_ready S enough G g s inside G.txns g.txns_exact (λ r d. same_beside (txn G.txns r) (txn G.txns r) refl) (omega arith) past_not q (txn G.txns s).later_for
         (λ x i h. g.settled_good.above s x inside i past h) ((g.txn_good s inside).reader_start (settled-starts (txn G.txns s) past))
-        (λ x p i h b. g.sets_good.holdsHidden x s p i (unfold holds in (or_right (holds_shared (lock G.locks x) s) _ h)) b)
+        (λ x p i h b. g.sets_good.holds_hidden x s p i (unfold holds in (or_right (holds_shared (lock G.locks x) s) _ h)) b)
         (λ p b. g.sets_good.of_relaxed s p inside b))
         (λ x e. not_new G.locks s q (txn G.txns s).later_for x (versions_of S G.versions x) e)
 

@@ -18,8 +18,8 @@ use Rattle.rules.specs.Waits.{no_circle}
 use Rattle.rules.specs.Good.{Good, GoodTxn, GoodLock}
 use Rattle.rules.specs.Tested.{sizes_exact, tops_most, txn_good, distinct, lock_good, quota_good, versions_good, holders_joined, ranks_good, settled_good, sets_good, good}
 use Rattle.rules.proofs.Tests.{and_left, and_right, and_both, implies_use, implies_make, ne_make, ne_use, eq_make}
-use Rattle.rules.proofs.Counts.{everyBelow→, →everyBelow}
-use Rattle.rules.proofs.Rows.{everyRow→, →everyRow}
+use Rattle.rules.proofs.Counts.{every_below→, →every_below}
+use Rattle.rules.proofs.Rows.{every_row→, →every_row}
 use Rattle.rules.proofs.EqualRows.{txn→Good, Good→txn, lock→Good, Good→lock, holder, live-number, number-live}
 use Rattle.rules.proofs.EqualRanks.{ranks→Good, Good→ranks}
 use Rattle.rules.proofs.EqualSettled.{settled→Good, Good→settled}
@@ -68,8 +68,8 @@ module _ (S : Sizes) (G : Tables) where
   apart h r s k i a =
       ne_use (txn t r).number (txn t s).number
       (implies_use (live (txn t s)) _
-      (everyBelow→ s (λ r. implies (live (txn t s)) (not (eqb (txn t r).number (txn t s).number)))
-      (everyBelow→ S.slots (λ s. every_below s (λ r. implies (live (txn t s)) (not (eqb (txn t r).number (txn t s).number)))) h s i)
+      (every_below→ s (λ r. implies (live (txn t s)) (not (eqb (txn t r).number (txn t s).number)))
+      (every_below→ S.slots (λ s. every_below s (λ r. implies (live (txn t s)) (not (eqb (txn t r).number (txn t s).number)))) h s i)
       r k) a)
 
   pub good→Good : T (good S G) → Good S G
@@ -90,9 +90,9 @@ module _ (S : Sizes) (G : Tables) where
       let c = and_left (tops_most t) _ h₁ in
       let size = eqb→eq (length t) (txn_words S) (and_left (eqb (length t) (txn_words S)) _ a) in
       let rows : (s : ℕ) → s < S.slots → GoodTxn S t l s (txn t s)
-      = λ s i. txn→Good S t l s (txn t s) (everyBelow→ S.slots (λ s. txn_good S t l s (txn t s)) (and_left rows_test _ h₂) s i) in
+      = λ s i. txn→Good S t l s (txn t s) (every_below→ S.slots (λ s. txn_good S t l s (txn t s)) (and_left rows_test _ h₂) s i) in
       let locks : (x : ℕ) → x < S.items → GoodLock S t (lock l x)
-      = λ x i. lock→Good S t (lock l x) (everyBelow→ S.items (λ x. lock_good S t (lock l x)) (and_left locks_test _ h₄) x i) in
+      = λ x i. lock→Good S t (lock l x) (every_below→ S.items (λ x. lock_good S t (lock l x)) (and_left locks_test _ h₄) x i) in
       record {
         txns_exact = size;
         locks_exact = eqb→eq (length l) (lock_words S) (and_left (eqb (length l) (lock_words S)) _ b);
@@ -102,7 +102,7 @@ module _ (S : Sizes) (G : Tables) where
         txn_good = rows;
         distinct = λ r s j i d a. pick (and_left (distinct S t) _ h₃) r s j i a (order r s d);
         lock_good = locks;
-        quota_good = λ s i. quota→Good S l s (txn t s) (everyBelow→ S.slots (λ s. quota_good S l s (txn t s)) (and_left quotas_test _ h₅) s i);
+        quota_good = λ s i. quota→Good S l s (txn t s) (every_below→ S.slots (λ s. quota_good S l s (txn t s)) (and_left quotas_test _ h₅) s i);
         versions_good = λ x i. versions→Good S t (row (version_row S) x G.versions) (and_left (version_test (row (version_row S) x G.versions)) _ (items (and_left versions_test _ h₆) x i));
         ranks_good = ranks→Good S t l (and_left (ranks_good S t l) _ h₇);
         settled_good = settled→Good S G (and_left (settled_good S G) _ h₈);
@@ -111,7 +111,7 @@ module _ (S : Sizes) (G : Tables) where
       }
     where
       items : T versions_test → (x : ℕ) → x < S.items → T (item_test x (row (version_row S) x G.versions))
-      items k x i = subst (λ (y : ℕ). T (item_test y (row (version_row S) x G.versions))) (zero-add x) (everyRow→ S.items (version_row S) item_test 0 G.versions k x i)
+      items k x i = subst (λ (y : ℕ). T (item_test y (row (version_row S) x G.versions))) (zero-add x) (every_row→ S.items (version_row S) item_test 0 G.versions k x i)
 
       pick : T (distinct S t) → (r s : ℕ) → r < S.slots → s < S.slots → T (live (txn t s)) → (r < s) ⊎ (s < r) → (txn t r).number ≢ (txn t s).number
       pick h r s j i a (inl k) = apart h r s k i a
@@ -126,14 +126,14 @@ module _ (S : Sizes) (G : Tables) where
       (and_both (eqb (length l) (lock_words S)) _ (eq_make (length l) (lock_words S) g.locks_exact) (eq_make (length G.versions) (version_words S) g.versions_exact)))
       (and_both (tops_most t) _
       (and_both (leb (last_number t) last_word) _ (le→leb (last_number t) last_word g.last_most) (le→leb (clock t) last_word g.clock_most))
-      (and_both rows_test _ (→everyBelow S.slots (λ s. txn_good S t l s (txn t s)) (λ s i. Good→txn S t l s (txn t s) (g.txn_good s i)))
+      (and_both rows_test _ (→every_below S.slots (λ s. txn_good S t l s (txn t s)) (λ s i. Good→txn S t l s (txn t s) (g.txn_good s i)))
       (and_both (distinct S t) _
-      (→everyBelow S.slots _ (λ s i. →everyBelow s (λ r. implies (live (txn t s)) (not (eqb (txn t r).number (txn t s).number)))
+      (→every_below S.slots _ (λ s i. →every_below s (λ r. implies (live (txn t s)) (not (eqb (txn t r).number (txn t s).number)))
       (λ r k. implies_make (live (txn t s)) _ (λ a. ne_make (txn t r).number (txn t s).number (g.distinct r s (omega arith) i (omega arith) a)))))
-      (and_both locks_test _ (→everyBelow S.items (λ x. lock_good S t (lock l x)) (λ x i. Good→lock S t (lock l x) (g.lock_good x i)))
-      (and_both quotas_test _ (→everyBelow S.slots (λ s. quota_good S l s (txn t s)) (λ s i. Good→quota S l s (txn t s) (g.quota_good s i)))
+      (and_both locks_test _ (→every_below S.items (λ x. lock_good S t (lock l x)) (λ x i. Good→lock S t (lock l x) (g.lock_good x i)))
+      (and_both quotas_test _ (→every_below S.slots (λ s. quota_good S l s (txn t s)) (λ s i. Good→quota S l s (txn t s) (g.quota_good s i)))
       (and_both versions_test _
-      (→everyRow S.items (version_row S) item_test 0 G.versions
+      (→every_row S.items (version_row S) item_test 0 G.versions
       (λ x i.
       subst (λ (y : ℕ). T (item_test y (row (version_row S) x G.versions))) (sym (zero-add x))
       (and_both (version_test (row (version_row S) x G.versions)) _ (Good→versions S t (row (version_row S) x G.versions) (g.versions_good x i)) (Good→joined S G g.sets_good x i))))

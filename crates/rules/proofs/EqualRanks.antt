@@ -14,7 +14,7 @@ use Rattle.rules.specs.Waits.{awaits, awaits_on, waiters_on}
 use Rattle.rules.specs.Good.{GoodRanks}
 use Rattle.rules.specs.Tested.{rank_within, ranks_apart, ranks_good}
 use Rattle.rules.proofs.Tests.{and_left, and_right, and_both, implies_use, implies_make, ne_make, ne_use, eq_make, not_make, not_use}
-use Rattle.rules.proofs.Counts.{everyBelow→, →everyBelow}
+use Rattle.rules.proofs.Counts.{every_below→, →every_below}
 use Rattle.rules.proofs.Views.{beyond}
 
 -- ---- who awaits
@@ -26,13 +26,13 @@ pub →awaits : (r : Txn) → r.awaited_lock ≢ no_lock → T (awaits r)
 unfolding awaits
 →awaits r d = ne_make r.awaited_lock no_lock d
 
-pub awaitsOn→ : (x : ℕ) (r : Txn) → T (awaits_on x r) → T (awaits r) × (r.awaited_item ≡ x)
+pub awaits_on→ : (x : ℕ) (r : Txn) → T (awaits_on x r) → T (awaits r) × (r.awaited_item ≡ x)
 unfolding awaits_on
-awaitsOn→ x r h = (and_left (awaits r) _ h, eqb→eq r.awaited_item x (and_right (awaits r) _ h))
+awaits_on→ x r h = (and_left (awaits r) _ h, eqb→eq r.awaited_item x (and_right (awaits r) _ h))
 
-pub →awaitsOn : (x : ℕ) (r : Txn) → T (awaits r) → r.awaited_item ≡ x → T (awaits_on x r)
+pub →awaits_on : (x : ℕ) (r : Txn) → T (awaits r) → r.awaited_item ≡ x → T (awaits_on x r)
 unfolding awaits_on
-→awaitsOn x r h e = and_both (awaits r) _ h (eq_make r.awaited_item x e)
+→awaits_on x r h e = and_both (awaits r) _ h (eq_make r.awaited_item x e)
 
 -- who awaits something is a slot: past the rows there is nothing
 pub waiter_inside : (S : Sizes) (t : List ℕ) → length t ≡ txn_words S → (a : ℕ) → (txn t a).awaited_lock ≢ no_lock → a < S.slots
@@ -56,34 +56,34 @@ module _ (S : Sizes) (t l : List ℕ) where
             (implies_use (holds_shared (lock l (txn t r).awaited_item) r && not (holds_shared (lock l (txn t r).awaited_item) s)) _
             (and_right (not (eqb (txn t r).rank (txn t s).rank)) _ (both x r s i j (λ e. n (subst (λ (m : ℕ). T (holds_shared (lock l x) m)) e c)) a b))
             (and_both (holds_shared (lock l (txn t r).awaited_item) r) _
-            (subst (λ (y : ℕ). T (holds_shared (lock l y) r)) (sym (awaitsOn→ x (txn t r) a).1) c)
-            (not_make (holds_shared (lock l (txn t r).awaited_item) s) (λ q. n (subst (λ (y : ℕ). T (holds_shared (lock l y) s)) (awaitsOn→ x (txn t r) a).1 q)))));
+            (subst (λ (y : ℕ). T (holds_shared (lock l y) r)) (sym (awaits_on→ x (txn t r) a).1) c)
+            (not_make (holds_shared (lock l (txn t r).awaited_item) s) (λ q. n (subst (λ (y : ℕ). T (holds_shared (lock l y) s)) (awaits_on→ x (txn t r) a).1 q)))));
       }
     where
       within : (s : ℕ) → s < S.slots → T (implies (awaits (txn t s)) (leb 1 (txn t s).rank && leb (txn t s).rank (waiters_on S t (txn t s).awaited_item)))
-      within s i = and_left (rank_within S t s) _ (everyBelow→ S.slots (λ s. rank_within S t s && every_below S.slots (λ r. implies (not (eqb r s)) (ranks_apart t l r s))) h s i)
+      within s i = and_left (rank_within S t s) _ (every_below→ S.slots (λ s. rank_within S t s && every_below S.slots (λ r. implies (not (eqb r s)) (ranks_apart t l r s))) h s i)
 
       both :
           (x r s : ℕ) → r < S.slots → s < S.slots → r ≢ s → T (awaits_on x (txn t r)) → T (awaits_on x (txn t s))
           → T (not (eqb (txn t r).rank (txn t s).rank)
           && implies (holds_shared (lock l (txn t r).awaited_item) r && not (holds_shared (lock l (txn t r).awaited_item) s)) (ltb (txn t r).rank (txn t s).rank))
       both x r s i j d a b =
-          let w = awaitsOn→ x (txn t r) a in
+          let w = awaits_on→ x (txn t r) a in
           implies_use (awaits (txn t r) && awaits_on (txn t r).awaited_item (txn t s)) _
           (implies_use (not (eqb r s)) _
-          (everyBelow→ S.slots (λ r. implies (not (eqb r s)) (ranks_apart t l r s))
-          (and_right (rank_within S t s) _ (everyBelow→ S.slots (λ s. rank_within S t s && every_below S.slots (λ r. implies (not (eqb r s)) (ranks_apart t l r s))) h s j))
+          (every_below→ S.slots (λ r. implies (not (eqb r s)) (ranks_apart t l r s))
+          (and_right (rank_within S t s) _ (every_below→ S.slots (λ s. rank_within S t s && every_below S.slots (λ r. implies (not (eqb r s)) (ranks_apart t l r s))) h s j))
           r i) (ne_make r s d))
           (and_both (awaits (txn t r)) _ w.0 (subst (λ (y : ℕ). T (awaits_on y (txn t s))) (sym w.1) b))
 
   pub Good→ranks : GoodRanks S t l → T (ranks_good S t l)
   unfolding ranks_good rank_within ranks_apart
   Good→ranks g =
-      →everyBelow S.slots (λ s. rank_within S t s && every_below S.slots (λ r. implies (not (eqb r s)) (ranks_apart t l r s)))
+      →every_below S.slots (λ s. rank_within S t s && every_below S.slots (λ r. implies (not (eqb r s)) (ranks_apart t l r s)))
       (λ s j.
       and_both (rank_within S t s) _
       (implies_make (awaits (txn t s)) _ (λ w. and_both (leb 1 (txn t s).rank) _ (le→leb 1 (txn t s).rank (g.least s j w)) (le→leb (txn t s).rank (waiters_on S t (txn t s).awaited_item) (g.most s j w))))
-      (→everyBelow S.slots (λ r. implies (not (eqb r s)) (ranks_apart t l r s))
+      (→every_below S.slots (λ r. implies (not (eqb r s)) (ranks_apart t l r s))
       (λ r i. implies_make (not (eqb r s)) _ (λ d. pair r s i j (ne_use r s d)))))
     where
       pair : (r s : ℕ) → r < S.slots → s < S.slots → r ≢ s → T (ranks_apart t l r s)
@@ -91,7 +91,7 @@ module _ (S : Sizes) (t l : List ℕ) where
           implies_make (awaits (txn t r) && awaits_on (txn t r).awaited_item (txn t s)) _
           (λ w.
           let x = (txn t r).awaited_item in
-          let a = →awaitsOn x (txn t r) (and_left (awaits (txn t r)) _ w) (let e : x ≡ x = λ i. x in e) in
+          let a = →awaits_on x (txn t r) (and_left (awaits (txn t r)) _ w) (let e : x ≡ x = λ i. x in e) in
           let b = and_right (awaits (txn t r)) _ w in
           and_both (not (eqb (txn t r).rank (txn t s).rank)) _
           (ne_make (txn t r).rank (txn t s).rank (g.apart x r s i j d a b))

@@ -16,7 +16,7 @@ use Rattle.rules.specs.Good.{GoodReads, GoodNotes, GoodTxn, GoodLock}
 use Rattle.rules.specs.Tested.{all_zero, free_zero, listed, start_good, awaited_good, reads_good, notes_good, awaiter_good, txn_good, holders_live, lock_good}
 use Rattle.rules.proofs.Tests.{and_left, and_right, and_both, or_cases, or_left, or_right, implies_use, implies_make}
 use Rattle.rules.proofs.Tests.{not_make, not_use, eq_make, ne_make, ne_use, same?}
-use Rattle.rules.proofs.Counts.{everyBelow→, →everyBelow}
+use Rattle.rules.proofs.Counts.{every_below→, →every_below}
 pub use Rattle.rules.proofs.RowKinds.{free_or_live, live-number, free-number, number-live, update-live, live-update, query-live, live-query}
 pub use Rattle.rules.proofs.RowKinds.{settled-live, live-settled, holder_live, update-holds, settled-holds, reader-live, live-reader, query-reads, settled-reads}
 use Rattle.rules.proofs.Bits.{bit_below, below_bits}
@@ -202,10 +202,10 @@ module _ (S : Sizes) (t : List ℕ) (o : Lock) where
       record {
         sharers = λ s h.
             let i = bit_below o.shared s S.slots (ltb→lt o.shared (2 ^ S.slots) (and_left (ltb o.shared (2 ^ S.slots)) _ b)) h in
-            (i, implies_use (holds_shared o s) _ (and_left (implies (holds_shared o s) (live_update (txn t s))) _ (everyBelow→ S.slots held b₂ s i)) h);
+            (i, implies_use (holds_shared o s) _ (and_left (implies (holds_shared o s) (live_update (txn t s))) _ (every_below→ S.slots held b₂ s i)) h);
         excluders = λ s h.
             let i : s < S.slots = (let e = eqb→eq o.exclusive (suc s) h in let q = leb→le o.exclusive S.slots (and_left (leb o.exclusive S.slots) _ b₁) in omega arith) in
-            (i, implies_use (holds_exclusive o s) _ (and_right (implies (holds_shared o s) (live_update (txn t s))) _ (everyBelow→ S.slots held b₂ s i)) h);
+            (i, implies_use (holds_exclusive o s) _ (and_right (implies (holds_shared o s) (live_update (txn t s))) _ (every_below→ S.slots held b₂ s i)) h);
         never_both = either (or_cases (eqb o.shared 0) _ (and_left (eqb o.shared 0 || eqb o.exclusive 0) _ a₁));
         no_working = λ e. eqb→eq o.working 0 (implies_use (eqb o.exclusive 0) _ (and_right (eqb o.shared 0 || eqb o.exclusive 0) _ a₁) (eq_make o.exclusive 0 e));
       }
@@ -222,7 +222,7 @@ module _ (S : Sizes) (t : List ℕ) (o : Lock) where
       (lt→ltb o.shared (2 ^ S.slots) (below_bits S.slots o.shared (λ b h. (g.sharers b h).0)))
       (and_both (leb o.exclusive S.slots) _
       (le→leb o.exclusive S.slots (few o.exclusive refl))
-      (→everyBelow S.slots held
+      (→every_below S.slots held
       (λ s i.
       and_both (implies (holds_shared o s) (live_update (txn t s))) _ (implies_make (holds_shared o s) _ (λ h. (g.sharers s h).1))
       (implies_make (holds_exclusive o s) _ (λ h. (g.excluders s h).1))))))

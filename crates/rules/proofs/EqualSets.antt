@@ -12,7 +12,7 @@ use Rattle.rules.specs.Versions.{versions_in, versions_of, hidden_at, hidden_now
 use Rattle.rules.specs.Good.{GoodLock, GoodSets}
 use Rattle.rules.specs.Tested.{holders_joined, sets_good}
 use Rattle.rules.proofs.Tests.{and_left, and_right, and_both, or_cases, or_left, or_right, implies_use, implies_make, not_make, not_use}
-use Rattle.rules.proofs.Counts.{everyBelow→, →everyBelow, someBelow→, →someBelow}
+use Rattle.rules.proofs.Counts.{every_below→, →every_below, some_below→, →some_below}
 use Rattle.rules.proofs.Bits.{or_in, or_in_left, or_in_right, contains→, →contains, slots→, →slots}
 use Rattle.rules.proofs.EqualVersions.{relaxed→, →relaxed}
 
@@ -28,19 +28,19 @@ unfolding have_read
 -- ---- whether there is one
 pub some_settled_lem : (S : Sizes) (t : List ℕ) → T (some_settled S t) → (s : ℕ) × (s < S.slots) × T (live_settled (txn t s))
 unfolding some_settled
-some_settled_lem S t h = someBelow→ S.slots (λ s. live_settled (txn t s)) h
+some_settled_lem S t h = some_below→ S.slots (λ s. live_settled (txn t s)) h
 
 pub settled_some : (S : Sizes) (t : List ℕ) (s : ℕ) → s < S.slots → T (live_settled (txn t s)) → T (some_settled S t)
 unfolding some_settled
-settled_some S t s i h = →someBelow S.slots (λ s. live_settled (txn t s)) s i h
+settled_some S t s i h = →some_below S.slots (λ s. live_settled (txn t s)) s i h
 
 pub some_relaxed_lem : (S : Sizes) (t : List ℕ) → T (some_relaxed S t) → (s : ℕ) × (s < S.slots) × T (live_relaxed (txn t s))
 unfolding some_relaxed
-some_relaxed_lem S t h = someBelow→ S.slots (λ s. live_relaxed (txn t s)) h
+some_relaxed_lem S t h = some_below→ S.slots (λ s. live_relaxed (txn t s)) h
 
 pub relaxed_some : (S : Sizes) (t : List ℕ) (s : ℕ) → s < S.slots → T (live_relaxed (txn t s)) → T (some_relaxed S t)
 unfolding some_relaxed
-relaxed_some S t s i h = →someBelow S.slots (λ s. live_relaxed (txn t s)) s i h
+relaxed_some S t s i h = →some_below S.slots (λ s. live_relaxed (txn t s)) s i h
 
 module _ (S : Sizes) (G : Tables) where
   abbrev t : List ℕ
@@ -68,13 +68,13 @@ module _ (S : Sizes) (G : Tables) where
             (and_both (some_settled S t) _ (settled_some S t r i a) (relaxed_some S t s j b));
         of_relaxed = λ s q i b.
             relaxed→ S t q (contains→ (relaxed_in S t) (txn t s).later_for
-            (everyBelow→ S.slots (λ s. contains (relaxed_in S t) (txn t s).later_for) (and_right (not (some_settled S t && some_relaxed S t)) _ h) s i) q b);
-        holdsRead = λ x s q i j e b. all x s i e q (or_in_left (have_read S t x) (m x) q (→read S t x q j b));
-        holdsHidden = λ x s q i o b. ⊎_elim
+            (every_below→ S.slots (λ s. contains (relaxed_in S t) (txn t s).later_for) (and_right (not (some_settled S t && some_relaxed S t)) _ h) s i) q b);
+        holds_read = λ x s q i j e b. all x s i e q (or_in_left (have_read S t x) (m x) q (→read S t x q j b));
+        holds_hidden = λ x s q i o b. ⊎_elim
             (λ a. contains→ (txn t s).later_for (m x)
             (implies_use (holds_shared (lock G.locks x) s) _
             (and_right (implies (holds_exclusive (lock G.locks x) s) (contains (txn t s).later_for (bit_or (have_read S t x) (m x)))) _
-            (everyBelow→ S.slots (slot_test x) (f x i) s ((locks x i).sharers s a).0)) a) q b)
+            (every_below→ S.slots (slot_test x) (f x i) s ((locks x i).sharers s a).0)) a) q b)
             (λ e. all x s i e q (or_in_right (have_read S t x) (m x) q b))
             (or_cases (holds_shared (lock G.locks x) s) _ o);
       }
@@ -84,7 +84,7 @@ module _ (S : Sizes) (G : Tables) where
           contains→ (txn t s).later_for (bit_or (have_read S t x) (m x))
           (implies_use (holds_exclusive (lock G.locks x) s) _
           (and_left (implies (holds_exclusive (lock G.locks x) s) (contains (txn t s).later_for (bit_or (have_read S t x) (m x)))) _
-          (everyBelow→ S.slots (slot_test x) (f x i) s ((locks x i).excluders s e).0)) e)
+          (every_below→ S.slots (slot_test x) (f x i) s ((locks x i).excluders s e).0)) e)
 
   pub Good→sets : GoodSets S G → T (sets_good S t)
   unfolding sets_good
@@ -95,20 +95,20 @@ module _ (S : Sizes) (G : Tables) where
       let a = some_settled_lem S t (and_left (some_settled S t) _ h) in
       let b = some_relaxed_lem S t (and_right (some_settled S t) _ h) in
       g.apart a.0 b.0 a.1 b.1 a.2 b.2))
-      (→everyBelow S.slots (λ s. contains (relaxed_in S t) (txn t s).later_for)
+      (→every_below S.slots (λ s. contains (relaxed_in S t) (txn t s).later_for)
       (λ s i. →contains (relaxed_in S t) (txn t s).later_for (λ q b. let k = g.of_relaxed s q i b in →relaxed S t q k.0 k.1)))
 
   pub Good→joined : GoodSets S G → (x : ℕ) → x < S.items → T (joined_test x)
   unfolding holders_joined hidden_now versions_of holds
   Good→joined g x i =
-      →everyBelow S.slots (slot_test x)
+      →every_below S.slots (slot_test x)
       (λ s j.
       and_both (implies (holds_exclusive (lock G.locks x) s) (contains (txn t s).later_for (bit_or (have_read S t x) (m x)))) _
       (implies_make (holds_exclusive (lock G.locks x) s) _
       (λ e. →contains (txn t s).later_for (bit_or (have_read S t x) (m x))
       (λ q b. ⊎_elim
-      (λ k. let r = read→ S t x q k in g.holdsRead x s q i r.0 e r.1)
-      (λ k. g.holdsHidden x s q i (or_right (holds_shared (lock G.locks x) s) _ e) k)
+      (λ k. let r = read→ S t x q k in g.holds_read x s q i r.0 e r.1)
+      (λ k. g.holds_hidden x s q i (or_right (holds_shared (lock G.locks x) s) _ e) k)
       (or_in (have_read S t x) (m x) q b))))
       (implies_make (holds_shared (lock G.locks x) s) _
-      (λ e. →contains (txn t s).later_for (m x) (λ q b. g.holdsHidden x s q i (or_left (holds_shared (lock G.locks x) s) _ e) b))))
+      (λ e. →contains (txn t s).later_for (m x) (λ q b. g.holds_hidden x s q i (or_left (holds_shared (lock G.locks x) s) _ e) b))))

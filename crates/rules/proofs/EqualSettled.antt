@@ -13,7 +13,7 @@ use Rattle.rules.specs.Versions.{versions_of, stamp_at}
 use Rattle.rules.specs.Good.{GoodSettled}
 use Rattle.rules.specs.Tested.{stamps_apart, stamp_above, settled_good}
 use Rattle.rules.proofs.Tests.{and_left, and_right, and_both, implies_use, implies_make, ne_make, ne_use}
-use Rattle.rules.proofs.Counts.{everyBelow→, →everyBelow}
+use Rattle.rules.proofs.Counts.{every_below→, →every_below}
 
 module _ (S : Sizes) (G : Tables) where
   -- what is tested of slot s
@@ -29,12 +29,12 @@ module _ (S : Sizes) (G : Tables) where
         above = λ s x i j a b.
             ltb→lt _ _
             (implies_use (holds_exclusive (lock G.locks x) s) _
-            (everyBelow→ S.items (stamp_above S G s)
+            (every_below→ S.items (stamp_above S G s)
             (implies_use (live_settled (txn G.txns s)) _ (and_right (every_below s (λ r. stamps_apart G.txns r s)) _ (each s i)) a) x j) b);
       }
     where
       each : (s : ℕ) → s < S.slots → T (slot_test s)
-      each s i = everyBelow→ S.slots slot_test h s i
+      each s i = every_below→ S.slots slot_test h s i
 
       order : (r s : ℕ) → r ≢ s → (r < s) ⊎ (s < r)
       order r s d = go (ltb r s) refl
@@ -47,7 +47,7 @@ module _ (S : Sizes) (G : Tables) where
       lower r s k j a b =
           ne_use (txn G.txns r).start (txn G.txns s).start
           (implies_use (live_settled (txn G.txns r) && live_settled (txn G.txns s)) _
-          (everyBelow→ s (λ r. stamps_apart G.txns r s) (and_left (every_below s (λ r. stamps_apart G.txns r s)) _ (each s j)) r k)
+          (every_below→ s (λ r. stamps_apart G.txns r s) (and_left (every_below s (λ r. stamps_apart G.txns r s)) _ (each s j)) r k)
           (and_both (live_settled (txn G.txns r)) _ a b))
 
       pick :
@@ -59,14 +59,14 @@ module _ (S : Sizes) (G : Tables) where
   pub Good→settled : GoodSettled S G → T (settled_good S G)
   unfolding settled_good stamps_apart stamp_above
   Good→settled g =
-      →everyBelow S.slots slot_test
+      →every_below S.slots slot_test
       (λ s i.
       and_both (every_below s (λ r. stamps_apart G.txns r s)) _
-      (→everyBelow s (λ r. stamps_apart G.txns r s)
+      (→every_below s (λ r. stamps_apart G.txns r s)
       (λ r k.
       implies_make (live_settled (txn G.txns r) && live_settled (txn G.txns s)) _
       (λ a. ne_make (txn G.txns r).start (txn G.txns s).start
       (g.apart r s (omega arith) i (omega arith) (and_left (live_settled (txn G.txns r)) _ a) (and_right (live_settled (txn G.txns r)) _ a)))))
       (implies_make (live_settled (txn G.txns s)) _
-      (λ a. →everyBelow S.items (stamp_above S G s)
+      (λ a. →every_below S.items (stamp_above S G s)
       (λ x j. implies_make (holds_exclusive (lock G.locks x) s) _ (λ b. lt→ltb _ _ (g.above s x i j a b))))))

@@ -18,9 +18,9 @@ use Rattle.rules.specs.Tested.{falls, nests, last_seen, all_read, versions_good}
 use Rattle.rules.proofs.Tests.{and_left, and_right, and_both, or_right, eq_make, false_is}
 use Rattle.rules.proofs.Bits.{bit_none, contains→, →contains, slots→, →slots}
 use Rattle.rules.proofs.Counts.{some_mem, every_mem, mem_every}
-use Rattle.rules.proofs.Choice.{length-versions_in, zero_each, zero_all, Falls, falls→Falls, Falls→falls, Nests, nests→Nests, Nests→nests, place-exists}
-use Rattle.rules.proofs.Trim.{→allRead, reader}
-use Rattle.rules.proofs.Readers.{reader_in_lem, in-reader}
+use Rattle.rules.proofs.Choice.{length-versions_in, zero_each, zero_all, Falls, falls→Falls, Falls→falls, Nests, nests→Nests, Nests→nests, place_exists}
+use Rattle.rules.proofs.Trim.{→all_read, reader}
+use Rattle.rules.proofs.Readers.{reader_in_lem, in_reader}
 
 -- ---- the slots of relaxed queries
 pub relaxed→ : (S : Sizes) (t : List ℕ) (q : ℕ) → T (bit (relaxed_in S t) q) → (q < S.slots) × T (live_relaxed (txn t q))
@@ -134,19 +134,19 @@ module _ (S : Sizes) (t r : List ℕ) where
           → (s : ℕ) × (s < S.slots) × T (is_reader (txn t s)) × (place (reader_in t s) vs ≡ k)
       to k z l =
           let m = reader qs vs (and_right (last_seen qs vs) (all_read qs vs 0 vs) h₉) k z l in
-          let s = in-reader S t m.0 m.1 in
+          let s = in_reader S t m.0 m.1 in
           (s.0, s.1, s.2, ap (λ (q : Reader). place q vs) s.3 ∙ m.2)
 
       -- each reader reads a version that is there: it may read the last
       from : (k : ℕ) → (s : ℕ) × (s < S.slots) × T (is_reader (txn t s)) × (place (reader_in t s) vs ≡ k) → k < length vs
       from k m =
           subst (λ (j : ℕ). j < length vs) m.3
-          (place-exists (reader_in t m.0) vs (let e = length-versions_in S r in omega (arith, least)) (last m.0 m.1 m.2))
+          (place_exists (reader_in t m.0) vs (let e = length-versions_in S r in omega (arith, least)) (last m.0 m.1 m.2))
 
   -- ---- to the test
   pub Good→read : GoodVersions S t r → T (all_read (readers S t) (versions_in S r) 0 (versions_in S r))
   unfolding read_by_some
-  Good→read g = →allRead qs vs 0 vs each
+  Good→read g = →all_read qs vs 0 vs each
     where
       each : (j : ℕ) → j < length vs → T (eqb (0 + j) 0 || read_by_some qs vs (0 + j))
       each zero l = tt
@@ -184,6 +184,6 @@ module _ (S : Sizes) (t r : List ℕ) where
       (and_both (last_seen qs vs) (all_read qs vs 0 vs)
       (mem_every (λ q. sees q last_of) qs
       (λ q m.
-      let s = in-reader S t q m in
+      let s = in_reader S t q m in
       subst (λ (p : Reader). T (sees p last_of)) s.3 (g.last s.0 s.1 s.2)))
       (Good→read g)))))))))

@@ -23,7 +23,7 @@ use Rattle.rules.proofs.Rows.{length-map_rows, row-map_rows}
 use Rattle.rules.proofs.RowKinds.{live-number, settled-live, reader-live}
 use Rattle.rules.proofs.Quotas.{free_quota}
 use Rattle.rules.proofs.Carried.{free-row}
-use Rattle.rules.proofs.EqualRanks.{awaits→, awaitsOn→}
+use Rattle.rules.proofs.EqualRanks.{awaits→, awaits_on→}
 use Rattle.rules.proofs.Walks.{waits-for→}
 
 -- every word of n zeros is 0, and so is what is read past them
@@ -62,9 +62,9 @@ pub fresh-row : (S : Sizes) (x : ℕ) → x < S.items → row (version_row S) x 
 unfolding fresh behind_count
 fresh-row S x i = row-with_counts S (replicate (version_words S) 0) (length-zeros (version_words S)) x i
 
-pub fresh-row_zero : (S : Sizes) (x j : ℕ) → get_or (behind_count S x) j 0 ≡ 0
+pub fresh_row_zero : (S : Sizes) (x j : ℕ) → get_or (behind_count S x) j 0 ≡ 0
 unfolding behind_count
-fresh-row_zero S x j =
+fresh_row_zero S x j =
     get_or-drop 1 (row (version_row S) x (replicate (version_words S) 0)) j 0
     ∙ zero_row (version_row S) x (replicate (version_words S) 0) (zeros (version_words S)) (1 + j)
 
@@ -171,21 +171,21 @@ module _ (S : Sizes) (room : 1 ≤ S.places) where
         distinct = λ r s i j d h. absurd (not_live s h);
         lock_good = λ x i. subst (λ (h : Lock). GoodLock S (fresh S).txns h) (sym (lock-free x)) free-lock;
         quota_good = λ s i. subst (λ (r : Txn). GoodQuota S (fresh S).locks s r) (sym (txn-free s)) (free_quota S (fresh S).locks s);
-        versions_good = λ x i. subst (λ (r : List ℕ). GoodVersions S (fresh S).txns r) (sym (fresh-row S x i)) (first-row (behind_count S x) (fresh-row_zero S x));
+        versions_good = λ x i. subst (λ (r : List ℕ). GoodVersions S (fresh S).txns r) (sym (fresh-row S x i)) (first-row (behind_count S x) (fresh_row_zero S x));
         ranks_good =
             record {
               least = λ s i w. absurd (no_wait s w);
               most = λ s i w. absurd (no_wait s w);
-              apart = λ x r s i j d a b. absurd (no_wait r (awaitsOn→ x (txn (fresh S).txns r) a).0);
-              exchangers = λ x r s i j a b c n. absurd (no_wait r (awaitsOn→ x (txn (fresh S).txns r) a).0);
+              apart = λ x r s i j d a b. absurd (no_wait r (awaits_on→ x (txn (fresh S).txns r) a).0);
+              exchangers = λ x r s i j a b c n. absurd (no_wait r (awaits_on→ x (txn (fresh S).txns r) a).0);
             };
         settled_good = record { apart = λ r s i j d a b. absurd (not_settled r a); above = λ s x i j a b. absurd (not_settled s a) };
         sets_good =
             record {
               apart = λ r s i j a b. not_settled r a;
               of_relaxed = λ s q i b. absurd (false_is (bit_none q) (subst (λ (r : Txn). T (bit r.later_for q)) (txn-free s) b));
-              holdsRead = λ x s q i j e b. absurd (false_is (bit_none x) (subst (λ (r : Txn). T (bit r.items_read x)) (txn-free q) b));
-              holdsHidden = λ x s q i h b. absurd (no_holder x s h);
+              holds_read = λ x s q i j e b. absurd (false_is (bit_none x) (subst (λ (r : Txn). T (bit r.items_read x)) (txn-free q) b));
+              holds_hidden = λ x s q i h b. absurd (no_holder x s h);
             };
         no_circle = λ a w. no_walk w;
       }

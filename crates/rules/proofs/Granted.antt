@@ -10,7 +10,7 @@ use Rattle.names.specs.declared.Sizes.{Sizes}
 use Rattle.rules.specs.Tables.{Tables}
 use Rattle.rules.specs.Waits.{noted, circle_at}
 use Rattle.rules.specs.Good.{Good}
-use Rattle.rules.specs.Locks.{Asked, to_read, toWrite, wanted, decision, Cell}
+use Rattle.rules.specs.Locks.{Asked, to_read, to_write, wanted, decision, Cell}
 use Rattle.rules.specs.Locks.{OwnValue, ReplaceValue, NewestValue, ExchangeLock, TakeShared, TakeExclusive, Conflict}
 use Rattle.rules.specs.Answers.{Deed, Outcome, granted, code, Wait, Deadlock}
 use Rattle.rules.specs.Step.{access, conflicted, done}
@@ -25,12 +25,12 @@ module _ (S : Sizes) (G : Tables) (n s x v : ℕ) (g : Good S G) where
   -- the value that the cell is asked with: a read has none
   abbrev carried : Asked → ℕ
   carried to_read = 0
-  carried toWrite = v
+  carried to_write = v
 
   -- the call comes to what the cell of the table says
   asked : (a : Asked) → Passes S G a n s x → code_of S (asking a n x v) G ≡ (done S (access S a s x (carried a) G) G).answer.code
   asked to_read P = let U = P.asks in ap (λ (o : Outcome). o.answer.code) (update-reads S G g n s U.caller U.update x U.known U.free)
-  asked toWrite P =
+  asked to_write P =
       let U = P.asks in
       ap (λ (o : Outcome). o.answer.code) (update-writes S G g n s U.caller U.update x v U.known U.free (P.room refl))
 
@@ -113,8 +113,8 @@ module _ (S : Sizes) (G : Tables) (n s x v : ℕ) (g : Good S G) where
         go (inl c) false f = (λ q. (c, λ w. false_is f (circles.1 w)), λ m. wait_code c f)
         go (inr n) z f = (λ q. absurd (let e = free-code n in omega arith), λ m. absurd (n m.0))
 
-pub granted-exactly : (S : Sizes) → GrantedExactly S
-granted-exactly S G a n s x v g P = granted_here S G n s x v g a P
+pub granted_exactly : (S : Sizes) → GrantedExactly S
+granted_exactly S G a n s x v g P = granted_here S G n s x v g a P
 
 pub deadlock_exactly : (S : Sizes) → DeadlockExactly S
 deadlock_exactly S G a n s x v g P = deadlock_here S G n s x v g a P

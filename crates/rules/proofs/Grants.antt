@@ -17,19 +17,19 @@ use Rattle.rules.specs.Step.{with_txns, cleared, locked, shared_too, taken, repl
 use Rattle.rules.proofs.Tests.{and_left, and_right, and_both, or_cases, or_left, or_right, same?, is_false, true_is, false_is, iff_eq}
 use Rattle.rules.proofs.Bits.{with_bit_there, without_bit_here, without_bit_there, no_bits}
 use Rattle.rules.proofs.Views.{lock-set_lock, lock-set_lock-other, length-set_lock}
-use Rattle.rules.proofs.Carried.{NoMore, no_more-holds, no_more-same, txn-carried, lock-carried, settled-carried}
-use Rattle.rules.proofs.Quotas.{exclusives-fewer, exclusives-one-more, quota-carried}
+use Rattle.rules.proofs.Carried.{NoMore, no_more_holds, no_more_same, txn_carried, lock_carried, settled_carried}
+use Rattle.rules.proofs.Quotas.{exclusives_fewer, exclusives_one_more, quota_carried}
 use Rattle.rules.proofs.EqualRows.{update-live, settled-live, update-holds}
 use Rattle.rules.proofs.EqualRanks.{awaits→}
 use Rattle.rules.proofs.Lines.{same-leaving, left-ranks, left-links}
 use Rattle.rules.proofs.Walks.{waits-for→}
-use Rattle.rules.proofs.Deadlock.{grant-no-circle}
+use Rattle.rules.proofs.Deadlock.{grant_no_circle}
 use Rattle.rules.proofs.Waited.{cleared-good, cleared_here, cleared-keeps, cleared-update, cleared_holder}
 
 -- who holds no more conflicts with no more
-pub conflicts-fewer : (k b : ℕ) (h h' : Lock) → NoMore b h h' → T (conflicts h' k b) → T (conflicts h k b)
+pub conflicts_fewer : (k b : ℕ) (h h' : Lock) → NoMore b h h' → T (conflicts h' k b) → T (conflicts h k b)
 unfolding conflicts
-conflicts-fewer k b h h' n a = go (or_cases (holds_exclusive h' b) (eqb k 2 && holds_shared h' b) a)
+conflicts_fewer k b h h' n a = go (or_cases (holds_exclusive h' b) (eqb k 2 && holds_shared h' b) a)
   where
     go : T (holds_exclusive h' b) ⊎ T (eqb k 2 && holds_shared h' b) → T (holds_exclusive h b || (eqb k 2 && holds_shared h b))
     go (inl c) = or_left (holds_exclusive h b) _ (n.exclusive c)
@@ -50,8 +50,8 @@ pub record InSets (S : Sizes) (G : Tables) (s x : ℕ) (h' : Lock) : Type 0 wher
 pub in_sets_lem : (S : Sizes) (G : Tables) → Good S G → (s x : ℕ) → x < S.items → (h' : Lock) → NoMore s (lock G.locks x) h' → InSets S G s x h'
 in_sets_lem S G g s x i h' n =
     record {
-      hidden = λ h q b. g.sets_good.holdsHidden x s q i (no_more-holds s _ _ n h) b;
-      read = λ h q j b. g.sets_good.holdsRead x s q i j (n.exclusive h) b;
+      hidden = λ h q b. g.sets_good.holds_hidden x s q i (no_more_holds s _ _ n h) b;
+      read = λ h q j b. g.sets_good.holds_read x s q i j (n.exclusive h) b;
     }
 
 -- ---- the lock of item x becomes h'; slot s awaits nothing, and has room where it holds the item exclusively now and did not before, which
@@ -82,10 +82,10 @@ module _ (S : Sizes) (G : Tables) (g : Good S G) (s x : ℕ) (known : x < S.item
     where
       go : (y ≡ x) ⊎ (y ≢ x) → NoMore r (lock l y) (lock l' y)
       go (inl e) = subst (λ (z : ℕ). NoMore r (lock l z) (lock l' z)) (sym e) (subst (λ (o : Lock). NoMore r (lock l x) o) (sym here) (others r d))
-      go (inr e) = no_more-same r (there y e)
+      go (inr e) = no_more_same r (there y e)
 
   rows : (r : ℕ) → r < S.slots → GoodTxn S t l' r (txn t r)
-  rows r i = txn-carried S t t l l' r (txn t r) (omega arith) (omega arith) (λ w. fewer r (λ e. w (ap (λ (m : ℕ). (txn t m).awaited_lock) e ∙ idle)) _) (g.txn_good r i)
+  rows r i = txn_carried S t t l l' r (txn t r) (omega arith) (omega arith) (λ w. fewer r (λ e. w (ap (λ (m : ℕ). (txn t m).awaited_lock) e ∙ idle)) _) (g.txn_good r i)
 
   locks : (y : ℕ) → y < S.items → GoodLock S t (lock l' y)
   locks y i = go (same? y x)
@@ -102,7 +102,7 @@ module _ (S : Sizes) (G : Tables) (g : Good S G) (s x : ℕ) (known : x < S.item
   most q = go (holds_exclusive h' s) refl
     where
       no_more : (T (holds_exclusive h' s) → T (holds_exclusive (lock l x) s)) → exclusives_of S l' s ≤ S.quota
-      no_more f = omega (arith, exclusives-fewer S l l' s (λ y i. pick y (same? y x)))
+      no_more f = omega (arith, exclusives_fewer S l l' s (λ y i. pick y (same? y x)))
         where
           pick : (y : ℕ) → (y ≡ x) ⊎ (y ≢ x) → T (holds_exclusive (lock l' y) s) → T (holds_exclusive (lock l y) s)
           pick y (inl e) h = subst (λ (z : ℕ). T (holds_exclusive (lock l z) s)) (sym e) (f (subst (λ (o : Lock). T (holds_exclusive o s)) (ap (lock l') e ∙ here) h))
@@ -110,7 +110,7 @@ module _ (S : Sizes) (G : Tables) (g : Good S G) (s x : ℕ) (known : x < S.item
 
       by : T (holds_exclusive (lock l x) s) ⊎ (exclusives_of S l s ≢ S.quota) → exclusives_of S l' s ≤ S.quota
       by (inl h) = no_more (λ k. h)
-      by (inr d) = omega (arith, exclusives-one-more S l l' s x (λ y i e. mine_there y e))
+      by (inr d) = omega (arith, exclusives_one_more S l l' s x (λ y i e. mine_there y e))
 
       go : (b : Bool) → holds_exclusive h' s ≡ b → exclusives_of S l' s ≤ S.quota
       go true e = by (room (true_is e))
@@ -124,7 +124,7 @@ module _ (S : Sizes) (G : Tables) (g : Good S G) (s x : ℕ) (known : x < S.item
 
       go : (r ≡ s) ⊎ (r ≢ s) → GoodQuota S l' r (txn t r)
       go (inl e) = subst (λ (m : ℕ). GoodQuota S l' m (txn t m)) (sym e) (mine (omega arith))
-      go (inr d) = quota-carried S l l' r (txn t r) (exclusives-fewer S l l' r (λ y k. (fewer r d y).exclusive)) (g.quota_good r i)
+      go (inr d) = quota_carried S l l' r (txn t r) (exclusives_fewer S l l' r (λ y k. (fewer r d y).exclusive)) (g.quota_good r i)
 
   no_wait : T (awaits (txn t s)) → ⊥
   no_wait h = awaits→ (txn t s) h idle
@@ -135,7 +135,7 @@ module _ (S : Sizes) (G : Tables) (g : Good S G) (s x : ℕ) (known : x < S.item
   links : (a b : ℕ) → b ≢ s → T (waits_for t l' a b) → T (waits_for t l a b)
   links a b d h =
       let i = holder_inside in
-      left-links S t t l s i stay no_wait g.ranks_good l' g.txns_exact a b (λ w k c. conflicts-fewer k b _ _ (fewer b d (txn t a).awaited_item) c) h
+      left-links S t t l s i stay no_wait g.ranks_good l' g.txns_exact a b (λ w k c. conflicts_fewer k b _ _ (fewer b d (txn t a).awaited_item) c) h
 
   -- others share what they shared
   shares : (y r : ℕ) → r ≢ s → holds_shared (lock l' y) r ≡ holds_shared (lock l y) r
@@ -162,9 +162,9 @@ module _ (S : Sizes) (G : Tables) (g : Good S G) (s x : ℕ) (known : x < S.item
         quota_good = quotas;
         versions_good = g.versions_good;
         ranks_good = left-ranks S t t l s holder_inside stay no_wait g.ranks_good l' shares;
-        settled_good = settled-carried S G (tables t l' G.versions) (λ r i h. (h, refl)) (λ r y i j a h. (settled r y a h (same? r s) (same? y x), refl)) g.settled_good;
+        settled_good = settled_carried S G (tables t l' G.versions) (λ r i h. (h, refl)) (λ r y i j a h. (settled r y a h (same? r s) (same? y x), refl)) g.settled_good;
         sets_good = joins;
-        no_circle = grant-no-circle S G g s t l' (λ b h. (waits-for→ t l' s b h).0 idle) links;
+        no_circle = grant_no_circle S G g s t l' (λ b h. (waits-for→ t l' s b h).0 idle) links;
       }
     where
       joins : GoodSets S (tables t l' G.versions)
@@ -172,15 +172,15 @@ module _ (S : Sizes) (G : Tables) (g : Good S G) (s x : ℕ) (known : x < S.item
           record {
             apart = g.sets_good.apart;
             of_relaxed = g.sets_good.of_relaxed;
-            holdsRead = λ y r q i j e b. read y r q i j e b (same? r s) (same? y x);
-            holdsHidden = λ y r q i h b. hidden y r q i h b (same? r s) (same? y x);
+            holds_read = λ y r q i j e b. read y r q i j e b (same? r s) (same? y x);
+            holds_hidden = λ y r q i h b. hidden y r q i h b (same? r s) (same? y x);
           }
         where
           read :
               (y r q : ℕ) → y < S.items → q < S.slots → T (holds_exclusive (lock l' y) r) → T (bit (txn t q).items_read y)
               → (r ≡ s) ⊎ (r ≢ s) → (y ≡ x) ⊎ (y ≢ x) → T (bit (txn t r).later_for q)
-          read y r q i j e b (inr d) z = g.sets_good.holdsRead y r q i j ((fewer r d y).exclusive e) b
-          read y r q i j e b (inl d) (inr n) = g.sets_good.holdsRead y r q i j (subst (λ (o : Lock). T (holds_exclusive o r)) (there y n) e) b
+          read y r q i j e b (inr d) z = g.sets_good.holds_read y r q i j ((fewer r d y).exclusive e) b
+          read y r q i j e b (inl d) (inr n) = g.sets_good.holds_read y r q i j (subst (λ (o : Lock). T (holds_exclusive o r)) (there y n) e) b
           read y r q i j e b (inl d) (inl z) =
               subst (λ (m : ℕ). T (bit (txn t m).later_for q)) (sym d)
               (sets.read
@@ -190,8 +190,8 @@ module _ (S : Sizes) (G : Tables) (g : Good S G) (s x : ℕ) (known : x < S.item
           hidden :
               (y r q : ℕ) → y < S.items → T (holds (lock l' y) r) → T (bit (hidden_now S G.versions y) q)
               → (r ≡ s) ⊎ (r ≢ s) → (y ≡ x) ⊎ (y ≢ x) → T (bit (txn t r).later_for q)
-          hidden y r q i h b (inr d) z = g.sets_good.holdsHidden y r q i (no_more-holds r _ _ (fewer r d y) h) b
-          hidden y r q i h b (inl d) (inr n) = g.sets_good.holdsHidden y r q i (subst (λ (o : Lock). T (holds o r)) (there y n) h) b
+          hidden y r q i h b (inr d) z = g.sets_good.holds_hidden y r q i (no_more_holds r _ _ (fewer r d y) h) b
+          hidden y r q i h b (inl d) (inr n) = g.sets_good.holds_hidden y r q i (subst (λ (o : Lock). T (holds o r)) (there y n) h) b
           hidden y r q i h b (inl d) (inl z) =
               subst (λ (m : ℕ). T (bit (txn t m).later_for q)) (sym d)
               (sets.hidden
@@ -292,7 +292,7 @@ unfolding locked
 locked-good S G g s x inside update known h' good' others keeps room sets =
     relocked_good S (with_txns G (cleared S G.txns s)) (cleared-good S G g s inside update) s x known
     (ap (λ (w : Txn). w.awaited_lock) (cleared_here S G.txns g.txns_exact s inside)) h'
-    (lock-carried S G.txns (cleared S G.txns s) h' (λ r a u. subst T (sym (cleared-update S G.txns g.txns_exact s inside r (good'.sharers r a).0)) u)
+    (lock_carried S G.txns (cleared S G.txns s) h' (λ r a u. subst T (sym (cleared-update S G.txns g.txns_exact s inside r (good'.sharers r a).0)) u)
     (λ r a u. subst T (sym (cleared_holder S G.txns g.txns_exact s inside r (good'.excluders r a).0)) u) good')
     others keeps inside room
     (λ a b. absurd (let k = (settled-live _ a).1 in let m = (update-live _ (subst T (sym (cleared-update S G.txns g.txns_exact s inside s inside)) update)).1 in omega arith))

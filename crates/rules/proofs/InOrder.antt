@@ -16,7 +16,7 @@ use Rattle.rules.specs.Conditions.{CallerIn}
 use Rattle.rules.specs.Promises.{after, coming, Noted, NewcomerLast}
 use Rattle.rules.proofs.Tests.{is_false}
 use Rattle.rules.proofs.RowKinds.{update_no_reader, start-reads}
-use Rattle.rules.proofs.EqualRanks.{awaitsOn→}
+use Rattle.rules.proofs.EqualRanks.{awaits_on→}
 use Rattle.rules.proofs.Noting.{rank-last}
 use Rattle.rules.proofs.Refused.{wait_good, wait_words}
 use Rattle.rules.proofs.Waiting.{one_caller, one_want}
@@ -51,8 +51,8 @@ newcomer-last S c G s k x r e C up w new alone i d h = go (wait_words S c G e)
         subst (λ (j : ℕ). get_or (after S c G).txns (txn_at j + txn_rank_at) 0 ≡ rank_for S G.txns G.locks j x) q
         (subst (λ (z : ℕ). get_or (after S c G).txns (txn_at N.slot + txn_rank_at) 0 ≡ rank_for S G.txns G.locks N.slot z) y N.txns.rank) in
         let within : (txn G.txns r).rank ≤ waiters_on S G.txns x =
-        subst (λ (z : ℕ). (txn G.txns r).rank ≤ waiters_on S G.txns z) (awaitsOn→ x (txn G.txns r) h).1
-        (g.ranks_good.most r i (awaitsOn→ x (txn G.txns r) h).0) in
+        subst (λ (z : ℕ). (txn G.txns r).rank ≤ waiters_on S G.txns z) (awaits_on→ x (txn G.txns r) h).1
+        (g.ranks_good.most r i (awaits_on→ x (txn G.txns r) h).0) in
         let there : (txn (after S c G).txns r).rank ≡ coming S G s x (txn G.txns r) =
         subst (λ (j : ℕ). get_or (after S c G).txns (txn_at r + txn_rank_at) 0 ≡ coming S G j x (txn G.txns r)) q
         (subst (λ (z : ℕ). get_or (after S c G).txns (txn_at r + txn_rank_at) 0 ≡ coming S G N.slot z (txn G.txns r)) y

@@ -168,10 +168,10 @@ module _
           of_relaxed = λ r q i b.
               let k = ⊎_elim (λ a. o.of_relaxed r q i a) (λ a. relaxed q a.1) (joined-only t s m S g.txns_exact inside r q b) in
               (k.0, subst T (sym (relaxed' q)) k.1);
-          holdsRead = λ x r q i j e b.
+          holds_read = λ x r q i j e b.
               joined_grows t s m S g.txns_exact inside r q
-              (o.holdsRead x r q i j e (subst (λ (v : ℕ). T (bit v x)) (same (λ (r : Txn). r.items_read) (λ r v. refl) q) b));
-          holdsHidden = λ x r q i h b. joined_grows t s m S g.txns_exact inside r q (o.holdsHidden x r q i h b);
+              (o.holds_read x r q i j e (subst (λ (v : ℕ). T (bit v x)) (same (λ (r : Txn). r.items_read) (λ r v. refl) q) b));
+          holds_hidden = λ x r q i h b. joined_grows t s m S g.txns_exact inside r q (o.holds_hidden x r q i h b);
         }
 
     pub joined-good : Good S (joining s m G)

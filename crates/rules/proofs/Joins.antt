@@ -12,9 +12,9 @@ use Rattle.rules.specs.Tables.{Txn, txn, with_rank, lock, holds_shared, exclusiv
 use Rattle.rules.specs.Waits.{awaits, awaits_on, waiters_on, raised, ahead}
 use Rattle.rules.specs.Good.{GoodRanks}
 use Rattle.rules.proofs.Tests.{true_is, false_is, is_true, is_false, same?}
-use Rattle.rules.proofs.EqualRanks.{awaitsOn→, →awaitsOn}
+use Rattle.rules.proofs.EqualRanks.{awaits_on→, →awaits_on}
 use Rattle.rules.proofs.Walks.{ahead→, →ahead}
-use Rattle.rules.proofs.Lines.{counts_equal_lem, count-one-less, awaits_on-rank}
+use Rattle.rules.proofs.Lines.{counts_equal_lem, count_one_less, awaits_on-rank}
 
 -- ---- slot s, which stood in no line, comes into that of item x at the rank p
 module _
@@ -24,7 +24,7 @@ module _
     (g : GoodRanks S t l) (low : 1 ≤ p) (high : p ≤ suc (waiters_on S t x))
   where
     here : T (awaits_on x (txn t' s))
-    here = →awaitsOn x (txn t' s) waits item
+    here = →awaits_on x (txn t' s) waits item
 
     on' : (y r : ℕ) → r < S.slots → r ≢ s → awaits_on y (txn t' r) ≡ awaits_on y (txn t r)
     on' y r i d = ap (awaits_on y) (rows r i d) ∙ awaits_on-rank y (raised x p (txn t r)) (txn t r)
@@ -33,7 +33,7 @@ module _
     was' y r i d h = subst T (on' y r i d) h
 
     not_there : (y : ℕ) → T (awaits_on y (txn t s)) → ⊥
-    not_there y h = new (awaitsOn→ y (txn t s) h).0
+    not_there y h = new (awaits_on→ y (txn t s) h).0
 
     -- how a waiter on item y moved
     data Risen (y r : ℕ) : Type 0 where
@@ -46,19 +46,19 @@ module _
     risen y r i d h = line (awaits_on x (txn t r)) refl
       where
         w : T (awaits (txn t r)) × ((txn t r).awaited_item ≡ y)
-        w = awaitsOn→ y (txn t r) h
+        w = awaits_on→ y (txn t r) h
 
         is : (txn t' r).rank ≡ cond (awaits_on x (txn t r) && leb p (txn t r).rank) ((txn t r).rank + 1) (txn t r).rank
         is = ap (λ (w : Txn). w.rank) (rows r i d)
 
         line : (b : Bool) → awaits_on x (txn t r) ≡ b → Risen y r
         line false f =
-            elsewhere (λ e. false_is f (→awaitsOn x (txn t r) w.0 (w.1 ∙ e)))
+            elsewhere (λ e. false_is f (→awaits_on x (txn t r) w.0 (w.1 ∙ e)))
             (is ∙ ap (λ (b : Bool). cond (b && leb p (txn t r).rank) ((txn t r).rank + 1) (txn t r).rank) f)
         line true f = side (leb p (txn t r).rank) refl
           where
             same : y ≡ x
-            same = sym w.1 ∙ (awaitsOn→ x (txn t r) (true_is f)).1
+            same = sym w.1 ∙ (awaits_on→ x (txn t r) (true_is f)).1
 
             at : (b : Bool) → leb p (txn t r).rank ≡ b → (txn t' r).rank ≡ cond b ((txn t r).rank + 1) (txn t r).rank
             at b k =
@@ -72,7 +72,7 @@ module _
     one_more_lem : suc (waiters_on S t x) ≡ waiters_on S t' x
     unfolding waiters_on
     one_more_lem =
-        count-one-less S.slots (λ b. awaits_on x (txn t' b)) (λ b. awaits_on x (txn t b)) s inside here (not_there x) (λ r i d. sym (on' x r i d))
+        count_one_less S.slots (λ b. awaits_on x (txn t' b)) (λ b. awaits_on x (txn t b)) s inside here (not_there x) (λ r i d. sym (on' x r i d))
 
     as_many' : (y : ℕ) → y ≢ x → waiters_on S t' y ≡ waiters_on S t y
     unfolding waiters_on
@@ -82,7 +82,7 @@ module _
         go r i (inr d) = on' y r i d
         go r i (inl e) =
             is_false (awaits_on y (txn t' r))
-            (λ k. n (sym (awaitsOn→ y (txn t' r) k).1 ∙ ap (λ (m : ℕ). (txn t' m).awaited_item) e ∙ item))
+            (λ k. n (sym (awaits_on→ y (txn t' r) k).1 ∙ ap (λ (m : ℕ). (txn t' m).awaited_item) e ∙ item))
             ∙ sym (is_false (awaits_on y (txn t r)) (λ k. not_there y (subst (λ (m : ℕ). T (awaits_on y (txn t m))) e k)))
 
     order' : (y a b : ℕ) → Risen y a → Risen y b → (txn t a).rank < (txn t b).rank → (txn t' a).rank < (txn t' b).rank
@@ -118,7 +118,7 @@ module _
 
     -- an item's waiter is s, and then it is x
     on_item_lem : (y : ℕ) → T (awaits_on y (txn t' s)) → y ≡ x
-    on_item_lem y h = sym (awaitsOn→ y (txn t' s) h).1 ∙ item
+    on_item_lem y h = sym (awaits_on→ y (txn t' s) h).1 ∙ item
 
     -- the ranks stay good, where s stands ahead of those who hold nothing if it shares the item, and else behind those who share it
     module _
@@ -129,7 +129,7 @@ module _
         least'' y r i h = go (same? r s)
           where
             o : r ≢ s → 1 ≤ (txn t r).rank
-            o d = g.least r i (awaitsOn→ y (txn t r) (was' y r i d h)).0
+            o d = g.least r i (awaits_on→ y (txn t r) (was' y r i d h)).0
 
             by : 1 ≤ (txn t r).rank → Risen y r → 1 ≤ (txn t' r).rank
             by m (up a b c) = omega arith
@@ -144,7 +144,7 @@ module _
         most'' y r i h = go (same? r s)
           where
             o : r ≢ s → (txn t r).rank ≤ waiters_on S t y
-            o d = let w = awaitsOn→ y (txn t r) (was' y r i d h) in subst (λ (z : ℕ). (txn t r).rank ≤ waiters_on S t z) w.1 (g.most r i w.0)
+            o d = let w = awaits_on→ y (txn t r) (was' y r i d h) in subst (λ (z : ℕ). (txn t r).rank ≤ waiters_on S t z) w.1 (g.most r i w.0)
 
             more : y ≡ x → waiters_on S t' y ≡ suc (waiters_on S t y)
             more e = ap (waiters_on S t') e ∙ sym one_more_lem ∙ ap (λ (z : ℕ). suc (waiters_on S t z)) (sym e)
@@ -232,17 +232,17 @@ module _
         pub come_ranks : GoodRanks S t' l
         come_ranks =
             record {
-              least = λ r i w. least'' (txn t' r).awaited_item r i (→awaitsOn _ (txn t' r) w refl);
-              most = λ r i w. most'' (txn t' r).awaited_item r i (→awaitsOn _ (txn t' r) w refl);
+              least = λ r i w. least'' (txn t' r).awaited_item r i (→awaits_on _ (txn t' r) w refl);
+              most = λ r i w. most'' (txn t' r).awaited_item r i (→awaits_on _ (txn t' r) w refl);
               apart = apart'';
               exchangers = exchangers'';
             }
 
     -- among the others no earlier waiter is new
-    pub come-ahead :
+    pub come_ahead :
         (y k a b : ℕ) → a < S.slots → b < S.slots → a ≢ s → b ≢ s → T (awaits_on y (txn t a)) → T (ahead y k (txn t' a).rank (txn t' b))
         → T (ahead y k (txn t a).rank (txn t b))
-    come-ahead y k a b i j d f h u =
+    come_ahead y k a b i j d f h u =
         let v = ahead→ y k (txn t' a).rank (txn t' b) u in
         let w = was' y b j f v.0 in
         →ahead y k (txn t a).rank (txn t b) w

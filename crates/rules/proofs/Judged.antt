@@ -13,25 +13,25 @@ use Rattle.names.specs.Sizes.{last_word}
 use Rattle.rules.specs.Tables.{Tables, clock, txn, no_lock, shared_lock, exclusive_lock, an_update, a_settled, query_kind, some_relaxed}
 use Rattle.rules.specs.Tables.{live_update, live_settled, live_relaxed, any_query, is_reader, Lock, lock, holds, holds_shared, holds_exclusive, exclusives_of, slot_of}
 use Rattle.rules.specs.Good.{Good}
-use Rattle.rules.specs.Locks.{to_read, toWrite, Cell, held_by, decide, decision}
+use Rattle.rules.specs.Locks.{to_read, to_write, Cell, held_by, decide, decision}
 use Rattle.rules.specs.Answers.{Call, BeginUpdate, BeginQuery, Read, Write, Commit, Abort, Settle, BeginRelaxed, granted, code}
 use Rattle.rules.specs.Answers.{Wait, Deadlock, UnknownTransaction, UnknownItem, QueryMayNotWrite, StillWaiting}
 use Rattle.rules.specs.Answers.{ClockSpent, BadTables, QuotaSpent, PastWriting, KeptApart, Deed, Replaces, as_slot, as_item}
 use Rattle.rules.specs.Step.{judged, done, read_by, write_by, commit_update, commit_by, abort_by, settle_by, access, cell_deed, awaits_other, holds_back, held_back, start_read, writes_past, writes_further, version_read}
 use Rattle.rules.specs.Conditions.{IsSettle, CallerIn, NeedsLock, ConflictIn, HeldBackIn, When, then_tested, order}
 use Rattle.rules.proofs.Tests.{and_both, or_left, or_right, is_true, true_is, false_is, not_make, ne_make, ne_use}
-use Rattle.rules.proofs.Counts.{someBelow→, →someBelow}
+use Rattle.rules.proofs.Counts.{some_below→, →some_below}
 use Rattle.rules.proofs.RowKinds.{update-live, settled-reads, any-query-reads, update_no_reader}
 use Rattle.rules.proofs.EqualSets.{some_relaxed_lem, relaxed_some}
 use Rattle.rules.proofs.Quotas.{has_room}
-use Rattle.rules.proofs.Steps.{cond-case}
-use Rattle.rules.proofs.Callers.{caller-in, is-query, is-update, is_writer, is_reader_lem, is-settled, any-query-kind, settled-kind, reader-holds, held-by-start}
-use Rattle.rules.proofs.Decisions.{wanted-lock, never_both_lem, none-excludes, none_holds, blocked_for}
+use Rattle.rules.proofs.Steps.{cond_case}
+use Rattle.rules.proofs.Callers.{caller_in, is_query, is_update, is_writer, is_reader_lem, is_settled, any-query-kind, settled-kind, reader-holds, held_by_start}
+use Rattle.rules.proofs.Decisions.{wanted-lock, never_both_lem, none_excludes, none_holds, blocked_for}
 use Rattle.rules.proofs.Decisions.{CellIs, own_cell, newest_cell, share_cell, replace_cell, exchange_cell, exclude_cell, read_conflict, write_conflict, cell}
-use Rattle.rules.proofs.Ways.{Updater, Way, waited, read_own, read_newest, readShared, readSettled, readVersion}
-use Rattle.rules.proofs.Ways.{wroteOwn, wroteSettled, wroteTaken, committedUpdate, committedEmpty, committed_settled, committed_query, aborted_update, aborted_settled, aborted_query, settledUpdate}
-use Rattle.rules.proofs.Testing.{Goes, tests, skips, grants, begins-update, begins-query, begins-relaxed, unblocked, held_back_lem, here, names-tests, at_caller, no_clock}
-use Rattle.rules.proofs.Testing.{items-tests, waits-tests, past-tests, quota-tests, free, conflicting}
+use Rattle.rules.proofs.Ways.{Updater, Way, waited, read_own, read_newest, read_shared, read_settled, read_version}
+use Rattle.rules.proofs.Ways.{wrote_own, wrote_settled, wrote_taken, committed_update, committed_empty, committed_settled, committed_query, aborted_update, aborted_settled, aborted_query, settled_update}
+use Rattle.rules.proofs.Testing.{Goes, tests, skips, grants, begins-update, begins-query, begins-relaxed, unblocked, held_back_lem, here, names_tests, at_caller, no_clock}
+use Rattle.rules.proofs.Testing.{items_tests, waits_tests, past_tests, quota_tests, free, conflicting}
 
 -- the calls that are no settles
 read_no_settle : {n x : ℕ} → IsSettle (Read n x) → ⊥
@@ -44,7 +44,7 @@ commit_no_settle : {n : ℕ} → IsSettle (Commit n) → ⊥
 commit_no_settle (m, e) = let z : ◌≡◌ {A = ℕ} 0 1 = cc in omega arith
 
 -- who holds the item exclusively replaces its value
-replaces : (S : Sizes) (G : Tables) (s x v : ℕ) → T (holds_exclusive (lock G.locks x) s) → access S toWrite s x v G ≡ Replaces (as_slot s) (as_item x) v
+replaces : (S : Sizes) (G : Tables) (s x v : ℕ) → T (holds_exclusive (lock G.locks x) s) → access S to_write s x v G ≡ Replaces (as_slot s) (as_item x) v
 unfolding access decision held_by decide cell_deed
 replaces S G s x v h = rw (is_true (holds_exclusive (lock G.locks x) s) h)
 
@@ -59,13 +59,13 @@ module _ (S : Sizes) (G : Tables) (g : Good S G) where
       (UnknownTransaction ∷ UnknownItem ∷ QueryMayNotWrite ∷ StillWaiting ∷ PastWriting ∷ QuotaSpent ∷ Deadlock ∷ Wait ∷ []) (read_by S n x G)
   unfolding read_by start_read held_back When done version_read
   reads n x =
-      names-tests S G g c n refl only _ _ (λ e. let C = here S G g c n refl only e in
-      items-tests S G g c n refl only to_read x (refl, refl) asks _ _ (λ f.
+      names_tests S G g c n refl only _ _ (λ e. let C = here S G g c n refl only e in
+      items_tests S G g c n refl only to_read x (refl, refl) asks _ _ (λ f.
       skips S c G QueryMayNotWrite _ _ (λ w. no_write w.3)
-      (waits-tests S G g c n refl only to_read x (refl, refl) asks _ _ C (λ h.
+      (waits_tests S G g c n refl only to_read x (refl, refl) asks _ _ C (λ h.
       skips S c G PastWriting _ _ (λ w. no_write (⊎_elim (λ z. inl (z.0, z.1)) inr w.3))
       (skips S c G QuotaSpent _ _ (λ w. let q = w.4.0 in omega arith)
-      (cond-case (Goes S c G (Deadlock ∷ Wait ∷ [])) (eqb (txn G.txns i).kind an_update) _ _
+      (cond_case (Goes S c G (Deadlock ∷ Wait ∷ [])) (eqb (txn G.txns i).kind an_update) _ _
       (λ q. accessed e C h (is_writer G.txns i C.alive q) (leb-false S.items x f))
       (λ q. started e C (is_reader_lem G.txns i C.alive q) (leb-false S.items x f))))))))
     where
@@ -95,15 +95,15 @@ module _ (S : Sizes) (G : Tables) (g : Good S G) where
           eqb i S.slots ≡ false → CallerIn c S G i → T (is_reader (txn G.txns i)) → x < S.items
           → Goes S c G (Deadlock ∷ Wait ∷ []) (start_read S i x G)
       started e C q known =
-          cond-case (Goes S c G (Deadlock ∷ Wait ∷ [])) (holds_exclusive (lock G.locks x) i) _ _
+          cond_case (Goes S c G (Deadlock ∷ Wait ∷ [])) (holds_exclusive (lock G.locks x) i) _ _
           (λ o. unblocked S c G _ (no_update q) (λ r y K. own o r y K)
-          (readSettled n i x (caller-in S G n e) (reader-holds S G g i C.inside q x known (true_is o)) known (true_is o)) refl)
-          (λ o. cond-case (Goes S c G (Deadlock ∷ Wait ∷ [])) (held_back S G.txns G.locks x i) _ _
-          (λ b. let w = someBelow→ S.slots (holds_back G.txns G.locks x i) (true_is b) in
+          (read_settled n i x (caller_in S G n e) (reader-holds S G g i C.inside q x known (true_is o)) known (true_is o)) refl)
+          (λ o. cond_case (Goes S c G (Deadlock ∷ Wait ∷ [])) (held_back S G.txns G.locks x i) _ _
+          (λ b. let w = some_below→ S.slots (holds_back G.txns G.locks x i) (true_is b) in
           held_back_lem S c G i x (no_update q)
-          (record { caller = C; reader = held-by-start S G g i C.inside q x w.0 w.1 w.2; wants = (refl, refl); not_own = λ z. false_is o z; other = w.0; other_inside = w.1; other_holds = w.2 }))
+          (record { caller = C; reader = held_by_start S G g i C.inside q x w.0 w.1 w.2; wants = (refl, refl); not_own = λ z. false_is o z; other = w.0; other_inside = w.1; other_holds = w.2 }))
           (λ b. unblocked S c G _ (no_update q) (λ r y K. nobody b r y K)
-          (readVersion n i x (caller-in S G n e) q known (λ z. false_is o z) b) refl))
+          (read_version n i x (caller_in S G n e) q known (λ z. false_is o z) b) refl))
         where
           own : holds_exclusive (lock G.locks x) i ≡ true → (r y : ℕ) → HeldBackIn c S G r y → ⊥
           own o r y K =
@@ -113,7 +113,7 @@ module _ (S : Sizes) (G : Tables) (g : Good S G) where
           nobody : held_back S G.txns G.locks x i ≡ false → (r y : ℕ) → HeldBackIn c S G r y → ⊥
           nobody b r y K =
               false_is b
-              (→someBelow S.slots (holds_back G.txns G.locks x i) K.other K.other_inside
+              (→some_below S.slots (holds_back G.txns G.locks x i) K.other K.other_inside
               (subst (λ (z : ℕ). T (holds_back G.txns G.locks z i K.other)) (sym K.wants.1)
               (at_caller S G g c n refl only (λ (r : ℕ). T (holds_back G.txns G.locks y r K.other)) r K.caller K.other_holds)))
 
@@ -126,7 +126,7 @@ module _ (S : Sizes) (G : Tables) (g : Good S G) where
           h = lock G.locks x
 
           U : Updater S G n i shared_lock x
-          U = record { caller = caller-in S G n e; update = up; known = known; free = w }
+          U = record { caller = caller_in S G n e; update = up; known = known; free = w }
 
           granted-free : (d : Deed) → (NeedsLock h shared_lock i → T (blocked_for S G.txns G.locks shared_lock x i) → ⊥) → Way S G c d → (done S d G).answer.code ≡ granted → Goes S c G (Deadlock ∷ Wait ∷ []) d
           granted-free = free S G g c n refl only to_read x (refl, refl) asks C up known
@@ -137,7 +137,7 @@ module _ (S : Sizes) (G : Tables) (g : Good S G) where
           go d (share_cell o b) =
               unfold cell_deed done in
               (granted-free _ (λ n. b)
-              (readShared n i x U o (none-excludes S G g x known i shared_lock (λ k. o (unfold holds in (or_right (holds_shared h i) _ k))) b)) refl)
+              (read_shared n i x U o (none_excludes S G g x known i shared_lock (λ k. o (unfold holds in (or_right (holds_shared h i) _ k))) b)) refl)
           go d (read_conflict o b) =
               unfold cell_deed in
               (conflicting S G g c n refl only to_read x (refl, refl) asks C up known
@@ -158,14 +158,14 @@ module _ (S : Sizes) (G : Tables) (g : Good S G) where
       (UnknownTransaction ∷ UnknownItem ∷ QueryMayNotWrite ∷ StillWaiting ∷ PastWriting ∷ QuotaSpent ∷ Deadlock ∷ Wait ∷ []) (write_by S n x v G)
   unfolding write_by writes_past When
   writes n x v =
-      names-tests S G g c n refl only _ _ (λ e. let C = here S G g c n refl only e in
-      items-tests S G g c n refl only toWrite x (refl, refl) asks _ _ (λ f.
+      names_tests S G g c n refl only _ _ (λ e. let C = here S G g c n refl only e in
+      items_tests S G g c n refl only to_write x (refl, refl) asks _ _ (λ f.
       tests S c G QueryMayNotWrite _ (query_kind (txn G.txns i).kind) _ (λ z. omega arith, λ z. omega arith)
-      (λ q. (i, C, is-query G.txns i C.alive q, inl (x, (refl, refl))))
+      (λ q. (i, C, is_query G.txns i C.alive q, inl (x, (refl, refl))))
       (λ q w. no_query i q (at_caller S G g c n refl only (λ (r : ℕ). T (any_query (txn G.txns r))) w.0 w.1 w.2))
-      (λ q. waits-tests S G g c n refl only toWrite x (refl, refl) asks _ _ C (λ h.
-      past-tests S G g c n refl only toWrite x (refl, refl) asks _ _ refl C write_no_settle (λ p.
-      quota-tests S G g c n refl only toWrite x (refl, refl) asks _ _ refl C (λ o. writer C q p o (eqb (txn G.txns i).kind a_settled) refl) (λ m.
+      (λ q. waits_tests S G g c n refl only to_write x (refl, refl) asks _ _ C (λ h.
+      past_tests S G g c n refl only to_write x (refl, refl) asks _ _ refl C write_no_settle (λ p.
+      quota_tests S G g c n refl only to_write x (refl, refl) asks _ _ refl C (λ o. writer C q p o (eqb (txn G.txns i).kind a_settled) refl) (λ m.
       both e C h q p m (leb-false S.items x f) (eqb (txn G.txns i).kind a_settled) refl))))))
     where
       c : Call
@@ -192,43 +192,43 @@ module _ (S : Sizes) (G : Tables) (g : Good S G) where
           CallerIn c S G i → query_kind (txn G.txns i).kind ≡ false → writes_past G.txns G.locks i x ≡ false
           → (T (holds_exclusive (lock G.locks x) i) → ⊥) → (b : Bool) → eqb (txn G.txns i).kind a_settled ≡ b → T (live_update (txn G.txns i))
       writer C q p o true z = absurd (o (own p z))
-      writer C q p o false z = is-update S G g i C.inside C.alive q z
+      writer C q p o false z = is_update S G g i C.inside C.alive q z
 
       accessed :
           eqb i S.slots ≡ false → CallerIn c S G i → awaits_other G.txns i exclusive_lock x ≡ false → T (live_update (txn G.txns i)) → x < S.items
-          → writes_further S G.locks i x ≡ false → Goes S c G (Deadlock ∷ Wait ∷ []) (access S toWrite i x v G)
-      accessed e C w up known m = unfold access in (go (decision S toWrite G.txns G.locks x i) (cell S G g x known i toWrite))
+          → writes_further S G.locks i x ≡ false → Goes S c G (Deadlock ∷ Wait ∷ []) (access S to_write i x v G)
+      accessed e C w up known m = unfold access in (go (decision S to_write G.txns G.locks x i) (cell S G g x known i to_write))
         where
           h : Lock
           h = lock G.locks x
 
           U : Updater S G n i exclusive_lock x
-          U = record { caller = caller-in S G n e; update = up; known = known; free = w }
+          U = record { caller = caller_in S G n e; update = up; known = known; free = w }
 
           granted-free : (d : Deed) → (NeedsLock h exclusive_lock i → T (blocked_for S G.txns G.locks exclusive_lock x i) → ⊥) → Way S G c d → (done S d G).answer.code ≡ granted → Goes S c G (Deadlock ∷ Wait ∷ []) d
-          granted-free = free S G g c n refl only toWrite x (refl, refl) asks C up known
+          granted-free = free S G g c n refl only to_write x (refl, refl) asks C up known
 
           -- not held exclusively, so there is room for it
           room : (T (holds_exclusive h i) → ⊥) → exclusives_of S G.locks i ≢ S.quota
           room o = has_room S G.locks i x m o
 
-          go : (d : Cell) → CellIs S G.txns G.locks x i toWrite d → Goes S c G (Deadlock ∷ Wait ∷ []) (cell_deed S i exclusive_lock x v G d)
-          go d (replace_cell o) = unfold cell_deed done in (granted-free _ (λ n b. n.0 o) (wroteOwn n i x v U o) refl)
+          go : (d : Cell) → CellIs S G.txns G.locks x i to_write d → Goes S c G (Deadlock ∷ Wait ∷ []) (cell_deed S i exclusive_lock x v G d)
+          go d (replace_cell o) = unfold cell_deed done in (granted-free _ (λ n b. n.0 o) (wrote_own n i x v U o) refl)
           go d (exchange_cell o b) =
               unfold cell_deed done in
-              (granted-free _ (λ n. b) (wroteTaken n i x v U (inl o) (none_holds S G g x known i b) (room (λ k. never_both_lem S G g x known i i k o))) refl)
+              (granted-free _ (λ n. b) (wrote_taken n i x v U (inl o) (none_holds S G g x known i b) (room (λ k. never_both_lem S G g x known i i k o))) refl)
           go d (exclude_cell o b) =
               unfold cell_deed done in
-              (granted-free _ (λ n. b) (wroteTaken n i x v U (inr o) (none_holds S G g x known i b) (room (λ k. o (unfold holds in (or_right (holds_shared h i) _ k))))) refl)
+              (granted-free _ (λ n. b) (wrote_taken n i x v U (inr o) (none_holds S G g x known i b) (room (λ k. o (unfold holds in (or_right (holds_shared h i) _ k))))) refl)
           go d (write_conflict o b) =
               unfold cell_deed in
-              (conflicting S G g c n refl only toWrite x (refl, refl) asks C up known (o, λ z. absurd (omega arith)) b
+              (conflicting S G g c n refl only to_write x (refl, refl) asks C up known (o, λ z. absurd (omega arith)) b
               (λ z. waited i exclusive_lock x
               (record {
                 caller = C;
                 update = up;
                 wants = (refl, refl);
-                some = wanted-lock toWrite;
+                some = wanted-lock to_write;
                 free = w;
                 may = record { listed = omega arith; known = λ e. known; none = λ e. absurd (omega arith); shared = λ e. absurd (omega arith); exclusive = λ e. o; room = λ e. room o };
                 circle = z;
@@ -237,45 +237,45 @@ module _ (S : Sizes) (G : Tables) (g : Good S G) where
       both :
           eqb i S.slots ≡ false → CallerIn c S G i → awaits_other G.txns i exclusive_lock x ≡ false → query_kind (txn G.txns i).kind ≡ false
           → writes_past G.txns G.locks i x ≡ false → writes_further S G.locks i x ≡ false → x < S.items
-          → (b : Bool) → eqb (txn G.txns i).kind a_settled ≡ b → Goes S c G (Deadlock ∷ Wait ∷ []) (access S toWrite i x v G)
-      both e C h q p m known false z = accessed e C h (is-update S G g i C.inside C.alive q z) known m
+          → (b : Bool) → eqb (txn G.txns i).kind a_settled ≡ b → Goes S c G (Deadlock ∷ Wait ∷ []) (access S to_write i x v G)
+      both e C h q p m known false z = accessed e C h (is_update S G g i C.inside C.alive q z) known m
       both e C h q p m known true z =
           subst (λ (d : Deed). Goes S c G (Deadlock ∷ Wait ∷ []) d) (sym (replaces S G i x v (own p z)))
           (unblocked S c G _
           (λ r k y K. past_not_writes C z r K.caller K.update)
           (λ r y K. let k = K.wants.0 in absurd (omega arith))
-          (wroteSettled n i x v (caller-in S G n e) (is-settled G.txns i C.alive z) known (own p z)) (unfold done in refl))
+          (wrote_settled n i x v (caller_in S G n e) (is_settled G.txns i C.alive z) known (own p z)) (unfold done in refl))
         where
           past_not_writes : CallerIn c S G i → eqb (txn G.txns i).kind a_settled ≡ true → (r : ℕ) → CallerIn c S G r → T (live_update (txn G.txns r)) → ⊥
           past_not_writes C z r D up =
-              let k = settled-kind G.txns i (is-settled G.txns i C.alive z) in
+              let k = settled-kind G.txns i (is_settled G.txns i C.alive z) in
               let m = (update-live (txn G.txns i) (at_caller S G g c n refl only (λ (r : ℕ). T (live_update (txn G.txns r))) r D up)).1 in
               absurd (omega arith)
 
   commits : (n : ℕ) → Goes S (Commit n) G (UnknownTransaction ∷ StillWaiting ∷ ClockSpent ∷ []) (commit_by S n G)
   unfolding commit_by commit_update When done
   commits n =
-      names-tests S G g c n refl only _ _ (λ e. let C = here S G g c n refl only e in
+      names_tests S G g c n refl only _ _ (λ e. let C = here S G g c n refl only e in
       tests S c G StillWaiting _ (not (eqb (txn G.txns i).awaited_lock no_lock)) _ (λ z. omega arith, λ z. omega arith)
       (λ f. (i, C, ne_use _ no_lock (true_is f), λ w. w))
       (λ f w. false_is f (ne_make _ no_lock (at_caller S G g c n refl only (λ (r : ℕ). (txn G.txns r).awaited_lock ≢ no_lock) w.0 w.1 w.2)))
-      (λ f. cond-case (Goes S c G (ClockSpent ∷ [])) (query_kind (txn G.txns i).kind) _ _
-      (λ q. let k = is-query G.txns i C.alive q in
-      skips S c G ClockSpent _ _ (no_clock S G g c n refl only (any-query-reads (txn G.txns i) k)) (grants S c G _ (committed_query n i (caller-in S G n e) k) refl))
-      (λ q. cond-case (Goes S c G (ClockSpent ∷ [])) (eqb (txn G.txns i).kind a_settled) _ _
-      (λ z. let k = is-settled G.txns i C.alive z in
-      skips S c G ClockSpent _ _ (no_clock S G g c n refl only (settled-reads (txn G.txns i) k)) (grants S c G _ (committed_settled n i (caller-in S G n e) k) refl))
-      (λ z. let up = is-update S G g i C.inside C.alive q z in
+      (λ f. cond_case (Goes S c G (ClockSpent ∷ [])) (query_kind (txn G.txns i).kind) _ _
+      (λ q. let k = is_query G.txns i C.alive q in
+      skips S c G ClockSpent _ _ (no_clock S G g c n refl only (any-query-reads (txn G.txns i) k)) (grants S c G _ (committed_query n i (caller_in S G n e) k) refl))
+      (λ q. cond_case (Goes S c G (ClockSpent ∷ [])) (eqb (txn G.txns i).kind a_settled) _ _
+      (λ z. let k = is_settled G.txns i C.alive z in
+      skips S c G ClockSpent _ _ (no_clock S G g c n refl only (settled-reads (txn G.txns i) k)) (grants S c G _ (committed_settled n i (caller_in S G n e) k) refl))
+      (λ z. let up = is_update S G g i C.inside C.alive q z in
       let free = eqb-true (txn G.txns i).awaited_lock no_lock (not-false _ f) in
-      cond-case (Goes S c G (ClockSpent ∷ [])) (eqb (exclusives_of S G.locks i) 0) _ _
+      cond_case (Goes S c G (ClockSpent ∷ [])) (eqb (exclusives_of S G.locks i) 0) _ _
       (λ h. let none = eqb-true (exclusives_of S G.locks i) 0 h in
       skips S c G ClockSpent _ _ (λ w. no_stamp (at_caller S G g c n refl only (λ (r : ℕ). (exclusives_of S G.locks r ≢ 0) ⊎ IsSettle c) w.0 w.1 w.4) none)
-      (grants S c G _ (committedEmpty n i (caller-in S G n e) up free none) refl))
+      (grants S c G _ (committed_empty n i (caller_in S G n e) up free none) refl))
       (λ h. let some = eqb-false (exclusives_of S G.locks i) 0 h in
       tests S c G ClockSpent _ (eqb (clock G.txns) last_word) _ (λ z. omega arith, λ z. omega arith)
       (λ h. (i, C, up, eqb-true (clock G.txns) last_word h, inl some))
       (λ h w. eqb-false (clock G.txns) last_word h w.3)
-      (λ h. grants S c G _ (committedUpdate n i (caller-in S G n e) up free (eqb-false (clock G.txns) last_word h) some) refl))))))
+      (λ h. grants S c G _ (committed_update n i (caller_in S G n e) up free (eqb-false (clock G.txns) last_word h) some) refl))))))
     where
       c : Call
       c = Commit n
@@ -294,12 +294,12 @@ module _ (S : Sizes) (G : Tables) (g : Good S G) where
   aborts : (n : ℕ) → Goes S (Abort n) G (UnknownTransaction ∷ []) (abort_by S n G)
   unfolding abort_by done
   aborts n =
-      names-tests S G g c n refl only _ _ (λ e. let C = caller-in S G n e in
-      cond-case (Goes S c G []) (query_kind (txn G.txns i).kind) _ _
-      (λ q. grants S c G _ (aborted_query n i C (is-query G.txns i C.alive q)) refl)
-      (λ q. cond-case (Goes S c G []) (eqb (txn G.txns i).kind a_settled) _ _
-      (λ z. grants S c G _ (aborted_settled n i C (is-settled G.txns i C.alive z)) refl)
-      (λ z. grants S c G _ (aborted_update n i C (is-update S G g i C.inside C.alive q z)) refl)))
+      names_tests S G g c n refl only _ _ (λ e. let C = caller_in S G n e in
+      cond_case (Goes S c G []) (query_kind (txn G.txns i).kind) _ _
+      (λ q. grants S c G _ (aborted_query n i C (is_query G.txns i C.alive q)) refl)
+      (λ q. cond_case (Goes S c G []) (eqb (txn G.txns i).kind a_settled) _ _
+      (λ z. grants S c G _ (aborted_settled n i C (is_settled G.txns i C.alive z)) refl)
+      (λ z. grants S c G _ (aborted_update n i C (is_update S G g i C.inside C.alive q z)) refl)))
     where
       c : Call
       c = Abort n
@@ -313,15 +313,15 @@ module _ (S : Sizes) (G : Tables) (g : Good S G) where
   settles : (n : ℕ) → Goes S (Settle n) G (UnknownTransaction ∷ QueryMayNotWrite ∷ PastWriting ∷ StillWaiting ∷ ClockSpent ∷ KeptApart ∷ []) (settle_by S n G)
   unfolding settle_by When done
   settles n =
-      names-tests S G g c n refl only _ _ (λ e. let C = here S G g c n refl only e in
+      names_tests S G g c n refl only _ _ (λ e. let C = here S G g c n refl only e in
       tests S c G QueryMayNotWrite _ (query_kind (txn G.txns i).kind) _ (λ z. omega arith, λ z. omega arith)
-      (λ q. (i, C, is-query G.txns i C.alive q, inr (n, refl)))
+      (λ q. (i, C, is_query G.txns i C.alive q, inr (n, refl)))
       (λ q w. no_query i q (at_caller S G g c n refl only (λ (r : ℕ). T (any_query (txn G.txns r))) w.0 w.1 w.2))
       (λ q. tests S c G PastWriting _ (eqb (txn G.txns i).kind a_settled) _ (λ z. omega arith, λ z. omega arith)
-      (λ z. (i, C, is-settled G.txns i C.alive z, inr (n, refl)))
+      (λ z. (i, C, is_settled G.txns i C.alive z, inr (n, refl)))
       (λ z w. eqb-false (txn G.txns i).kind a_settled z
       (settled-kind G.txns i (at_caller S G g c n refl only (λ (r : ℕ). T (live_settled (txn G.txns r))) w.0 w.1 w.2)))
-      (λ z. let up = is-update S G g i C.inside C.alive q z in
+      (λ z. let up = is_update S G g i C.inside C.alive q z in
       tests S c G StillWaiting _ (not (eqb (txn G.txns i).awaited_lock no_lock)) _ (λ z. omega arith, λ z. omega arith)
       (λ f. (i, C, ne_use _ no_lock (true_is f), λ w. w))
       (λ f w. false_is f (ne_make _ no_lock (at_caller S G g c n refl only (λ (r : ℕ). (txn G.txns r).awaited_lock ≢ no_lock) w.0 w.1 w.2)))
@@ -332,7 +332,7 @@ module _ (S : Sizes) (G : Tables) (g : Good S G) where
       (λ m. inl ((n, refl), some_relaxed_lem S G.txns (true_is m)))
       (λ m w. settle-apart m w)
       (λ m. grants S c G _
-      (settledUpdate n i (caller-in S G n e) up (eqb-true (txn G.txns i).awaited_lock no_lock (not-false _ f)) (eqb-false (clock G.txns) last_word h)
+      (settled_update n i (caller_in S G n e) up (eqb-true (txn G.txns i).awaited_lock no_lock (not-false _ f)) (eqb-false (clock G.txns) last_word h)
       (λ q j k. false_is m (relaxed_some S G.txns q j k))) refl))))))
     where
       settle-apart :

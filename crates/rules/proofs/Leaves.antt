@@ -20,13 +20,13 @@ use Rattle.rules.proofs.Tests.{or_cases, or_left, or_right, same?, false_is}
 use Rattle.rules.proofs.Bits.{without_bit_here, without_bit_there, bit_none, no_bits}
 use Rattle.rules.proofs.Views.{length-set_txn, last_number-set_txn, clock-set_txn, txn-set_txn, txn-set_txn-other, lock-release, length-release}
 use Rattle.rules.proofs.RowKinds.{live-number, settled-live, relaxed-live}
-use Rattle.rules.proofs.Carried.{free-row, NoMore, no_more-same, txn-carried, lock-carried, settled-carried, sets-carried}
+use Rattle.rules.proofs.Carried.{free-row, NoMore, no_more_same, txn_carried, lock_carried, settled_carried, sets_carried}
 use Rattle.rules.proofs.Notes.{noting, Beside, beside_same, same_beside, noting-row, ranks-beside, links-beside}
-use Rattle.rules.proofs.Quotas.{exclusives-fewer, free_quota, quota-carried}
-use Rattle.rules.proofs.EqualRanks.{awaits→, awaitsOn→, waiter_inside}
+use Rattle.rules.proofs.Quotas.{exclusives_fewer, free_quota, quota_carried}
+use Rattle.rules.proofs.EqualRanks.{awaits→, awaits_on→, waiter_inside}
 use Rattle.rules.proofs.Lines.{same-leaving, left-ranks, left-links}
-use Rattle.rules.proofs.Deadlock.{fewer-no-circle}
-use Rattle.rules.proofs.Grants.{conflicts-fewer}
+use Rattle.rules.proofs.Deadlock.{fewer_no_circle}
+use Rattle.rules.proofs.Grants.{conflicts_fewer}
 
 -- ---- one lock without the slot s
 module _ (s : ℕ) (h : Lock) where
@@ -62,9 +62,9 @@ module _ (s : ℕ) (h : Lock) where
       go (inl c) = subst T (ap (λ (w : ℕ). bit w s) released-shared ∙ without_bit_here h.shared s) c
       go (inr c) = let e = released-exclusive s c in false_is e.1 e.0
 
-  pub released-fewer : (r : ℕ) → NoMore r h (released s h)
+  pub released_fewer : (r : ℕ) → NoMore r h (released s h)
   unfolding holds_shared holds
-  released-fewer r = record { shared = shared (same? r s); exclusive = λ c. (released-exclusive r c).0 }
+  released_fewer r = record { shared = shared (same? r s); exclusive = λ c. (released-exclusive r c).0 }
     where
       shared : (r ≡ s) ⊎ (r ≢ s) → T (bit (released s h).shared r) → T (bit h.shared r)
       shared (inl e) c = absurd (released_none (subst (λ (m : ℕ). T (holds (released s h) m)) e (or_left (bit (released s h).shared r) _ c)))
@@ -77,8 +77,8 @@ module _ (s : ℕ) (h : Lock) where
   pub released-lock : (S : Sizes) (t : List ℕ) → GoodLock S t h → GoodLock S t (released s h)
   released-lock S t g =
       record {
-        sharers = λ r a. g.sharers r ((released-fewer r).shared a);
-        excluders = λ r a. g.excluders r ((released-fewer r).exclusive a);
+        sharers = λ r a. g.sharers r ((released_fewer r).shared a);
+        excluders = λ r a. g.excluders r ((released_fewer r).exclusive a);
         never_both = both (holds_exclusive h s) refl g.never_both;
         no_working = working (holds_exclusive h s) refl;
       }
@@ -111,7 +111,7 @@ module _ (S : Sizes) (G : Tables) (g : Good S G) (s : ℕ) (within : s < S.slots
   freed x i = lock-release S s l g.locks_exact x i
 
   fewer : (r x : ℕ) → x < S.items → NoMore r (lock l x) (lock l' x)
-  fewer r x i = subst (λ (o : Lock). NoMore r (lock l x) o) (sym (freed x i)) (released-fewer s (lock l x) r)
+  fewer r x i = subst (λ (o : Lock). NoMore r (lock l x) o) (sym (freed x i)) (released_fewer s (lock l x) r)
 
   waiter : (a : ℕ) → (txn t a).awaited_lock ≢ no_lock → (txn t a).awaited_item < S.items
   waiter a d = (g.txn_good a (waiter_inside S t g.txns_exact a d)).item_known d
@@ -125,7 +125,7 @@ module _ (S : Sizes) (G : Tables) (g : Good S G) (s : ℕ) (within : s < S.slots
   links : (a b : ℕ) → T (waits_for t l' a b) → T (waits_for t l a b)
   links a b h =
       left-links S t t l s within stay no_wait g.ranks_good l' g.txns_exact a b
-      (λ w k c. conflicts-fewer k b _ _ (fewer b (txn t a).awaited_item (waiter a (awaits→ (txn t a) w))) c) h
+      (λ w k c. conflicts_fewer k b _ _ (fewer b (txn t a).awaited_item (waiter a (awaits→ (txn t a) w))) c) h
 
   -- the ranks: a waiter shares what it shared
   ranked : GoodRanks S t l'
@@ -137,11 +137,11 @@ module _ (S : Sizes) (G : Tables) (g : Good S G) (s : ℕ) (within : s < S.slots
         exchangers = λ x a b i j h k c n.
             let w = item x a h in
             g.ranks_good.exchangers x a b i j h k ((fewer a x w).shared c)
-            (λ z. n (subst T (sym (shared_still x w b (λ e. no_wait (subst (λ (m : ℕ). T (awaits (txn t m))) e (awaitsOn→ x (txn t b) k).0)))) z));
+            (λ z. n (subst T (sym (shared_still x w b (λ e. no_wait (subst (λ (m : ℕ). T (awaits (txn t m))) e (awaits_on→ x (txn t b) k).0)))) z));
       }
     where
       item : (x a : ℕ) → T (awaits_on x (txn t a)) → x < S.items
-      item x a h = let w = awaitsOn→ x (txn t a) h in subst (λ (y : ℕ). y < S.items) w.1 (waiter a (awaits→ (txn t a) w.0))
+      item x a h = let w = awaits_on→ x (txn t a) h in subst (λ (y : ℕ). y < S.items) w.1 (waiter a (awaits→ (txn t a) w.0))
 
       shared_still : (x : ℕ) → x < S.items → (r : ℕ) → r ≢ s → holds_shared (lock l' x) r ≡ holds_shared (lock l x) r
       shared_still x i r d = ap (λ (o : Lock). holds_shared o r) (freed x i) ∙ released-shares s (lock l x) r d
@@ -154,15 +154,15 @@ module _ (S : Sizes) (G : Tables) (g : Good S G) (s : ℕ) (within : s < S.slots
         versions_exact = g.versions_exact;
         last_most = g.last_most;
         clock_most = g.clock_most;
-        txn_good = λ r i. txn-carried S t t l l' r (txn t r) (omega arith) (omega arith) (λ d. fewer r _ ((g.txn_good r i).item_known d)) (g.txn_good r i);
+        txn_good = λ r i. txn_carried S t t l l' r (txn t r) (omega arith) (omega arith) (λ d. fewer r _ ((g.txn_good r i).item_known d)) (g.txn_good r i);
         distinct = g.distinct;
         lock_good = λ x i. subst (λ (o : Lock). GoodLock S t o) (sym (freed x i)) (released-lock s (lock l x) S t (g.lock_good x i));
-        quota_good = λ r i. quota-carried S l l' r (txn t r) (exclusives-fewer S l l' r (λ x k. (fewer r x k).exclusive)) (g.quota_good r i);
+        quota_good = λ r i. quota_carried S l l' r (txn t r) (exclusives_fewer S l l' r (λ x k. (fewer r x k).exclusive)) (g.quota_good r i);
         versions_good = g.versions_good;
         ranks_good = ranked;
-        settled_good = settled-carried S G (tables t l' G.versions) (λ r i h. (h, refl)) (λ r x i j a h. ((fewer r x j).exclusive h, refl)) g.settled_good;
-        sets_good = sets-carried S G (tables t l' G.versions) g g.sets_good.apart (λ q i h. h) (λ r i. refl) (λ q x i b. b) fewer (λ x q i b. b);
-        no_circle = fewer-no-circle S G g t l' links;
+        settled_good = settled_carried S G (tables t l' G.versions) (λ r i h. (h, refl)) (λ r x i j a h. ((fewer r x j).exclusive h, refl)) g.settled_good;
+        sets_good = sets_carried S G (tables t l' G.versions) g g.sets_good.apart (λ q i h. h) (λ r i. refl) (λ q x i b. b) fewer (λ x q i b. b);
+        no_circle = fewer_no_circle S G g t l' links;
       }
 
   -- what another holds exclusively afterwards, s did not hold
@@ -170,8 +170,8 @@ module _ (S : Sizes) (G : Tables) (g : Good S G) (s : ℕ) (within : s < S.slots
   released-other r x i a = (released-exclusive s (lock l x) r (subst (λ (o : Lock). T (holds_exclusive o r)) (freed x i) a)).1
 
   -- what another shares afterwards it shared
-  pub released-shares_still : (r x : ℕ) → x < S.items → T (holds_shared (lock (release S s G.locks) x) r) → T (holds_shared (lock G.locks x) r)
-  released-shares_still r x i a = (fewer r x i).shared a
+  pub released_shares_still : (r x : ℕ) → x < S.items → T (holds_shared (lock (release S s G.locks) x) r) → T (holds_shared (lock G.locks x) r)
+  released_shares_still r x i a = (fewer r x i).shared a
 
   pub released-holds : (x : ℕ) → x < S.items → T (holds (lock (release S s G.locks) x) s) → ⊥
   released-holds x i a = released_none s (lock l x) (subst (λ (o : Lock). T (holds o s)) (freed x i) a)
@@ -255,7 +255,7 @@ module _
             (noting-row S t' G.locks r _ _ _ _ (txn t₀ r)
             (λ e. sym (there r d) ∙ z ∙ free r d e ∙ (g.txn_good r i).free e)
             (subst GoodReads (sym z ∙ there r d) (reads r i d)) (subst (GoodNotes S) (sym z ∙ there r d) (notes r i d))
-            (txn-carried S t₀ t' G.locks G.locks r (txn t₀ r) (let a = last' in omega arith) (let a = clock' in omega arith) (λ w. no_more-same r refl) (g.txn_good r i)))
+            (txn_carried S t₀ t' G.locks G.locks r (txn t₀ r) (let a = last' in omega arith) (let a = clock' in omega arith) (λ w. no_more_same r refl) (g.txn_good r i)))
 
     quotas : (r : ℕ) → r < S.slots → GoodQuota S G.locks r (txn t' r)
     quotas r i = go (same? r s)
@@ -315,17 +315,17 @@ module _
           clock_most = let a = clock' in omega arith;
           txn_good = rows;
           distinct = apart;
-          lock_good = λ x i. lock-carried S t₀ t' (lock G.locks x)
+          lock_good = λ x i. lock_carried S t₀ t' (lock G.locks x)
               (λ r h q. subst T (sym (update' r (holder_other x r i (unfold holds in (or_left (holds_shared (lock G.locks x) r) _ h))))) q)
               (λ r h q. subst T (sym (holder' r (holder_other x r i (unfold holds in (or_right (holds_shared (lock G.locks x) r) _ h))))) q) (g.lock_good x i);
           quota_good = quotas;
           versions_good = rows';
           ranks_good = ranks-beside S t₁ t' G.locks further (left-ranks S t₀ t₁ G.locks s inside others gone g.ranks_good G.locks (λ x r d. refl));
-          settled_good = settled-carried S G (tables t' G.locks v')
+          settled_good = settled_carried S G (tables t' G.locks v')
               (λ r i h. let d = not_here r (settled-live (txn t' r) h).0 in (subst T (settled' r d) h, other (λ (r : Txn). r.start) (λ r n w i m. refl) r d))
               (λ r x i j a h. (h, tops r x i j a h)) g.settled_good;
           sets_good = sets;
-          no_circle = fewer-no-circle S G g t' G.locks links';
+          no_circle = fewer_no_circle S G g t' G.locks links';
         }
 
 -- ---- the same where the other rows are the very same, and s is no relaxed query
@@ -367,8 +367,8 @@ module _
               (subst (λ (v : Txn). T (live_settled v)) (away a (away_live a (settled-live (txn w a) h).0)) h)
               (subst (λ (v : Txn). T (live_relaxed v)) (away b (away_live b (relaxed-live (txn w b) m).0)) m);
           of_relaxed = λ r q i b. let k = o.of_relaxed r q i (later_for_lem r q b (same? r s)) in (k.0, stays q k.1);
-          holdsRead = λ x r q i j e b. keeps r q (other-holds x r i (unfold holds in (or_right (holds_shared (lock G.locks x) r) _ e))) (o.holdsRead x r q i j e (read q x b (same? q s)));
-          holdsHidden = λ x r q i h b. keeps r q (other-holds x r i h) (o.holdsHidden x r q i h (shown x r q i h b));
+          holds_read = λ x r q i j e b. keeps r q (other-holds x r i (unfold holds in (or_right (holds_shared (lock G.locks x) r) _ e))) (o.holds_read x r q i j e (read q x b (same? q s)));
+          holds_hidden = λ x r q i h b. keeps r q (other-holds x r i h) (o.holds_hidden x r q i h (shown x r q i h b));
         }
       where
         later_for_lem : (r q : ℕ) → T (bit (txn w r).later_for q) → (r ≡ s) ⊎ (r ≢ s) → T (bit (txn G.txns r).later_for q)

@@ -18,7 +18,7 @@ use Rattle.rules.specs.Tested.{all_read}
 use Rattle.rules.proofs.Tests.{or_right, is_true, is_false, true_is, not_make, not_use, eq_make, iff_eq}
 use Rattle.rules.proofs.Counts.{some_mem}
 use Rattle.rules.proofs.Choice.{place_hit, place_miss, place_above}
-use Rattle.rules.proofs.Trim.{→allRead, reader, kept_fixed, kept-fixed-from, kept_read}
+use Rattle.rules.proofs.Trim.{→all_read, reader, kept_fixed, kept_fixed_from, kept_read}
 use Rattle.rules.proofs.Reading.{between, read_between}
 
 -- every version behind the newest is read by some of qs, but perhaps the one at place p
@@ -47,34 +47,34 @@ module _
     all_stay : T (eqb p 0 || read_by_some qs vs p) → kept qs vs ≡ vs
     all_stay h =
         kept_fixed qs vs
-        (→allRead qs vs 0 vs (λ j l. subst (λ (k : ℕ). T (eqb k 0 || read_by_some qs vs k)) (sym (zero-add j)) (go j (held j l))))
+        (→all_read qs vs 0 vs (λ j l. subst (λ (k : ℕ). T (eqb k 0 || read_by_some qs vs k)) (sym (zero-add j)) (go j (held j l))))
       where
         go : (j : ℕ) → Held j → T (eqb j 0 || read_by_some qs vs j)
         go j (inl e) = subst (λ (k : ℕ). T (eqb k 0 || read_by_some qs vs k)) e h
         go j (inr t) = t
 
     -- else it goes, and no other: of those from place k on, n of which stand before it
-    one-goes :
+    one_goes :
         (eqb p 0 || read_by_some qs vs p) ≡ false → (n k : ℕ) (rest : List Version) → k + n ≡ p
         → ((j : ℕ) → j < length rest → Held (k + j)) → kept_from qs vs k rest ≡ take n rest ++ drop (suc n) rest
     unfolding kept_from
-    one-goes u n k [] e f = sym (ap (λ (l : List Version). l ++ []) (take-nil n))
-    one-goes u zero k (v ∷ rest) e f =
+    one_goes u n k [] e f = sym (ap (λ (l : List Version). l ++ []) (take-nil n))
+    one_goes u zero k (v ∷ rest) e f =
         let z : p ≡ k = omega arith in
         rw (subst (λ (i : ℕ). (eqb i 0 || read_by_some qs vs i) ≡ false) z u)
-        (kept-fixed-from qs vs (suc k) rest
-        (→allRead qs vs (suc k) rest (λ j l. but (suc k + j) (λ y. omega arith) (subst Held (let y : k + suc j ≡ suc k + j = omega arith in y) (f (suc j) (omega arith))))))
-    one-goes u (suc n) k (v ∷ rest) e f =
+        (kept_fixed_from qs vs (suc k) rest
+        (→all_read qs vs (suc k) rest (λ j l. but (suc k + j) (λ y. omega arith) (subst Held (let y : k + suc j ≡ suc k + j = omega arith in y) (f (suc j) (omega arith))))))
+    one_goes u (suc n) k (v ∷ rest) e f =
         rw (is_true (eqb k 0 || read_by_some qs vs k) (but k (λ y. omega arith) (subst Held (let y : k + 0 ≡ k = omega arith in y) (f 0 (omega arith)))))
         (ap {B = List Version} (λ l. v ∷ l)
-        (one-goes u n (suc k) rest (omega arith) (λ j l. subst Held (let y : k + suc j ≡ suc k + j = omega arith in y) (f (suc j) (omega arith)))))
+        (one_goes u n (suc k) rest (omega arith) (λ j l. subst Held (let y : k + suc j ≡ suc k + j = omega arith in y) (f (suc j) (omega arith)))))
 
     pub one_may_go : kept qs vs ≡ cond (eqb p 0 || read_by_some qs vs p) vs (take p vs ++ drop (suc p) vs)
     one_may_go = go (eqb p 0 || read_by_some qs vs p) refl
       where
         go : (b : Bool) → (eqb p 0 || read_by_some qs vs p) ≡ b → kept qs vs ≡ cond b vs (take p vs ++ drop (suc p) vs)
         go true e = all_stay (true_is e)
-        go false e = unfold kept in one-goes e p 0 vs (zero-add p) (λ j l. subst Held (sym (zero-add j)) (held j l))
+        go false e = unfold kept in one_goes e p 0 vs (zero-add p) (λ j l. subst Held (sym (zero-add j)) (held j l))
 
 -- ---- the reader q leaves, qs are those who stay: the version that it read goes, unless it is the newest or one of
 -- them reads it
@@ -157,10 +157,10 @@ module _ (qs : List Reader) (new : Version) where
       (ap₂ ◌||◌ (ne_eqb (suc (suc k)) 0 (λ z. omega arith) ∙ sym (ne_eqb (suc k) 0 (λ z. omega arith))) (same_read vs newer k))
       (same_kept vs newer (suc k) rest)
 
-  pub new_over-kept : (vs : List Version) → Over new vs → kept qs (new ∷ kept qs vs) ≡ kept qs (new ∷ vs)
+  pub new_over_kept : (vs : List Version) → Over new vs → kept qs (new ∷ kept qs vs) ≡ kept qs (new ∷ vs)
   unfolding kept kept_from
-  new_over-kept [] newer = refl
-  new_over-kept (v ∷ rest) newer =
+  new_over_kept [] newer = refl
+  new_over_kept (v ∷ rest) newer =
       let vs : List Version = v ∷ rest in
       let K = kept qs vs in
       let e : get_or K 0 no_version ≡ v = refl in

@@ -16,8 +16,8 @@ use Rattle.rules.specs.Waits.{awaits, awaits_on, waiters_on, lowered, conflicts,
 use Rattle.rules.specs.Good.{GoodRanks}
 use Rattle.rules.specs.Changed.{leaving}
 use Rattle.rules.proofs.Tests.{true_is, false_is, is_true, is_false, same?, and_right, and_both, and_also, not_use, ne_make, eq_make}
-use Rattle.rules.proofs.Counts.{count-fewer}
-use Rattle.rules.proofs.EqualRanks.{awaits→, →awaits, awaitsOn→, →awaitsOn, waiter_inside}
+use Rattle.rules.proofs.Counts.{count_fewer}
+use Rattle.rules.proofs.EqualRanks.{awaits→, →awaits, awaits_on→, →awaits_on, waiter_inside}
 use Rattle.rules.proofs.Walks.{ahead→, →ahead, waits-for→, →waits-for}
 
 -- ---- how many pass, where the same pass
@@ -31,11 +31,11 @@ counts_equal_lem (suc n) p q f = rw (f n (omega arith)) (step (q n) (counts_equa
     step false e = e
 
 -- ---- how many pass, where one that passed passes no more
-pub count-one-less :
+pub count_one_less :
     (n : ℕ) (p q : ℕ → Bool) (s : ℕ) → s < n → T (p s) → (T (q s) → ⊥) → ((i : ℕ) → i < n → i ≢ s → q i ≡ p i) → suc (count_below n q) ≡ count_below n p
 unfolding count_below
-count-one-less zero p q s h a b f = absurd (omega arith)
-count-one-less (suc n) p q s h a b f = go (same? n s) (λ l. count-one-less n p q s l a b (λ i k. f i (omega arith)))
+count_one_less zero p q s h a b f = absurd (omega arith)
+count_one_less (suc n) p q s h a b f = go (same? n s) (λ l. count_one_less n p q s l a b (λ i k. f i (omega arith)))
   where
     same : n ≡ s → count_below n q ≡ count_below n p
     same e = counts_equal_lem n q p (λ i k. f i (omega arith) (λ z. omega arith))
@@ -54,8 +54,8 @@ pub count-more :
     (n : ℕ) (p q : ℕ → Bool) (s : ℕ) → s < n → T (p s) → (T (q s) → ⊥) → ((i : ℕ) → i < n → T (q i) → T (p i))
     → count_below n q < count_below n p
 count-more n p q s h a b f =
-    let few = count-fewer n q others (λ i l u. and_both (p i) _ (f i l u) (ne_make i s (λ e. b (subst (λ (m : ℕ). T (q m)) e u)))) in
-    let one = count-one-less n p others s h a (λ u. not_use (eqb s s) (and_right (p s) _ u) (eq_make s s refl)) (λ i l d. sym (and_also (p i) (not (eqb i s)) (ne_make i s d))) in
+    let few = count_fewer n q others (λ i l u. and_both (p i) _ (f i l u) (ne_make i s (λ e. b (subst (λ (m : ℕ). T (q m)) e u)))) in
+    let one = count_one_less n p others s h a (λ u. not_use (eqb s s) (and_right (p s) _ u) (eq_make s s refl)) (λ i l d. sym (and_also (p i) (not (eqb i s)) (ne_make i s d))) in
     omega arith
   where
     others : ℕ → Bool
@@ -102,7 +102,7 @@ module _
     rank' r i d = ap (λ (w : Txn). w.rank) (rows r i d)
 
     other : (x r : ℕ) → T (awaits_on x (txn t' r)) → r ≢ s
-    other x r h e = idle (subst (λ (m : ℕ). T (awaits (txn t' m))) e (awaitsOn→ x (txn t' r) h).0)
+    other x r h e = idle (subst (λ (m : ℕ). T (awaits (txn t' m))) e (awaits_on→ x (txn t' r) h).0)
 
     was : (x r : ℕ) → r < S.slots → T (awaits_on x (txn t' r)) → T (awaits_on x (txn t r))
     was x r i h = subst T (on x r i (other x r h)) h
@@ -118,11 +118,11 @@ module _
     moved x r i d h = go (awaits (txn t s)) refl
       where
         w : T (awaits (txn t r)) × ((txn t r).awaited_item ≡ x)
-        w = awaitsOn→ x (txn t r) h
+        w = awaits_on→ x (txn t r) h
 
         go : (b : Bool) → awaits (txn t s) ≡ b → Moved x r
         go false e =
-            apart (λ k. false_is e (awaitsOn→ x (txn t s) k).0)
+            apart (λ k. false_is e (awaits_on→ x (txn t s) k).0)
             (rank' r i d ∙ ap (λ (b : Bool). cond b (lowered x₀ q (txn t r)) (txn t r).rank) e)
         go true e = line (awaits_on x₀ (txn t r)) refl
           where
@@ -131,12 +131,12 @@ module _
 
             line : (b : Bool) → awaits_on x₀ (txn t r) ≡ b → Moved x r
             line false f =
-                apart (λ k. false_is f (→awaitsOn x₀ (txn t r) w.0 (w.1 ∙ sym (awaitsOn→ x (txn t s) k).1)))
+                apart (λ k. false_is f (→awaits_on x₀ (txn t r) w.0 (w.1 ∙ sym (awaits_on→ x (txn t s) k).1)))
                 (is ∙ ap (λ (b : Bool). cond (b && ltb q (txn t r).rank) ((txn t r).rank - 1) (txn t r).rank) f)
             line true f = side (ltb q (txn t r).rank) refl
               where
                 same : T (awaits_on x (txn t s))
-                same = →awaitsOn x (txn t s) (true_is e) (sym (awaitsOn→ x₀ (txn t r) (true_is f)).1 ∙ w.1)
+                same = →awaits_on x (txn t s) (true_is e) (sym (awaits_on→ x₀ (txn t r) (true_is f)).1 ∙ w.1)
 
                 side : (b : Bool) → ltb q (txn t r).rank ≡ b → Moved x r
                 side true k =
@@ -150,7 +150,7 @@ module _
     one_less : (x : ℕ) → T (awaits_on x (txn t s)) → suc (waiters_on S t' x) ≡ waiters_on S t x
     unfolding waiters_on
     one_less x h =
-        count-one-less S.slots (λ b. awaits_on x (txn t b)) (λ b. awaits_on x (txn t' b)) s inside h (λ k. other x s k refl) (λ r i d. on x r i d)
+        count_one_less S.slots (λ b. awaits_on x (txn t b)) (λ b. awaits_on x (txn t' b)) s inside h (λ k. other x s k refl) (λ r i d. on x r i d)
 
     as_many : (x : ℕ) → (T (awaits_on x (txn t s)) → ⊥) → waiters_on S t' x ≡ waiters_on S t x
     unfolding waiters_on
@@ -166,10 +166,10 @@ module _
     least' x r i h = go (moved x r i (other x r h) (was x r i h))
       where
         o : 1 ≤ (txn t r).rank
-        o = g.least r i (awaitsOn→ x (txn t r) (was x r i h)).0
+        o = g.least r i (awaits_on→ x (txn t r) (was x r i h)).0
 
         go : Moved x r → 1 ≤ (txn t' r).rank
-        go (behind k b e) = let m = g.least s inside (awaitsOn→ x (txn t s) k).0 in omega arith
+        go (behind k b e) = let m = g.least s inside (awaits_on→ x (txn t s) k).0 in omega arith
         go (before k b e) = let m = o in omega arith
         go (apart k e) = let m = o in omega arith
 
@@ -177,10 +177,10 @@ module _
     most' x r i h = go (moved x r i (other x r h) (was x r i h))
       where
         o : (txn t r).rank ≤ waiters_on S t x
-        o = let w = awaitsOn→ x (txn t r) (was x r i h) in subst (λ (y : ℕ). (txn t r).rank ≤ waiters_on S t y) w.1 (g.most r i w.0)
+        o = let w = awaits_on→ x (txn t r) (was x r i h) in subst (λ (y : ℕ). (txn t r).rank ≤ waiters_on S t y) w.1 (g.most r i w.0)
 
         top : T (awaits_on x (txn t s)) → q ≤ waiters_on S t x
-        top k = let w = awaitsOn→ x (txn t s) k in subst (λ (y : ℕ). q ≤ waiters_on S t y) w.1 (g.most s inside w.0)
+        top k = let w = awaits_on→ x (txn t s) k in subst (λ (y : ℕ). q ≤ waiters_on S t y) w.1 (g.most s inside w.0)
 
         go : Moved x r → (txn t' r).rank ≤ waiters_on S t' x
         go (behind k b e) = let m = o in let n = one_less x k in omega arith
@@ -215,8 +215,8 @@ module _
         (l' : List ℕ) → ((x r : ℕ) → r ≢ s → holds_shared (lock l' x) r ≡ holds_shared (lock l x) r) → GoodRanks S t' l'
     left-ranks l' shares =
         record {
-          least = λ r i w. least' (txn t' r).awaited_item r i (→awaitsOn _ (txn t' r) w refl);
-          most = λ r i w. most' (txn t' r).awaited_item r i (→awaitsOn _ (txn t' r) w refl);
+          least = λ r i w. least' (txn t' r).awaited_item r i (→awaits_on _ (txn t' r) w refl);
+          most = λ r i w. most' (txn t' r).awaited_item r i (→awaits_on _ (txn t' r) w refl);
           apart = λ x a b i j d h k e.
               split x a b i j d h k
               (g.apart x a b i j d (was x a i h) (was x b j k)) e;
@@ -301,5 +301,5 @@ module _
             (inl (fewer (→awaits (txn t a) waits) k (subst (λ (j : ℕ). T (conflicts (lock l' x) j b)) kind (subst (λ (y : ℕ). T (conflicts (lock l' y) (txn t' a).awaited_lock b)) item c))))
         go (inr c) =
             let c' = subst (λ (j : ℕ). T (ahead x j (txn t' a).rank (txn t' b))) kind (subst (λ (y : ℕ). T (ahead y (txn t' a).awaited_lock (txn t' a).rank (txn t' b))) item c) in
-            let j = waiter_inside S t' size b (awaits→ (txn t' b) (awaitsOn→ x (txn t' b) (ahead→ x k (txn t' a).rank (txn t' b) c').0).0) in
-            →waits-for t l a b waits v.1 (inr (left-ahead x k a b i j d (→awaitsOn x (txn t a) (→awaits (txn t a) waits) refl) c'))
+            let j = waiter_inside S t' size b (awaits→ (txn t' b) (awaits_on→ x (txn t' b) (ahead→ x k (txn t' a).rank (txn t' b) c').0).0) in
+            →waits-for t l a b waits v.1 (inr (left-ahead x k a b i j d (→awaits_on x (txn t a) (→awaits (txn t a) waits) refl) c'))

@@ -17,8 +17,8 @@ use Rattle.rules.specs.Tested.{all_read}
 pub use Rattle.rules.specs.Promises.{may_pass, later}
 use Rattle.rules.proofs.Tests.{and_both, eq_make, ne_make, is_false}
 use Rattle.rules.proofs.Counts.{some_mem}
-use Rattle.rules.proofs.Choice.{length-versions_in, place_above, place-fits, place-le, place-least, place-exists}
-use Rattle.rules.proofs.Passing.{tally, counted, passing_all, passing-some}
+use Rattle.rules.proofs.Choice.{length-versions_in, place_above, place-fits, place-le, place-least, place_exists}
+use Rattle.rules.proofs.Passing.{tally, counted, passing_all, passing_some}
 use Rattle.rules.proofs.Trim.{reader}
 use Rattle.rules.proofs.EqualVersions.{Good→read}
 
@@ -49,7 +49,7 @@ looked-most qs vs q h =
     let n = place q vs - 1 in
     let e = later-counted q qs in
     let a = passing_all (λ i. some (λ s. may_pass q s && eqb (place s vs) i) qs) 1 n each in
-    let b = passing-some (may_pass q) (λ s. place s vs) qs 1 n in
+    let b = passing_some (may_pass q) (λ s. place s vs) qs 1 n in
     omega arith
   where
     each : (i : ℕ) → 1 ≤ i → i < 1 + (place q vs - 1) → T (some (λ s. may_pass q s && eqb (place s vs) i) qs)
@@ -80,4 +80,4 @@ module _ (S : Sizes) (t r : List ℕ) (g : GoodVersions S t r) where
     looked-chosen = (found, place-fits q vs found, λ k l o. place-least q vs k l o)
       where
         found : place q vs < length vs
-        found = place-exists q vs (let e = length-versions_in S r in let a = g.count_least in omega arith) (g.last s inside reads)
+        found = place_exists q vs (let e = length-versions_in S r in let a = g.count_least in omega arith) (g.last s inside reads)

@@ -16,9 +16,9 @@ use Rattle.rules.specs.Good.{Good, GoodReads, GoodNotes, GoodTxn, GoodQuota, Goo
 use Rattle.rules.specs.Step.{with_txns}
 use Rattle.rules.proofs.Tests.{same?}
 use Rattle.rules.proofs.Views.{txn-set_txn, txn-set_txn-other}
-use Rattle.rules.proofs.Carried.{no_more-same, reads_by, txn-carried, lock-carried, versions-same, settled-carried}
+use Rattle.rules.proofs.Carried.{no_more_same, reads_by, txn_carried, lock_carried, versions-same, settled_carried}
 use Rattle.rules.proofs.Lines.{counts_equal_lem}
-use Rattle.rules.proofs.Deadlock.{fewer-no-circle}
+use Rattle.rules.proofs.Deadlock.{fewer_no_circle}
 
 -- the row r with other such words
 abbrev pub noting : Txn → ℕ → ℕ → ℕ → ℕ → Txn
@@ -177,7 +177,7 @@ module _
             (noting-row S t' locks r _ _ _ _ (txn t₀ r)
             (λ e. sym (rows r) ∙ free r e ∙ (g.txn_good r i).free e)
             (subst GoodReads (rows r) (reads r i)) (subst (GoodNotes S) (rows r) (notes r i))
-            (txn-carried S t₀ t' locks locks r (txn t₀ r) (let a = last' in omega arith) (let a = clock' in omega arith) (λ d. no_more-same r refl) (g.txn_good r i)))
+            (txn_carried S t₀ t' locks locks r (txn t₀ r) (let a = last' in omega arith) (let a = clock' in omega arith) (λ d. no_more_same r refl) (g.txn_good r i)))
 
         quota : (r : ℕ) → r < S.slots → GoodQuota S locks r (txn t' r)
         quota r i =
@@ -197,11 +197,11 @@ module _
               clock_most = let a = clock' in let b = g.clock_most in omega arith;
               txn_good = good_row;
               distinct = λ a b i j d h e. g.distinct a b i j d (subst T (live' b) h) (sym (number' a) ∙ e ∙ number' b);
-              lock_good = λ x i. lock-carried S t₀ t' (lock locks x) (λ r h u. subst T (sym (update' r)) u) (λ r h u. subst T (sym (holder' r)) u) (g.lock_good x i);
+              lock_good = λ x i. lock_carried S t₀ t' (lock locks x) (λ r h u. subst T (sym (update' r)) u) (λ r h u. subst T (sym (holder' r)) u) (g.lock_good x i);
               quota_good = quota;
               versions_good = λ x i. versions-same S t₀ t' _ clock' (λ r i. reader' r) (λ r i. how_beside r) (λ r i. relaxed-beside r) (g.versions_good x i);
               ranks_good = ranks-beside S t₀ t' locks rows g.ranks_good;
-              settled_good = settled-carried S G (with_txns G t') (λ r i h. (subst T (settled' r) h, start' r)) (λ r x i j a h. (h, refl)) g.settled_good;
+              settled_good = settled_carried S G (with_txns G t') (λ r i h. (subst T (settled' r) h, start' r)) (λ r x i j a h. (h, refl)) g.settled_good;
               sets_good = sets;
-              no_circle = fewer-no-circle S G g t' locks (λ a b h. subst T (links-beside S t₀ t' locks rows a b) h);
+              no_circle = fewer_no_circle S G g t' locks (λ a b h. subst T (links-beside S t₀ t' locks rows a b) h);
             }

@@ -13,7 +13,7 @@ use Rattle.rules.specs.Tables.{txn_words, last_number, clock, Txn, txn, set_txn,
 use Rattle.rules.specs.Waits.{awaits, awaits_on, waiters_on, exchangers_on, rank_for, raised, lowered, noted, closed_up}
 use Rattle.rules.specs.Changed.{NoRank, leaving}
 use Rattle.rules.proofs.Tests.{true_is, is_true, is_false, false_is, and_left, same?}
-use Rattle.rules.proofs.Counts.{count-fewer}
+use Rattle.rules.proofs.Counts.{count_fewer}
 use Rattle.rules.proofs.Views.{awaiting, set_awaited-row, length-set_txn, txn-set_txn, txn-set_txn-other, last_number-set_txn, clock-set_txn, length-reworded, word-reworded, head_reworded, txn-reworded, txn-reworded-out}
 
 -- ---- a request's rank, where it stands in no line yet
@@ -39,7 +39,7 @@ module _ (S : Sizes) (t l : List ℕ) (s x : ℕ) (new : T (awaits_on x (txn t s
   -- who waits to exchange waits
   pub exchangers_wait : exchangers_on S t l x ≤ waiters_on S t x
   unfolding exchangers_on waiters_on
-  exchangers_wait = count-fewer S.slots (λ b. awaits_on x (txn t b) && holds_shared (lock l x) b) (λ b. awaits_on x (txn t b)) (λ b i h. and_left (awaits_on x (txn t b)) _ h)
+  exchangers_wait = count_fewer S.slots (λ b. awaits_on x (txn t b) && holds_shared (lock l x) b) (λ b. awaits_on x (txn t b)) (λ b i h. and_left (awaits_on x (txn t b)) _ h)
 
   pub rank_most : rank_for S t l s x ≤ suc (waiters_on S t x)
   rank_most = let m = exchangers_wait in ⊎_elim (λ e. omega arith) (λ e. omega arith) rank_is

@@ -15,12 +15,12 @@ use Rattle.rules.specs.Tables.{txn, a_relaxed, live_relaxed, is_reader, Reader, 
 use Rattle.rules.specs.Versions.{Version, no_version, stamp_at, hidden_at, sees}
 use Rattle.rules.specs.Tested.{nests, last_seen}
 use Rattle.rules.proofs.Tests.{iff_eq, and_left, and_right, and_both, or_cases, or_left, or_right, is_false, true_is, false_is, not_make, not_use, eq_make, ne_make, ne_use, same?}
-use Rattle.rules.proofs.Counts.{someBelow→, →someBelow, some_mem, mem_some, every_mem, mem_every}
+use Rattle.rules.proofs.Counts.{some_below→, →some_below, some_mem, mem_some, every_mem, mem_every}
 use Rattle.rules.proofs.Bits.{bit_none, no_bits, same_bits, contains→, →contains}
 use Rattle.rules.proofs.RowKinds.{reader-live, relaxed-live, live-relaxed, relaxed-reads, reads_up_to, reads-outside}
 use Rattle.rules.proofs.Choice.{Nests, nests→Nests}
 use Rattle.rules.proofs.Reading.{between}
-use Rattle.rules.proofs.Readers.{reader_in_lem, in-reader}
+use Rattle.rules.proofs.Readers.{reader_in_lem, in_reader}
 use Rattle.rules.proofs.EqualVersions.{relaxed→}
 
 -- ---- the starts up to which is read
@@ -71,6 +71,7 @@ two_kinds c s e = let k = ap slot_in e in omega arith
 
 pub start_in_lem : (c : ℕ) (qs : List Reader) → Memᴰ (up_to c) qs → Memᴰ c (starts_of qs)
 unfolding starts_of
+start_in_lem c [] x' = elim x' [ ]
 start_in_lem c (up_to d ∷ qs) (Memᴰ.head e) = Memᴰ.head (one_start c d e)
 start_in_lem c (up_to d ∷ qs) (Memᴰ.tail m) = Memᴰ.tail (start_in_lem c qs m)
 start_in_lem c (outside s ∷ qs) (Memᴰ.head e) = absurd (two_kinds c s e)
@@ -78,6 +79,7 @@ start_in_lem c (outside s ∷ qs) (Memᴰ.tail m) = start_in_lem c qs m
 
 pub in_start : (c : ℕ) (qs : List Reader) → Memᴰ c (starts_of qs) → Memᴰ (up_to c) qs
 unfolding starts_of
+in_start c [] m = elim m [ ]
 in_start c (up_to d ∷ qs) (Memᴰ.head e) = Memᴰ.head (ap up_to e)
 in_start c (up_to d ∷ qs) (Memᴰ.tail m) = Memᴰ.tail (in_start c qs m)
 in_start c (outside s ∷ qs) m = Memᴰ.tail (in_start c qs m)
@@ -96,7 +98,7 @@ module _ (S : Sizes) (t : List ℕ) where
       subst (λ (q : Reader). Memᴰ q (readers S t)) (reads-outside t s (relaxed-live (txn t s) h).1) (reader_in_lem S t s i (relaxed-reads (txn t s) h))
 
   pub outside_in : (s : ℕ) → Memᴰ (outside s) (readers S t) → (s < S.slots) × T (live_relaxed (txn t s))
-  outside_in s h = let w = in-reader S t (outside s) h in go w.0 w.1 w.2 w.3 (same? (txn t w.0).kind a_relaxed)
+  outside_in s h = let w = in_reader S t (outside s) h in go w.0 w.1 w.2 w.3 (same? (txn t w.0).kind a_relaxed)
     where
       go :
           (r : ℕ) → r < S.slots → T (is_reader (txn t r)) → reader_in t r ≡ outside s → ((txn t r).kind ≡ a_relaxed) ⊎ ((txn t r).kind ≢ a_relaxed)
@@ -131,14 +133,14 @@ module _ (S : Sizes) (t : List ℕ) where
           go s b false e =
               absurd
               (n
-              (→someBelow S.slots only s (hidden-slot s b).0
+              (→some_below S.slots only s (hidden-slot s b).0
               (and_both (bit newer.hidden s) _ b (not_make (bit older.hidden s) (false_is e)))))
 
-      pub between-parted :
+      pub between_parted :
           between (readers S t) older newer
           ≡ (within (starts_of (readers S t)) older.stamp newer.stamp || not (eqb older.hidden newer.hidden))
       unfolding between within sees p
-      between-parted = iff_eq (some p qs) (some inside cs || differ) (λ h. let w = mem_some p qs h in to w.0 w.1 w.2) (λ h. from (or_cases (some inside cs) differ h))
+      between_parted = iff_eq (some p qs) (some inside cs || differ) (λ h. let w = mem_some p qs h in to w.0 w.1 w.2) (λ h. from (or_cases (some inside cs) differ h))
         where
           cs : List ℕ
           cs = starts_of (readers S t)
@@ -181,7 +183,7 @@ module _ (S : Sizes) (t : List ℕ) where
               go : (b : Bool) → some_below S.slots only ≡ b → T (some p qs)
               go false e = absurd (ne_use older.hidden newer.hidden h (same_masks (false_is e)))
               go true e =
-                  let w = someBelow→ S.slots only (true_is e) in
+                  let w = some_below→ S.slots only (true_is e) in
                   let s = w.0 in
                   let k = hidden-slot s (and_left (bit newer.hidden s) _ w.2) in
                   some_mem p (in_outside s k.0 k.1)
@@ -189,11 +191,11 @@ module _ (S : Sizes) (t : List ℕ) where
                   (not_make (not (bit newer.hidden s)) (λ z. not_use (bit newer.hidden s) z (and_left (bit newer.hidden s) _ w.2))))
 
   -- ---- every reader may read a version: it is old enough for every start, and hidden from nobody
-  pub seen-parted :
+  pub seen_parted :
       (v : Version) → T (contains (relaxed_in S t) v.hidden)
       → every (λ q. sees q v) (readers S t) ≡ (every (λ c. leb v.stamp c) (starts_of (readers S t)) && eqb v.hidden 0)
   unfolding sees
-  seen-parted v hides = iff_eq (every seen qs) (every old cs && eqb v.hidden 0) to from
+  seen_parted v hides = iff_eq (every seen qs) (every old cs && eqb v.hidden 0) to from
     where
       seen : Reader → Bool
       seen q = sees q v
@@ -223,12 +225,12 @@ module _ (S : Sizes) (t : List ℕ) where
               not_make (bit v.hidden s)
               (λ b. false_is (bit_none s) (subst (λ (w : ℕ). T (bit w s)) (eqb→eq v.hidden 0 (and_right (every old cs) _ h)) b))
 
-  pub last-parted :
+  pub last_parted :
       (vs : List Version) → T (contains (relaxed_in S t) (hidden_at vs (length vs - 1)))
       → last_seen (readers S t) vs
       ≡ (every (λ c. leb (stamp_at vs (length vs - 1)) c) (starts_of (readers S t)) && eqb (hidden_at vs (length vs - 1)) 0)
   unfolding last_seen hidden_at stamp_at
-  last-parted vs hides = seen-parted (get_or vs (length vs - 1) no_version) hides
+  last_parted vs hides = seen_parted (get_or vs (length vs - 1) no_version) hides
 
 -- ---- where the newest version is hidden from some of m only, every version is
 pub hidden-within : (m : ℕ) (vs : List Version) → T (nests vs) → T (contains m (hidden_at vs 0)) → (k : ℕ) → k < length vs → T (contains m (hidden_at vs k))

@@ -74,14 +74,14 @@ passing_false k zero = refl
 passing_false k (suc n) = passing_false (suc k) n
 
 -- the places f q of those elements q that pass g
-pub passing-some :
+pub passing_some :
     {A : Type 0} (g : A → Bool) (f : A → ℕ) (qs : List A) (k n : ℕ) → passing (λ i. some (λ q. g q && eqb (f q) i) qs) k n ≤ counted g qs
 unfolding some counted tally
-passing-some g f [] k n = let z = passing_false k n in omega arith
-passing-some g f (q ∷ qs) k n =
+passing_some g f [] k n = let z = passing_false k n in omega arith
+passing_some g f (q ∷ qs) k n =
     let a = passing_or (λ i. g q && eqb (f q) i) (λ i. some (λ q. g q && eqb (f q) i) qs) k n in
     let b = one (g q) in
-    let c = passing-some g f qs k n in
+    let c = passing_some g f qs k n in
     omega arith
   where
     one : (b : Bool) → passing (λ i. b && eqb (f q) i) k n + counted g qs ≤ tally b (counted g qs)

@@ -161,14 +161,14 @@ module _ (S : Sizes) (enough : S.slots ≤ S.places) (G : Tables) (g : Good S G)
             let k = was r q i b in
             let m = o.of_relaxed r q i k.1 in
             (m.0, subst T (sym (relaxed' q k.0)) m.1);
-        holdsRead = λ x r q i j e b.
+        holds_read = λ x r q i j e b.
             let a = holder_away x r i (exclusive-holds x r e) in
             let k = read q x j b in
-            keeps r q a.0 a.1 k.0 (o.holdsRead x r q i j e k.1);
-        holdsHidden = λ x r q i h b.
+            keeps r q a.0 a.1 k.0 (o.holds_read x r q i j e k.1);
+        holds_hidden = λ x r q i h b.
             let a = holder_away x r i h in
             let k = hidden x q i b in
-            keeps r q a.0 a.1 k.0 (o.holdsHidden x r q i h k.1);
+            keeps r q a.0 a.1 k.0 (o.holds_hidden x r q i h k.1);
       }
     where
       exclusive-holds : (x r : ℕ) → T (holds_exclusive (lock G.locks x) r) → T (holds (lock G.locks x) r)

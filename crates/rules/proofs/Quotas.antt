@@ -13,7 +13,7 @@ use Rattle.rules.specs.Tested.{quota_most, full_idle, quota_good}
 use Rattle.rules.specs.Step.{writes_further}
 use Rattle.rules.proofs.Tests.{and_left, and_right, and_both, or_right, implies_use, implies_make, not_make, not_use, ne_make, ne_use, eq_make, is_true, is_false, true_is, false_is, same?}
 use Rattle.rules.proofs.EqualRows.{update-holds}
-use Rattle.rules.proofs.Counts.{count-fewer, count-one-more, count_none, count_zero, count_some}
+use Rattle.rules.proofs.Counts.{count_fewer, count_one_more, count_none, count_zero, count_some}
 
 -- ---- the test of one slot says what GoodQuota says
 module _ (S : Sizes) (l : List ℕ) (s : ℕ) (r : Txn) where
@@ -39,27 +39,27 @@ module _ (S : Sizes) (l : List ℕ) (s : ℕ) (r : Txn) where
 
 -- ---- how many are held
 -- with no lock more, no more are held
-pub exclusives-fewer :
+pub exclusives_fewer :
     (S : Sizes) (l l' : List ℕ) (s : ℕ)
     → ((x : ℕ) → x < S.items → T (holds_exclusive (lock l' x) s) → T (holds_exclusive (lock l x) s))
     → exclusives_of S l' s ≤ exclusives_of S l s
 unfolding exclusives_of
-exclusives-fewer S l l' s f = count-fewer S.items _ _ f
+exclusives_fewer S l l' s f = count_fewer S.items _ _ f
 
 -- with the lock of one item more, at most one more is held
-pub exclusives-one-more :
+pub exclusives_one_more :
     (S : Sizes) (l l' : List ℕ) (s y : ℕ)
     → ((x : ℕ) → x < S.items → x ≢ y → T (holds_exclusive (lock l' x) s) → T (holds_exclusive (lock l x) s))
     → exclusives_of S l' s ≤ suc (exclusives_of S l s)
 unfolding exclusives_of
-exclusives-one-more S l l' s y f = count-one-more S.items _ _ y f
+exclusives_one_more S l l' s y f = count_one_more S.items _ _ y f
 
 -- who may not hold one holds none
-pub exclusives-none :
+pub exclusives_none :
     (S : Sizes) (t l : List ℕ) → ((x : ℕ) → x < S.items → GoodLock S t (lock l x))
     → (s : ℕ) → (T (may_hold (txn t s)) → ⊥) → exclusives_of S l s ≡ 0
 unfolding exclusives_of
-exclusives-none S t l g s d =
+exclusives_none S t l g s d =
     count_none S.items _
     (λ x i h. d ((g x i).excluders s h).1)
 
@@ -79,30 +79,30 @@ unfolding live_update live_settled may_hold live
 free_quota S l s = record { most = λ u. absurd u; full_idle = λ u. absurd u }
 
 -- the same row, with no more held
-pub quota-carried :
+pub quota_carried :
     (S : Sizes) (l l' : List ℕ) (s : ℕ) (r : Txn) → exclusives_of S l' s ≤ exclusives_of S l s → GoodQuota S l s r → GoodQuota S l' s r
-quota-carried S l l' s r f q =
+quota_carried S l l' s r f q =
     record {
       most = λ u. let a = q.most u in omega arith;
       full_idle = λ u e. q.full_idle u (let a = q.most u in omega arith);
     }
 
 -- the row of slot s becomes another, the others stay
-pub quotas-but :
+pub quotas_but :
     (S : Sizes) (l t t' : List ℕ) (s : ℕ) → ((r : ℕ) → r ≢ s → txn t' r ≡ txn t r) → GoodQuota S l s (txn t' s)
     → ((r : ℕ) → r < S.slots → GoodQuota S l r (txn t r)) → (r : ℕ) → r < S.slots → GoodQuota S l r (txn t' r)
-quotas-but S l t t' s there new old r i = go (same? r s)
+quotas_but S l t t' s there new old r i = go (same? r s)
   where
     go : (r ≡ s) ⊎ (r ≢ s) → GoodQuota S l r (txn t' r)
     go (inl e) = subst (λ (m : ℕ). GoodQuota S l m (txn t' m)) (sym e) new
     go (inr d) = subst (λ (w : Txn). GoodQuota S l r w) (sym (there r d)) (old r i)
 
 -- the others stay but for their ranks
-pub quotas-but-rank :
+pub quotas_but_rank :
     (S : Sizes) (l t t' : List ℕ) (s : ℕ) (f : Txn → ℕ) → ((r : ℕ) → r < S.slots → r ≢ s → txn t' r ≡ with_rank (txn t r) (f (txn t r)))
     → GoodQuota S l s (txn t' s) → ((r : ℕ) → r < S.slots → GoodQuota S l r (txn t r)) → (r : ℕ) → r < S.slots → GoodQuota S l r (txn t' r)
 unfolding live_update live_settled may_hold live
-quotas-but-rank S l t t' s f there new old r i = go (same? r s)
+quotas_but_rank S l t t' s f there new old r i = go (same? r s)
   where
     go : (r ≡ s) ⊎ (r ≢ s) → GoodQuota S l r (txn t' r)
     go (inl e) = subst (λ (m : ℕ). GoodQuota S l m (txn t' m)) (sym e) new
@@ -131,11 +131,11 @@ module _ (S : Sizes) (l : List ℕ) (s x : ℕ) where
   held_not_further h = is_false (writes_further S l s x) (λ w. (further→ (is_true (writes_further S l s x) w)).1 h)
 
 -- a repeated awaited write never meets 11: on good tables who awaits an exclusive lock has room
-pub awaited-not-further :
+pub awaited_not_further :
     (S : Sizes) (G : Tables) → Good S G
     → (s x : ℕ) → s < S.slots → T (live_update (txn G.txns s)) → (txn G.txns s).awaited_lock ≡ exclusive_lock
     → writes_further S G.locks s x ≡ false
 unfolding writes_further
-awaited-not-further S G g s x i u a =
+awaited_not_further S G g s x i u a =
     is_false (writes_further S G.locks s x)
     (λ w. (g.quota_good s i).full_idle (update-holds _ u) (eqb→eq (exclusives_of S G.locks s) S.quota (and_left (eqb (exclusives_of S G.locks s) S.quota) _ w)) a)

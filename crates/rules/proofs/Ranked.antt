@@ -12,8 +12,8 @@ use Rattle.rules.specs.Waits.{awaits, awaits_on, waiters_on, conflicts, waits_fo
 use Rattle.rules.specs.Good.{Good}
 use Rattle.rules.specs.Promises.{RanksExactly, OneExchanger, ExchangerFirst}
 use Rattle.rules.proofs.Tests.{true_is, false_is, and_left, and_right, and_both, or_left, eq_make, same?}
-use Rattle.rules.proofs.Counts.{someBelow→, →someBelow, count-fewer, count-one-more, count_none}
-use Rattle.rules.proofs.EqualRanks.{awaits→, awaitsOn→}
+use Rattle.rules.proofs.Counts.{some_below→, →some_below, count_fewer, count_one_more, count_none}
+use Rattle.rules.proofs.EqualRanks.{awaits→, awaits_on→}
 use Rattle.rules.proofs.Walks.{→waits-for}
 use Rattle.rules.proofs.Waited.{shared-conflicts}
 
@@ -37,8 +37,8 @@ module _
 
     unborne : (m : ℕ) → (T (some_below n (bears (suc m))) → ⊥) → count_below n (up_to (suc m)) ≤ count_below n (up_to m)
     unborne m none =
-        count-fewer n (up_to (suc m)) (up_to m)
-        (λ i h u. lower m i u (λ e. none (→someBelow n (bears (suc m)) i h (and_both (p i) _ (and_left (p i) _ u) (eq_make (f i) (suc m) e)))))
+        count_fewer n (up_to (suc m)) (up_to m)
+        (λ i h u. lower m i u (λ e. none (→some_below n (bears (suc m)) i h (and_both (p i) _ (and_left (p i) _ u) (eq_make (f i) (suc m) e)))))
 
     one_bears : (m : ℕ) → count_below n (up_to (suc m)) ≤ suc (count_below n (up_to m))
     one_bears m = go (some_below n (bears (suc m))) refl
@@ -46,9 +46,9 @@ module _
         go : (b : Bool) → some_below n (bears (suc m)) ≡ b → count_below n (up_to (suc m)) ≤ suc (count_below n (up_to m))
         go false e = let k = unborne m (false_is e) in omega arith
         go true e =
-            let r = someBelow→ n (bears (suc m)) (true_is e) in
+            let r = some_below→ n (bears (suc m)) (true_is e) in
             let has : f r.0 ≡ suc m = eqb→eq (f r.0) (suc m) (and_right (p r.0) _ r.2) in
-            count-one-more n (up_to (suc m)) (up_to m) r.0
+            count_one_more n (up_to (suc m)) (up_to m) r.0
             (λ i h d u. lower m i u (λ q. apart i r.0 h r.1 d (and_left (p i) _ u) (and_left (p r.0) _ r.2) (q ∙ sym has)))
 
     few : (m : ℕ) → count_below n (up_to m) ≤ m
@@ -70,27 +70,27 @@ module _
     all_borne most m h = go (some_below n (bears (suc m))) refl
       where
         go : (b : Bool) → some_below n (bears (suc m)) ≡ b → (i : ℕ) × (i < n) × T (p i) × (f i ≡ suc m)
-        go true e = let r = someBelow→ n (bears (suc m)) (true_is e) in (r.0, r.1, and_left (p r.0) _ r.2, eqb→eq (f r.0) (suc m) (and_right (p r.0) _ r.2))
+        go true e = let r = some_below→ n (bears (suc m)) (true_is e) in (r.0, r.1, and_left (p r.0) _ r.2, eqb→eq (f r.0) (suc m) (and_right (p r.0) _ r.2))
         go false e =
             let d = count_below n p - suc m in
             let a = fewer m (false_is e) d in
-            let b = count-fewer n p (up_to (count_below n p)) (λ i l t. and_both (p i) _ t (le→leb (f i) (count_below n p) (most i l t))) in
+            let b = count_fewer n p (up_to (count_below n p)) (λ i l t. and_both (p i) _ t (le→leb (f i) (count_below n p) (most i l t))) in
             let c = at (count_below n p) (d + suc m) (omega arith) in
             absurd (omega arith)
 
 -- ---- "from 1 without gaps"
-pub ranks-exactly : (S : Sizes) → RanksExactly S
+pub ranks_exactly : (S : Sizes) → RanksExactly S
 unfolding waiters_on
-ranks-exactly S G x r g = (λ h. there r h.0 h.1, λ w. within w.0 w.1 w.2 w.3)
+ranks_exactly S G x r g = (λ h. there r h.0 h.1, λ w. within w.0 w.1 w.2 w.3)
   where
     R : ℕ → ℕ
     R s = (txn G.txns s).rank
 
     most : (s : ℕ) → s < S.slots → T (awaits_on x (txn G.txns s)) → R s ≤ waiters_on S G.txns x
-    most s i h = let w = awaitsOn→ x (txn G.txns s) h in subst (λ (y : ℕ). R s ≤ waiters_on S G.txns y) w.1 (g.ranks_good.most s i w.0)
+    most s i h = let w = awaits_on→ x (txn G.txns s) h in subst (λ (y : ℕ). R s ≤ waiters_on S G.txns y) w.1 (g.ranks_good.most s i w.0)
 
     least : (s : ℕ) → s < S.slots → T (awaits_on x (txn G.txns s)) → 1 ≤ R s
-    least s i h = g.ranks_good.least s i (awaitsOn→ x (txn G.txns s) h).0
+    least s i h = g.ranks_good.least s i (awaits_on→ x (txn G.txns s) h).0
 
     there : (r : ℕ) → 1 ≤ r → r ≤ waiters_on S G.txns x → (s : ℕ) × (s < S.slots) × T (awaits_on x (txn G.txns s)) × (R s ≡ r)
     there zero a b = absurd (omega arith)
@@ -109,8 +109,8 @@ exchanger-wants S G g x s i w h = go (same? (txn G.txns s).awaited_lock shared_l
     go : ((txn G.txns s).awaited_lock ≡ shared_lock) ⊎ ((txn G.txns s).awaited_lock ≢ shared_lock) → (txn G.txns s).awaited_lock ≡ exclusive_lock
     go (inl e) =
         absurd ((g.txn_good s i).awaits_shared e
-        (subst (λ (y : ℕ). T (holds (lock G.locks y) s)) (sym (awaitsOn→ x (txn G.txns s) w).1) (unfold holds in (or_left (holds_shared (lock G.locks x) s) _ h))))
-    go (inr n) = let a = (g.txn_good s i).lock_listed in let b = awaits→ (txn G.txns s) (awaitsOn→ x (txn G.txns s) w).0 in omega arith
+        (subst (λ (y : ℕ). T (holds (lock G.locks y) s)) (sym (awaits_on→ x (txn G.txns s) w).1) (unfold holds in (or_left (holds_shared (lock G.locks x) s) _ h))))
+    go (inr n) = let a = (g.txn_good s i).lock_listed in let b = awaits→ (txn G.txns s) (awaits_on→ x (txn G.txns s) w).0 in omega arith
 
 -- and waits for every other that shares it
 exchanger-waits :
@@ -122,7 +122,7 @@ exchanger-waits S G g x s b i w h d k =
     (subst (λ (j : ℕ). T (conflicts (lock G.locks x) j b)) (sym (exchanger-wants S G g x s i w h)) (shared-conflicts (lock G.locks x) b k))))
   where
     v : T (awaits (txn G.txns s)) × ((txn G.txns s).awaited_item ≡ x)
-    v = awaitsOn→ x (txn G.txns s) w
+    v = awaits_on→ x (txn G.txns s) w
 
 -- two would wait for each other
 pub one_exchanger : (S : Sizes) → OneExchanger S
@@ -141,10 +141,10 @@ exchanger-first S G x s g i a h = go (same? (R s) 1)
     R q = (txn G.txns q).rank
 
     here : (1 ≤ R s) × (R s ≤ waiters_on S G.txns x)
-    here = (ranks-exactly S G x (R s) g).1 (s, i, a, refl)
+    here = (ranks_exactly S G x (R s) g).1 (s, i, a, refl)
 
     first : (b : ℕ) × (b < S.slots) × T (awaits_on x (txn G.txns b)) × (R b ≡ 1)
-    first = (ranks-exactly S G x 1 g).0 (omega arith, let l = here.0 in let m = here.1 in omega arith)
+    first = (ranks_exactly S G x 1 g).0 (omega arith, let l = here.0 in let m = here.1 in omega arith)
 
     go : (R s ≡ 1) ⊎ (R s ≢ 1) → R s ≡ 1
     go (inl e) = e

@@ -129,19 +129,19 @@ module _
           of_relaxed = λ r q i b.
               let k = o.of_relaxed r q i (subst (λ (v : ℕ). T (bit v q)) (same (λ (r : Txn). r.later_for) (λ r v. refl) r) b) in
               (k.0, subst T (sym (relaxed' q)) k.1);
-          holdsRead = λ y r q i j e b. subst (λ (v : ℕ). T (bit v q)) (sym (same (λ (r : Txn). r.later_for) (λ r v. refl) r)) (read y r q i j e b (same? q s));
-          holdsHidden = λ y r q i h b. subst (λ (v : ℕ). T (bit v q)) (sym (same (λ (r : Txn). r.later_for) (λ r v. refl) r)) (o.holdsHidden y r q i h b);
+          holds_read = λ y r q i j e b. subst (λ (v : ℕ). T (bit v q)) (sym (same (λ (r : Txn). r.later_for) (λ r v. refl) r)) (read y r q i j e b (same? q s));
+          holds_hidden = λ y r q i h b. subst (λ (v : ℕ). T (bit v q)) (sym (same (λ (r : Txn). r.later_for) (λ r v. refl) r)) (o.holds_hidden y r q i h b);
         }
       where
         read :
             (y r q : ℕ) → y < S.items → q < S.slots → T (holds_exclusive (lock G.locks y) r) → T (bit (txn t' q).items_read y) → (q ≡ s) ⊎ (q ≢ s)
             → T (bit (txn t r).later_for q)
-        read y r q i j e b (inr d) = g.sets_good.holdsRead y r q i j e (subst (λ (v : Txn). T (bit v.items_read y)) (items_there t s (with_bit old x) q d) b)
+        read y r q i j e b (inr d) = g.sets_good.holds_read y r q i j e (subst (λ (v : Txn). T (bit v.items_read y)) (items_there t s (with_bit old x) q d) b)
         read y r q i j e b (inl z) =
             subst (λ (p : ℕ). T (bit (txn t r).later_for p)) (sym z)
             (⊎_elim
             (λ k. held r (subst (λ (u : ℕ). T (holds_exclusive (lock G.locks u) r)) k e))
-            (λ k. g.sets_good.holdsRead y r s i inside e k)
+            (λ k. g.sets_good.holds_read y r s i inside e k)
             (bits y (subst (λ (v : Txn). T (bit v.items_read y)) (ap (txn t') z ∙ items_here t s (with_bit old x) S g.txns_exact inside) b)))
 
     items-good : Good S (with_txns G (set_items_read G.txns s (with_bit (txn G.txns s).items_read x)))
@@ -282,10 +282,10 @@ module _
         (subst (λ (q : Txn). q ≡ with_later_for (txn t r) q.later_for) (sym (items_there u s w r d)) (held-other s t S exact e holders r))
 
     -- who is in which set, if s is relaxed
-    pub read-sets :
+    pub read_sets :
         (txn t s).kind ≡ a_relaxed → (r p : ℕ) → T (bit (txn (read_noted t l s x) r).later_for p)
         → T (bit (txn t r).later_for p) ⊎ (((lock l x).exclusive ≡ suc r) × (p ≡ s))
-    read-sets z r p b =
+    read_sets z r p b =
         held-only s t S exact e holders r p
         (subst (λ (v : ℕ). T (bit v p))
         (ap (λ (v : List ℕ). (txn v r).later_for) (noted-relaxed t l s x z) ∙ items-same u s w S (held-length s t e ∙ exact) inside (λ (v : Txn). v.later_for) (λ v w. refl) r) b)

@@ -12,13 +12,13 @@ use Rattle.rules.specs.Tables.{Reader, up_to, outside, a_relaxed, Txn, txn, is_r
 use Rattle.rules.proofs.Tests.{same?, true_is, false_is}
 
 -- ---- each is there
-reader-in-from :
+reader_in_from :
     (t : List ℕ) (s : ℕ) → T (is_reader (txn t s)) → (m i : ℕ) → i ≤ s → s < i + m
     → Memᴰ (reader_in t s) (readers_from t i m)
 unfolding readers_from
-reader-in-from t s q zero i l h = absurd (omega arith)
-reader-in-from t s q (suc m) i l h =
-    go (same? i s) (is_reader (txn t i)) refl (λ k. reader-in-from t s q m (suc i) k (omega arith))
+reader_in_from t s q zero i l h = absurd (omega arith)
+reader_in_from t s q (suc m) i l h =
+    go (same? i s) (is_reader (txn t i)) refl (λ k. reader_in_from t s q m (suc i) k (omega arith))
   where
     go :
         (i ≡ s) ⊎ (i ≢ s) → (b : Bool) → is_reader (txn t i) ≡ b → (suc i ≤ s → Memᴰ (reader_in t s) (readers_from t (suc i) m))
@@ -30,18 +30,18 @@ reader-in-from t s q (suc m) i l h =
 
 pub reader_in_lem : (S : Sizes) (t : List ℕ) (s : ℕ) → s < S.slots → T (is_reader (txn t s)) → Memᴰ (reader_in t s) (readers S t)
 unfolding readers
-reader_in_lem S t s h q = reader-in-from t s q S.slots 0 (omega arith) (omega arith)
+reader_in_lem S t s h q = reader_in_from t s q S.slots 0 (omega arith) (omega arith)
 
 -- ---- and no other
-in-reader-from :
+in_reader-from :
     (t : List ℕ) (q : Reader) (m i : ℕ) → Memᴰ q (readers_from t i m)
     → (s : ℕ) × (s < i + m) × T (is_reader (txn t s)) × (reader_in t s ≡ q)
 unfolding readers_from
-in-reader-from t q zero i h = absurd (none h)
+in_reader-from t q zero i h = absurd (none h)
   where
     none : Memᴰ q [] → ⊥
     none = elim [ ]
-in-reader-from t q (suc m) i h = go (is_reader (txn t i)) refl h (in-reader-from t q m (suc i))
+in_reader-from t q (suc m) i h = go (is_reader (txn t i)) refl h (in_reader-from t q m (suc i))
   where
     Found : ℕ → Type 0
     Found n = (s : ℕ) × (s < n) × T (is_reader (txn t s)) × (reader_in t s ≡ q)
@@ -56,12 +56,12 @@ in-reader-from t q (suc m) i h = go (is_reader (txn t i)) refl h (in-reader-from
     go true e (Memᴰ.tail n) ih = on (ih n)
     go false e n ih = on (ih n)
 
-pub in-reader :
+pub in_reader :
     (S : Sizes) (t : List ℕ) (q : Reader) → Memᴰ q (readers S t)
     → (s : ℕ) × (s < S.slots) × T (is_reader (txn t s)) × (reader_in t s ≡ q)
 unfolding readers
-in-reader S t q h =
-    let r = in-reader-from t q S.slots 0 h in
+in_reader S t q h =
+    let r = in_reader-from t q S.slots 0 h in
     (r.0, (let k = r.1 in omega arith), r.2, r.3)
 
 -- ---- at most as many as slots, and one less where a slot has none

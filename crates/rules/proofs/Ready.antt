@@ -21,9 +21,9 @@ use Rattle.rules.proofs.Views.{txn-set_txn, txn-set_txn-other, clock-set_txn}
 use Rattle.rules.proofs.RowKinds.{live-number, reads_up_to, reads-outside}
 use Rattle.rules.proofs.Choice.{length-versions_in, Falls, Falls→falls, Nests, Nests→nests}
 use Rattle.rules.proofs.Trim.{kept_top}
-use Rattle.rules.proofs.Trimmed.{rowOf-good}
+use Rattle.rules.proofs.Trimmed.{row_of-good}
 use Rattle.rules.proofs.Revealed.{NotOf, length-revealed, stamp-revealed, hidden-revealed, revealed-falls, revealed-nests, sees_there}
-use Rattle.rules.proofs.Readers.{in-reader, readers-lt}
+use Rattle.rules.proofs.Readers.{in_reader, readers-lt}
 use Rattle.rules.proofs.Rewrites.{length-rewritten, row-rewritten, versions-rewritten}
 use Rattle.rules.proofs.EqualVersions.{versions→Good, →relaxed}
 use Rattle.rules.proofs.Carried.{reads_by}
@@ -75,7 +75,7 @@ module _
     -- none of them is the relaxed query of slot s
     pub gone-others : (q : Reader) → Memᴰ q (readers S t') → NotOf s q
     gone-others q m =
-        let i = in-reader S t' q m in
+        let i = in_reader S t' q m in
         subst (NotOf s) i.3 (of i.0 (gone_lives i.0 i.2).0 (same? (txn t' i.0).kind a_relaxed))
       where
         of : (r : ℕ) → r ≢ s → ((txn t' r).kind ≡ a_relaxed) ⊎ ((txn t' r).kind ≢ a_relaxed) → NotOf s (reader_in t' r)
@@ -122,7 +122,7 @@ module _
     -- the readers that are left may read the last of a good row, as they could before
     last-seen : (r : List ℕ) → GoodVersions S G.txns r → (q : Reader) → Memᴰ q qs → T (sees q (last_of (versions_in S r)))
     last-seen r h q m =
-        let i = in-reader S w q m in
+        let i = in_reader S w q m in
         let a = gone_lives S G.txns u s inside size beside i.0 i.2 in
         subst (λ (p : Reader). T (sees p (last_of (versions_in S r)))) (sym (gone_how S G.txns u s inside size beside i.0 a.0) ∙ i.3)
         (h.last i.0 i.1 a.1)
@@ -165,13 +165,13 @@ module _
           }
 
       -- a new version in front of a good row: its stamp is above the newest and at most the clock, and it is hidden from whom that is hidden
-      pub new-ready :
+      pub new_ready :
           (v : Version) (r : List ℕ) → GoodVersions S G.txns r → stamp_at (versions_in S r) 0 < v.stamp → v.stamp ≤ clock u
           → ((q : ℕ) → T (bit (hidden_at (versions_in S r) 0) q) → T (bit v.hidden q))
           → ((q : ℕ) → T (bit v.hidden q) → (q < S.slots) × T (live_relaxed (txn G.txns q)))
           → Ready (v ∷ versions_in S r)
       unfolding Falls Nests stamp_at hidden_at
-      new-ready v r h above most over relaxed = go (versions_in S r) (old_ready r h) above over
+      new_ready v r h above most over relaxed = go (versions_in S r) (old_ready r h) above over
         where
           go :
               (vs : List Version) → Ready vs → stamp_at vs 0 < v.stamp → ((q : ℕ) → T (bit (hidden_at vs 0) q) → T (bit v.hidden q)) → Ready (v ∷ vs)
@@ -203,13 +203,13 @@ module _
               nest (suc i) (suc j) l k q b = o.nest i j (omega arith) (omega arith) q b
 
       -- so are the versions of each item after a commit of slot s under the stamp c, whose sets are m
-      pub committed-ready :
+      pub committed_ready :
           (c m : ℕ) → ((x : ℕ) → x < S.items → T (holds_exclusive (lock G.locks x) s) → stamp_at (versions_of S G.versions x) 0 < c) → c ≤ clock u
           → ((x q : ℕ) → x < S.items → T (holds_exclusive (lock G.locks x) s) → T (bit (hidden_now S G.versions x) q) → T (bit m q))
           → ((q : ℕ) → T (bit m q) → (q < S.slots) × T (live_relaxed (txn G.txns q)))
           → (x : ℕ) → x < S.items → Ready (with_new G.locks s c m x (versions_in S (row (version_row S) x G.versions)))
       unfolding with_new versions_of hidden_now
-      committed-ready c m above most over relaxed x i = pick (holds_exclusive (lock G.locks x) s) refl
+      committed_ready c m above most over relaxed x i = pick (holds_exclusive (lock G.locks x) s) refl
         where
           r : List ℕ
           r = row (version_row S) x G.versions
@@ -218,7 +218,7 @@ module _
               (b : Bool) → holds_exclusive (lock G.locks x) s ≡ b
               → Ready (cond b (record { stamp = c; value = (lock G.locks x).working; hidden = m } ∷ versions_in S r) (versions_in S r))
           pick true e =
-              new-ready (record { stamp = c; value = (lock G.locks x).working; hidden = m }) r (g.versions_good x i) (above x i (true_is e)) most
+              new_ready (record { stamp = c; value = (lock G.locks x).working; hidden = m }) r (g.versions_good x i) (above x i (true_is e)) most
               (λ q b. over x q i (true_is e) b) relaxed
           pick false e = old_ready r (g.versions_good x i)
 
@@ -226,7 +226,7 @@ module _
     unfolding stamp_at hidden_at last_seen
     trimmed [] h = absurd (let a = h.some in omega arith)
     trimmed (v ∷ vs) h =
-        rowOf-good S (clock w) qs (relaxed_in S w) v vs (Falls→falls (v ∷ vs) h.fall) (Nests→nests (v ∷ vs) h.nest)
+        row_of-good S (clock w) qs (relaxed_in S w) v vs (Falls→falls (v ∷ vs) h.fall) (Nests→nests (v ∷ vs) h.nest)
         (→contains (relaxed_in S w) v.hidden (λ q b. let m = h.from_relaxed q b in →relaxed S w q m.0 m.1))
         (let a = h.first in let b = clock_is in omega arith)
         (mem_every (λ q. sees q (last_of (v ∷ vs))) qs h.last)

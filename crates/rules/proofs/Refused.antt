@@ -20,15 +20,15 @@ use Rattle.rules.specs.Changed.{AwaitedChanged}
 use Rattle.rules.specs.Promises.{coming, Noted, RefusedUnchanged, RefusedZeros, WaitWords}
 use Rattle.rules.proofs.Tests.{true_is, false_is}
 use Rattle.rules.proofs.Equal.{good→Good}
-use Rattle.rules.proofs.Steps.{cond-case}
+use Rattle.rules.proofs.Steps.{cond_case}
 use Rattle.rules.proofs.Changes.{awaited-changes, joined-after}
-use Rattle.rules.proofs.EqualRanks.{awaitsOn→}
+use Rattle.rules.proofs.EqualRanks.{awaits_on→}
 use Rattle.rules.proofs.Views.{length-reworded, word-reworded, txn-reworded}
 use Rattle.rules.proofs.Noting.{rank-known, noted-known, noted_new}
 use Rattle.rules.proofs.Waited.{only_this}
 use Rattle.rules.proofs.Judged.{way}
-use Rattle.rules.proofs.Ways.{refusal-code, Way, refused, waited, began_update, began_query, began_relaxed, read_own, read_newest, readShared, readSettled, readVersion}
-use Rattle.rules.proofs.Ways.{wroteOwn, wroteSettled, wroteTaken, committedUpdate, committedEmpty, committed_settled, committed_query, aborted_update, aborted_settled, aborted_query, settledUpdate, kept_waiting}
+use Rattle.rules.proofs.Ways.{refusal-code, Way, refused, waited, began_update, began_query, began_relaxed, read_own, read_newest, read_shared, read_settled, read_version}
+use Rattle.rules.proofs.Ways.{wrote_own, wrote_settled, wrote_taken, committed_update, committed_empty, committed_settled, committed_query, aborted_update, aborted_settled, aborted_query, settled_update, kept_waiting}
 
 -- the ways in which a call can end
 data Ends (S : Sizes) (c : Call) (G : Tables) : Outcome → Type 0 where
@@ -49,25 +49,25 @@ way-ends S c G d (began_query s f l) = grant _ refl
 way-ends S c G d (began_relaxed s f l a) = grant _ refl
 way-ends S c G d (read_own n s x U h) = grant _ refl
 way-ends S c G d (read_newest n s x U h) = grant _ refl
-way-ends S c G d (readShared n s x U h f) = grant _ refl
-way-ends S c G d (readSettled n s x C p i h) = grant _ refl
-way-ends S c G d (readVersion n s x C q i o b) = grant _ refl
-way-ends S c G d (wroteOwn n s x v U h) = grant _ refl
-way-ends S c G d (wroteSettled n s x v C p i h) = grant _ refl
-way-ends S c G d (wroteTaken n s x v U h f r) = grant _ refl
-way-ends S c G d (committedUpdate n s C u i l w) = grant _ refl
-way-ends S c G d (committedEmpty n s C u i e) = grant _ refl
+way-ends S c G d (read_shared n s x U h f) = grant _ refl
+way-ends S c G d (read_settled n s x C p i h) = grant _ refl
+way-ends S c G d (read_version n s x C q i o b) = grant _ refl
+way-ends S c G d (wrote_own n s x v U h) = grant _ refl
+way-ends S c G d (wrote_settled n s x v C p i h) = grant _ refl
+way-ends S c G d (wrote_taken n s x v U h f r) = grant _ refl
+way-ends S c G d (committed_update n s C u i l w) = grant _ refl
+way-ends S c G d (committed_empty n s C u i e) = grant _ refl
 way-ends S c G d (committed_settled n s C p) = grant _ refl
 way-ends S c G d (committed_query n s C q) = grant _ refl
 way-ends S c G d (aborted_update n s C u) = grant _ refl
 way-ends S c G d (aborted_settled n s C p) = grant _ refl
 way-ends S c G d (aborted_query n s C q) = grant _ refl
-way-ends S c G d (settledUpdate n s C u i l a) = grant _ refl
+way-ends S c G d (settled_update n s C u i l a) = grant _ refl
 
 step-ends : (S : Sizes) (c : Call) (G : Tables) → Ends S c G (step S c G)
 unfolding step act
 step-ends S c G =
-    cond-case (Ends S c G) (good S G) _ _ (λ e. way-ends S c G (judged S c G) (way S G (good→Good S G (true_is e)) c))
+    cond_case (Ends S c G) (good S G) _ _ (λ e. way-ends S c G (judged S c G) (way S G (good→Good S G (true_is e)) c))
     (λ e. refusal BadTables (λ z. omega arith) (λ z. omega arith))
 
 -- ---- what comes of it
@@ -111,14 +111,14 @@ wait_is S c G e = go (step S c G) (step-ends S c G) e
     go o (waiting s k x C a f u) e = inl (s, k, x, C, a, f, refl, u)
 
 -- what is answered another code than 10 comes on good tables, so a wait does
-pub answered-good : (S : Sizes) (c : Call) (G : Tables) → (step S c G).answer.code ≢ code BadTables → Good S G
+pub answered_good : (S : Sizes) (c : Call) (G : Tables) → (step S c G).answer.code ≢ code BadTables → Good S G
 unfolding step
-answered-good S c G =
-    cond-case (λ o. o.answer.code ≢ code BadTables → Good S G) (good S G) (act S c G) (refuses BadTables G)
+answered_good S c G =
+    cond_case (λ o. o.answer.code ≢ code BadTables → Good S G) (good S G) (act S c G) (refuses BadTables G)
     (λ e d. good→Good S G (true_is e)) (λ e d. absurd (d refl))
 
 pub wait_good : (S : Sizes) (c : Call) (G : Tables) → (step S c G).answer.code ≡ code Wait → Good S G
-wait_good S c G e = answered-good S c G (λ z. omega arith)
+wait_good S c G e = answered_good S c G (λ z. omega arith)
 
 -- the words of a noted wait
 noted-changes :
@@ -134,12 +134,12 @@ noted-changes S G g s k x i f = go (awaits_on x (txn t s)) refl
 
     go : (b : Bool) → awaits_on x (txn t s) ≡ b → AwaitedChanged S s k x p (txn t s).later_for (coming S G s x) t (noted S t G.locks s k x)
     go true e =
-        let w = only_this t s k x f (awaitsOn→ x (txn t s) (true_is e)).0 in
+        let w = only_this t s k x f (awaits_on→ x (txn t s) (true_is e)).0 in
         subst (λ (u : List ℕ). AwaitedChanged S s k x p (txn t s).later_for (coming S G s x) t u) (sym (noted-known S t G.locks s k x (true_is e)))
         (record {
           size = refl;
           awaited_lock = unfold txn in w.0;
-          awaited_item = unfold txn in (awaitsOn→ x (txn t s) (true_is e)).1;
+          awaited_item = unfold txn in (awaits_on→ x (txn t s) (true_is e)).1;
           rank = unfold txn rank_for in (sym (rank-known S t G.locks s x (true_is e)));
           ranks = λ r j d. unfold txn in (sym (ap (λ (b : Bool). cond b (txn t r).rank (raised x p (txn t r))) e));
           later_for = unfold txn in refl;

@@ -12,8 +12,8 @@ use Rattle.rules.specs.Step.{step}
 use Rattle.rules.specs.Conditions.{When, order}
 use Rattle.rules.specs.Promises.{code_of, RelaxedNeverWaits}
 use Rattle.rules.proofs.RowKinds.{relaxed-live, relaxed-reads, update_no_reader, start_not_relaxed}
-use Rattle.rules.proofs.Refused.{NotedDown, HeldSilently, wait_is, answered-good}
-use Rattle.rules.proofs.Answered.{answered, answered-when}
+use Rattle.rules.proofs.Refused.{NotedDown, HeldSilently, wait_is, answered_good}
+use Rattle.rules.proofs.Answered.{answered, answered_when}
 use Rattle.rules.proofs.Waiting.{one_caller}
 
 -- who waits is an update that still writes, or reads by a start; and who reads awaits nothing
@@ -25,7 +25,7 @@ relaxed_never_waits S c G s C relaxed = (never, idle)
     never e = go (wait_is S c G e)
       where
         g : Good S G
-        g = answered-good S c G (λ z. omega arith)
+        g = answered_good S c G (λ z. omega arith)
 
         go : NotedDown S c G (step S c G) ⊎ HeldSilently S c G (step S c G) → ⊥
         go (inl w) =
@@ -37,7 +37,7 @@ relaxed_never_waits S c G s C relaxed = (never, idle)
 
     idle : code_of S c G ≢ code StillWaiting
     idle e =
-        let g : Good S G = answered-good S c G (λ z. omega arith) in
-        let w = answered-when S c G StillWaiting (order c) (code_of S c G) (answered S c G) e in
+        let g : Good S G = answered_good S c G (λ z. omega arith) in
+        let w = answered_when S c G StillWaiting (order c) (code_of S c G) (answered S c G) e in
         let d = subst (λ (r : ℕ). (txn G.txns r).awaited_lock ≢ no_lock) (one_caller S G g c w.0 s w.1 C) w.2 in
         d ((g.txn_good s C.inside).reader_idle (relaxed-reads (txn G.txns s) relaxed))

@@ -9,7 +9,7 @@ use Rattle.names.specs.declared.Sizes.{Sizes}
 use Rattle.rules.specs.Words.{row}
 use Rattle.rules.specs.Tables.{version_row, version_words, Reader}
 use Rattle.rules.specs.Versions.{Version, versions_in, versions_of, row_of, kept, rewritten}
-use Rattle.rules.proofs.Rows.{length-map_rows, row-map_rows, rows-mapped}
+use Rattle.rules.proofs.Rows.{length-map_rows, row-map_rows, rows_mapped}
 use Rattle.rules.proofs.Choice.{length-row_of, versions_in-row_of}
 use Rattle.rules.proofs.Trim.{length-kept}
 
@@ -47,13 +47,13 @@ module _
         ap (versions_in S) (row-rewritten x h) ∙ versions_in-row_of S (kept qs (f x (versions_in S (row (version_row S) x v)))) (few (f x (versions_in S (row (version_row S) x v))))
 
 -- rewritten once more with the same readers, where what was kept first makes no difference
-pub rewritten-twice :
+pub rewritten_twice :
     (S : Sizes) (qs : List Reader) (f : ℕ → List Version → List Version) (v : List ℕ) → length qs < S.places → length v ≡ version_words S
     → ((x : ℕ) → x < S.items → kept qs (f x (kept qs (versions_of S v x))) ≡ kept qs (f x (versions_of S v x)))
     → rewritten S qs f (rewritten S qs (λ x vs. vs) v) ≡ rewritten S qs f v
 unfolding rewritten versions_of
-rewritten-twice S qs f v room exact same =
-    rows-mapped (version_row S) (new S qs f v room exact) (new S qs f v room exact) S.items 0 (rewritten S qs (λ x vs. vs) v) v
+rewritten_twice S qs f v room exact same =
+    rows_mapped (version_row S) (new S qs f v room exact) (new S qs f v room exact) S.items 0 (rewritten S qs (λ x vs. vs) v) v
     (length-rewritten S qs (λ x vs. vs) v room exact)
     exact
     (λ k h.

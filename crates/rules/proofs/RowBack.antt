@@ -41,13 +41,13 @@ zeros-whole n l e z =
     ext_get_or 0 (replicate n 0) l (length-replicate n 0 ∙ sym e)
     (λ i b. get_or-replicate n i 0 0 (subst (λ (n : ℕ). i < n) (length-replicate n 0) b) ∙ sym (z i))
 
-pub rowOf-versionsIn :
+pub row_of-versions_in :
     (S : Sizes) (r : List ℕ) → length r ≡ version_row S → get_or r 0 0 ≤ S.places
     → ((k : ℕ) → 2 * get_or r 0 0 < k → k < masks_at S → get_or r k 0 ≡ 0) → ((k : ℕ) → get_or r 0 0 ≤ k → get_or r (masks_at S + k) 0 ≡ 0)
     → row_of S (versions_in S r) ≡ r
 unfolding row_of versions_in
-rowOf-versionsIn S [] e most z y = absurd (omega arith)
-rowOf-versionsIn S (c ∷ l) e most z y =
+row_of-versions_in S [] e most z y = absurd (omega arith)
+row_of-versions_in S (c ∷ l) e most z y =
     rw (length-versions_in S (c ∷ l))
     (ap {B = List ℕ} (λ w. c ∷ w)
     (ap₂ (λ (a b : List ℕ). a ++ (replicate (2 * (S.places - c)) 0 ++ (b ++ replicate (S.places - c) 0)))

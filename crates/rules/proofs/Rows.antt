@@ -20,20 +20,20 @@ pub row_first : (w : ℕ) (l : List ℕ) → row w 0 l ≡ take w l
 unfolding row
 row_first w l = simp mul-zero
 
-pub everyRow→ : (n w : ℕ) (p : ℕ → List ℕ → Bool) (i : ℕ) (l : List ℕ) → T (every_row n w p i l) → (k : ℕ) → k < n → T (p (i + k) (row w k l))
+pub every_row→ : (n w : ℕ) (p : ℕ → List ℕ → Bool) (i : ℕ) (l : List ℕ) → T (every_row n w p i l) → (k : ℕ) → k < n → T (p (i + k) (row w k l))
 unfolding every_row
-everyRow→ zero w p i l h k b = absurd (not-suc-le-zero b)
-everyRow→ (suc n) w p i l h zero b = rw (add-zero, row_first) (and_left (p i (take w l)) (every_row n w p (suc i) (drop w l)) h)
-everyRow→ (suc n) w p i l h (suc k) b =
-    rw (add-suc, ← row_next) (rw suc-add at (everyRow→ n w p (suc i) (drop w l) (and_right (p i (take w l)) (every_row n w p (suc i) (drop w l)) h) k (le_of_suc-le-suc b)))
+every_row→ zero w p i l h k b = absurd (not-suc-le-zero b)
+every_row→ (suc n) w p i l h zero b = rw (add-zero, row_first) (and_left (p i (take w l)) (every_row n w p (suc i) (drop w l)) h)
+every_row→ (suc n) w p i l h (suc k) b =
+    rw (add-suc, ← row_next) (rw suc-add at (every_row→ n w p (suc i) (drop w l) (and_right (p i (take w l)) (every_row n w p (suc i) (drop w l)) h) k (le_of_suc-le-suc b)))
 
-pub →everyRow : (n w : ℕ) (p : ℕ → List ℕ → Bool) (i : ℕ) (l : List ℕ) → ((k : ℕ) → k < n → T (p (i + k) (row w k l))) → T (every_row n w p i l)
+pub →every_row : (n w : ℕ) (p : ℕ → List ℕ → Bool) (i : ℕ) (l : List ℕ) → ((k : ℕ) → k < n → T (p (i + k) (row w k l))) → T (every_row n w p i l)
 unfolding every_row
-→everyRow zero w p i l h = tt
-→everyRow (suc n) w p i l h =
+→every_row zero w p i l h = tt
+→every_row (suc n) w p i l h =
     and_both (p i (take w l)) (every_row n w p (suc i) (drop w l))
     (rw (add-zero, row_first) at (h 0 (omega arith)))
-    (→everyRow n w p (suc i) (drop w l) (λ k b. rw (suc-add, row_next) (rw add-suc at (h (suc k) (omega arith)))))
+    (→every_row n w p (suc i) (drop w l) (λ k b. rw (suc-add, row_next) (rw add-suc at (h (suc k) (omega arith)))))
 
 -- ---- each row replaced by a row of the same length
 module _ (w : ℕ) (f : ℕ → List ℕ → List ℕ) (keeps : (i : ℕ) (r : List ℕ) → length r ≡ w → length (f i r) ≡ w) where
@@ -69,15 +69,15 @@ no_words : (l : List ℕ) → length l ≡ 0 → l ≡ []
 no_words [] e = refl
 no_words (a ∷ l) e = absurd (omega arith)
 
-pub rows-mapped :
+pub rows_mapped :
     (w : ℕ) (f g : ℕ → List ℕ → List ℕ) (n i : ℕ) (l m : List ℕ) → length l ≡ w * n → length m ≡ w * n
     → ((k : ℕ) → k < n → f (i + k) (row w k l) ≡ g (i + k) (row w k m)) → map_rows n w f i l ≡ map_rows n w g i m
 unfolding map_rows
-rows-mapped w f g zero i l m a b h = no_words l (omega arith) ∙ sym (no_words m (omega arith))
-rows-mapped w f g (suc n) i l m a b h =
+rows_mapped w f g zero i l m a b h = no_words l (omega arith) ∙ sym (no_words m (omega arith))
+rows_mapped w f g (suc n) i l m a b h =
     ap₂ ◌++◌
     (rw (add-zero, row_first w l, row_first w m) at (h 0 (omega arith)))
-    (rows-mapped w f g n (suc i) (drop w l) (drop w m) (rw length-drop (omega arith)) (rw length-drop (omega arith))
+    (rows_mapped w f g n (suc i) (drop w l) (drop w m) (rw length-drop (omega arith)) (rw length-drop (omega arith))
     (λ k c. rw (suc-add, row_next w k l, row_next w k m) (rw add-suc at (h (suc k) (omega arith)))))
 
 -- a word of a row is a word of the table

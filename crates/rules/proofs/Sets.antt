@@ -28,7 +28,7 @@ use Rattle.rules.proofs.RowKinds.{update-live, settled-live, relaxed-live, live-
 use Rattle.rules.proofs.Noting.{noted-size, noted-keeps, closed-length, closed-row}
 use Rattle.rules.proofs.EqualSets.{read→, →read}
 use Rattle.rules.proofs.Joined.{joined_length, joined_grows, joined_in, joined-only, forgotten-length, forgotten-row}
-use Rattle.rules.proofs.ReadNoted.{noted_none, holder_inside, read_length, read-sets, read-joins, read_grows}
+use Rattle.rules.proofs.ReadNoted.{noted_none, holder_inside, read_length, read_sets, read-joins, read_grows}
 use Rattle.rules.proofs.Taken.{asking_sets, asking_in}
 use Rattle.rules.proofs.Waited.{cleared-keeps}
 use Rattle.rules.proofs.Counting.{counted_same}
@@ -36,8 +36,8 @@ use Rattle.rules.proofs.Steps.{acts}
 use Rattle.rules.proofs.Judged.{way}
 use Rattle.rules.proofs.Keeps.{keeps}
 use Rattle.rules.proofs.Waiting.{one_want, one_caller}
-use Rattle.rules.proofs.Ways.{refusal-code, Way, refused, waited, began_update, began_query, began_relaxed, read_own, read_newest, readShared, readSettled, readVersion}
-use Rattle.rules.proofs.Ways.{wroteOwn, wroteSettled, wroteTaken, committedUpdate, committedEmpty, committed_settled, committed_query, aborted_update, aborted_settled, aborted_query, settledUpdate, kept_waiting}
+use Rattle.rules.proofs.Ways.{refusal-code, Way, refused, waited, began_update, began_query, began_relaxed, read_own, read_newest, read_shared, read_settled, read_version}
+use Rattle.rules.proofs.Ways.{wrote_own, wrote_settled, wrote_taken, committed_update, committed_empty, committed_settled, committed_query, aborted_update, aborted_settled, aborted_query, settled_update, kept_waiting}
 
 module _
     (S : Sizes) (G : Tables) (g : Good S G) (s q : ℕ) (inside : s < S.slots) (inside' : q < S.slots) (update : T (live_update (txn G.txns s)))
@@ -153,10 +153,10 @@ module _
     written_moves c k u r R size i n e f h =
         quiet c k (set_txn u r R) (ap (λ (w : Txn). w.later_for) (txn-set_txn-other u r R s (other u r R size i n h)) ∙ e) f
 
-    top-moves :
+    top_moves :
         (c : Call) (k w v r : ℕ) (R : Txn) → w < txn_head → r < S.slots → (T (live_update R) → ⊥) → (Joins c k → In t)
         → T (live_update (txn (set_txn (set t w v) r R) s)) → Moves c k (set_txn (set t w v) r R)
-    top-moves c k w v r R a i n f h =
+    top_moves c k w v r R a i n f h =
         written_moves c k (set t w v) r R (length-set t w v ∙ g.txns_exact) i n (ap (λ (r : Txn). r.later_for) (txn-top t w v s a)) f h
 
     -- a new row in a free slot
@@ -166,17 +166,17 @@ module _
         (txn-set_txn-other (set t last_number_at w) r R s (λ e. F.free (subst (λ (m : ℕ). T (live (txn t m))) e (update-live (txn t s) update).0))
         ∙ txn-top t last_number_at w s (omega arith)) f
 
-    aborted-moves :
+    aborted_moves :
         (c : Call) (k r : ℕ) → r < S.slots → (Joins c k → In t) → T (live_update (txn (set_txn (closed_up S t r) r no_txn) s)) → Moves c k (set_txn (closed_up S t r) r no_txn)
-    aborted-moves c k r i f h =
+    aborted_moves c k r i f h =
         written_moves c k (closed_up S t r) r no_txn (closed-length S t r ∙ g.txns_exact) i gone
         (ap (λ (r : Txn). r.later_for) (closed-row S t r g.txns_exact s inside)) f h
 
     -- slot r joins the sets of m
-    joined-moves :
+    joined_moves :
         (c : Call) (k : ℕ) (u : List ℕ) (r m : ℕ) → length u ≡ txn_words S → r < S.slots → (txn u s).later_for ≡ (txn t s).later_for
         → (s ≡ r → T (bit m q) → Joins c k) → (Joins c k → (s ≡ r) × T (bit m q)) → Moves c k (joined u r m)
-    joined-moves c k u r m size i e to from =
+    joined_moves c k u r m size i e to from =
         record {
           only = λ b. ⊎_elim (λ a. inl (subst (λ (w : ℕ). T (bit w q)) e a)) (λ a. inr (to a.0 a.1)) (joined-only u r m S size i s q b);
           stays = λ b h. joined_grows u r m S size i s q (subst (λ (w : ℕ). T (bit w q)) (sym e) b);
@@ -207,11 +207,11 @@ module _
           go : (s ≡ r) × Cause c → In t
           go (z, inl a) =
               let p = one_want c j exclusive_lock x a.0 w a.1 in
-              g.sets_good.holdsRead x s q i inside' (subst (λ (m : ℕ). T (holds_exclusive (lock l x) m)) (sym z) (e p.0))
+              g.sets_good.holds_read x s q i inside' (subst (λ (m : ℕ). T (holds_exclusive (lock l x) m)) (sym z) (e p.0))
               (subst (λ (y : ℕ). T (bit (txn t q).items_read y)) (sym p.1) a.2)
           go (z, inr a) =
               let p = one_want c j a.0 x a.1 w a.2 in
-              g.sets_good.holdsHidden x s q i (subst (λ (m : ℕ). T (holds (lock l x) m)) (sym z) h)
+              g.sets_good.holds_hidden x s q i (subst (λ (m : ℕ). T (holds (lock l x) m)) (sym z) h)
               (subst (λ (y : ℕ). T (bit (hidden_now S G.versions y) q)) (sym p.1) a.3)
 
       here : s ≡ r → CallerIn c S G s
@@ -231,7 +231,7 @@ module _
       -- a wait
       waited_moves : k ≡ code Wait → Moves c k (joined (noted S t l r j x) r (asking_joins S t j x))
       waited_moves e =
-          joined-moves c k (noted S t l r j x) r (asking_joins S t j x) (noted-size S t l r j x ∙ g.txns_exact) C.inside
+          joined_moves c k (noted S t l r j x) r (asking_joins S t j x) (noted-size S t l r j x ∙ g.txns_exact) C.inside
           (noted-keeps S t l r j x g.txns_exact C.inside (λ (r : Txn). r.later_for) (λ r k x p. refl) (λ r p. refl) s inside)
           (λ z b. inl (asks (inr e) z b))
           (λ J. let a = (mere (λ z. omega arith) J).0 in (one_caller S G g c s r a.1 C, asked (a.0, a.2, a.4)))
@@ -241,7 +241,7 @@ module _
       unfolding grant_joins
       anew_moves e =
           then_cleared c k (joined t r (grant_joins S G j x)) r (joined_length t r (grant_joins S G j x) ∙ g.txns_exact) C.inside
-          (joined-moves c k t r (grant_joins S G j x) g.txns_exact C.inside refl
+          (joined_moves c k t r (grant_joins S G j x) g.txns_exact C.inside refl
           (λ z b. ⊎_elim
           (λ a. inl (asks (inl e) z a))
           (λ a. inr (inr (j, x, here z, w, e, a)))
@@ -256,10 +256,10 @@ module _
               (subst (λ (y : ℕ). T (bit (hidden_now S G.versions y) q)) (sym p.1) a.3)
 
     -- ---- a read of a version, by the query or the one past its writing in slot r
-    read-moves :
+    read_moves :
         (n r x v : ℕ) → Caller S G n r → T (is_reader (txn t r)) → x < S.items → Moves (Read n x) granted (counted (read_noted t l r x) r v)
     unfolding holds_exclusive
-    read-moves n r x v C reads i = go (same? (txn t r).kind a_relaxed)
+    read_moves n r x v C reads i = go (same? (txn t r).kind a_relaxed)
       where
         u : List ℕ
         u = read_noted t l r x
@@ -288,7 +288,7 @@ module _
                   inr
                   (inr
                   (inl (x, subst (CallerIn (Read n x) S G) (sym a.1) C', subst (λ (m : ℕ). T (live_relaxed (txn t m))) (sym a.1) (live-relaxed (txn t r) C.alive z), (refl, refl), refl, eq_make (lock l x).exclusive (suc s) a.0))))
-                  (read-sets S t l r x g.txns_exact C.inside (holder_inside S G g r C.inside x i) z s q (subst (λ (w : ℕ). T (bit w q)) counts b));
+                  (read_sets S t l r x g.txns_exact C.inside (holder_inside S G g r C.inside x i) z s q (subst (λ (w : ℕ). T (bit w q)) counts b));
               stays = λ b h. back (read_grows S t l r x g.txns_exact C.inside (holder_inside S G g r C.inside x i) s q b);
               joins = met;
             }
@@ -303,10 +303,10 @@ module _
                 (read-joins S t l r x g.txns_exact C.inside (holder_inside S G g r C.inside x i) z s (ap (λ (y : ℕ). (lock l y).exclusive) a.3.1 ∙ e)))
 
     -- ---- a query's end: nobody is in its set any more
-    ended-moves :
+    ended_moves :
         (c : Call) (k r : ℕ) → r < S.slots → (Joins c k → ⊥) → T (live_update (txn (set_txn (forgotten S r t) r no_txn) s)) → Moves c k (set_txn (forgotten S r t) r no_txn)
     unfolding live_relaxed live
-    ended-moves c k r i n h =
+    ended_moves c k r i n h =
         record {
           only = λ b. inl (without-bit (txn t s).later_for r q (subst (λ (w : ℕ). T (bit w q)) row b)).1;
           stays = λ b a.
@@ -346,28 +346,28 @@ module _
     way_moves c d (read_newest n r x U e) h =
         cleared_moves c granted r U.caller.inside
         (held c granted r shared_lock x (in_call c n r refl U.caller) U.update (refl, refl) (unfold holds in (or_left (holds_shared (lock l x) r) _ e)) (λ z. absurd (omega arith)) U.known)
-    way_moves c d (readShared n r x U e f) h = anew_moves c granted r shared_lock x (in_call c n r refl U.caller) U.update (refl, refl) refl
-    way_moves c d (readSettled n r x C p i e) h = cleared_moves c granted r C.inside (past c n r refl C p)
-    way_moves c d (readVersion n r x C q i o b) h = read-moves n r x (looked_at S G r x) C q i
-    way_moves c d (wroteOwn n r x v U e) h =
+    way_moves c d (read_shared n r x U e f) h = anew_moves c granted r shared_lock x (in_call c n r refl U.caller) U.update (refl, refl) refl
+    way_moves c d (read_settled n r x C p i e) h = cleared_moves c granted r C.inside (past c n r refl C p)
+    way_moves c d (read_version n r x C q i o b) h = read_moves n r x (looked_at S G r x) C q i
+    way_moves c d (wrote_own n r x v U e) h =
         cleared_moves c granted r U.caller.inside
         (held c granted r exclusive_lock x (in_call c n r refl U.caller) U.update (refl, refl) (either x r e) (λ z. e) U.known)
-    way_moves c d (wroteSettled n r x v C p i e) h = cleared_moves c granted r C.inside (past c n r refl C p)
-    way_moves c d (wroteTaken n r x v U e f m) h = anew_moves c granted r exclusive_lock x (in_call c n r refl U.caller) U.update (refl, refl) refl
-    way_moves c d (committedEmpty n r C u i e) h = aborted-moves c granted r C.inside (λ J. absurd (wants J).2) h
-    way_moves c d (committedUpdate n r C u i v w) h = top-moves c granted clock_at _ r no_txn (omega arith) C.inside gone (λ J. absurd (wants J).2) h
+    way_moves c d (wrote_settled n r x v C p i e) h = cleared_moves c granted r C.inside (past c n r refl C p)
+    way_moves c d (wrote_taken n r x v U e f m) h = anew_moves c granted r exclusive_lock x (in_call c n r refl U.caller) U.update (refl, refl) refl
+    way_moves c d (committed_empty n r C u i e) h = aborted_moves c granted r C.inside (λ J. absurd (wants J).2) h
+    way_moves c d (committed_update n r C u i v w) h = top_moves c granted clock_at _ r no_txn (omega arith) C.inside gone (λ J. absurd (wants J).2) h
     way_moves c d (committed_settled n r C p) h = written_moves c granted t r no_txn g.txns_exact C.inside gone refl (λ J. absurd (wants J).2) h
-    way_moves c d (committed_query n r C q) h = ended-moves c granted r C.inside (λ J. (wants J).2) h
-    way_moves c d (aborted_update n r C u) h = aborted-moves c granted r C.inside (λ J. absurd (wants J).2) h
+    way_moves c d (committed_query n r C q) h = ended_moves c granted r C.inside (λ J. (wants J).2) h
+    way_moves c d (aborted_update n r C u) h = aborted_moves c granted r C.inside (λ J. absurd (wants J).2) h
     way_moves c d (aborted_settled n r C p) h = written_moves c granted t r no_txn g.txns_exact C.inside gone refl (λ J. absurd (wants J).2) h
-    way_moves c d (aborted_query n r C q) h = ended-moves c granted r C.inside (λ J. (wants J).2) h
-    way_moves c d (settledUpdate n r C u i v a) h =
-        top-moves c granted clock_at _ r _ (omega arith) C.inside (past_no_update (txn t r).number (clock t + 1)) (λ J. absurd (wants J).2) h
+    way_moves c d (aborted_query n r C q) h = ended_moves c granted r C.inside (λ J. (wants J).2) h
+    way_moves c d (settled_update n r C u i v a) h =
+        top_moves c granted clock_at _ r _ (omega arith) C.inside (past_no_update (txn t r).number (clock t + 1)) (λ J. absurd (wants J).2) h
 
 -- ---- told of `step`
-pub joins-exactly : (S : Sizes) → S.slots ≤ S.places → JoinsExactly S
+pub joins_exactly : (S : Sizes) → S.slots ≤ S.places → JoinsExactly S
 unfolding act
-joins-exactly S enough c G s q g inside inside' update update' = (
+joins_exactly S enough c G s q g inside inside' update update' = (
   λ b. ⊎_elim (λ a. inl (a, ((keeps S enough c G g).sets_good.of_relaxed s q inside b).1)) (λ j. inr j) (M.only b),
   λ w. ⊎_elim (λ a. M.stays a.0 a.1) (λ j. M.joins j) w,
 )

@@ -23,12 +23,12 @@ use Rattle.rules.proofs.Tests.{same?, false_is}
 use Rattle.rules.proofs.Bits.{without_bit_here, without_bit_there, bit_none, no_bits}
 use Rattle.rules.proofs.Views.{length-set_txn, last_number-set_txn, clock-set_txn, txn-set_txn, txn-set_txn-other, txn-top, lock-unshare, length-unshare}
 use Rattle.rules.proofs.RowKinds.{update-live, relaxed-live, update-holds, settled-holds, live-settled, settled-starts, live-number, number-live, update_no_reader, reads_up_to}
-use Rattle.rules.proofs.Carried.{NoMore, no_reads, no_notes, no_more-same, reads-alike, txn-carried, lock-carried, versions-carried, settled-carried, sets-carried}
-use Rattle.rules.proofs.Quotas.{exclusives-fewer, quota-carried, quotas-but}
-use Rattle.rules.proofs.EqualRanks.{awaits→, awaitsOn→, waiter_inside}
+use Rattle.rules.proofs.Carried.{NoMore, no_reads, no_notes, no_more_same, reads-alike, txn_carried, lock_carried, versions_carried, settled_carried, sets_carried}
+use Rattle.rules.proofs.Quotas.{exclusives_fewer, quota_carried, quotas_but}
+use Rattle.rules.proofs.EqualRanks.{awaits→, awaits_on→, waiter_inside}
 use Rattle.rules.proofs.Lines.{same-leaving, left-ranks, left-links}
-use Rattle.rules.proofs.Deadlock.{fewer-no-circle}
-use Rattle.rules.proofs.Grants.{conflicts-fewer}
+use Rattle.rules.proofs.Deadlock.{fewer_no_circle}
+use Rattle.rules.proofs.Grants.{conflicts_fewer}
 use Rattle.rules.proofs.Taken.{reader-relaxed}
 
 -- ---- one lock without the shared bit of slot s
@@ -41,9 +41,9 @@ module _ (s : ℕ) (h : Lock) where
   unfolding holds_shared
   unshared-shares r d = without_bit_there h.shared s r d
 
-  pub unshared-fewer : (r : ℕ) → NoMore r h (unshared s h)
+  pub unshared_fewer : (r : ℕ) → NoMore r h (unshared s h)
   unfolding holds_exclusive
-  unshared-fewer r = record { shared = go (same? r s); exclusive = λ a. a }
+  unshared_fewer r = record { shared = go (same? r s); exclusive = λ a. a }
     where
       go : (r ≡ s) ⊎ (r ≢ s) → T (holds_shared (unshared s h) r) → T (holds_shared h r)
       go (inl e) a = absurd (unshared_none (subst (λ (m : ℕ). T (holds_shared (unshared s h) m)) e a))
@@ -52,8 +52,8 @@ module _ (s : ℕ) (h : Lock) where
   unshared-lock : (S : Sizes) (t : List ℕ) → GoodLock S t h → GoodLock S t (unshared s h)
   unshared-lock S t g =
       record {
-        sharers = λ r a. g.sharers r ((unshared-fewer r).shared a);
-        excluders = λ r a. g.excluders r ((unshared-fewer r).exclusive a);
+        sharers = λ r a. g.sharers r ((unshared_fewer r).shared a);
+        excluders = λ r a. g.excluders r ((unshared_fewer r).exclusive a);
         never_both = both g.never_both;
         no_working = g.no_working;
       }
@@ -81,7 +81,7 @@ module _ (S : Sizes) (G : Tables) (g : Good S G) (s : ℕ) (within : s < S.slots
   freed x i = lock-unshare S s l g.locks_exact x i
 
   fewer : (r x : ℕ) → x < S.items → NoMore r (lock l x) (lock l' x)
-  fewer r x i = subst (λ (o : Lock). NoMore r (lock l x) o) (sym (freed x i)) (unshared-fewer s (lock l x) r)
+  fewer r x i = subst (λ (o : Lock). NoMore r (lock l x) o) (sym (freed x i)) (unshared_fewer s (lock l x) r)
 
   waiter : (a : ℕ) → (txn t a).awaited_lock ≢ no_lock → (txn t a).awaited_item < S.items
   waiter a d = (g.txn_good a (waiter_inside S t g.txns_exact a d)).item_known d
@@ -95,7 +95,7 @@ module _ (S : Sizes) (G : Tables) (g : Good S G) (s : ℕ) (within : s < S.slots
   links : (a b : ℕ) → T (waits_for t l' a b) → T (waits_for t l a b)
   links a b h =
       left-links S t t l s within stay no_wait g.ranks_good l' g.txns_exact a b
-      (λ w k c. conflicts-fewer k b _ _ (fewer b (txn t a).awaited_item (waiter a (awaits→ (txn t a) w))) c) h
+      (λ w k c. conflicts_fewer k b _ _ (fewer b (txn t a).awaited_item (waiter a (awaits→ (txn t a) w))) c) h
 
   ranked : GoodRanks S t l'
   ranked =
@@ -106,11 +106,11 @@ module _ (S : Sizes) (G : Tables) (g : Good S G) (s : ℕ) (within : s < S.slots
         exchangers = λ x a b i j h k c n.
             let w = item x a h in
             g.ranks_good.exchangers x a b i j h k ((fewer a x w).shared c)
-            (λ z. n (subst T (sym (shared_still x w b (λ e. no_wait (subst (λ (m : ℕ). T (awaits (txn t m))) e (awaitsOn→ x (txn t b) k).0)))) z));
+            (λ z. n (subst T (sym (shared_still x w b (λ e. no_wait (subst (λ (m : ℕ). T (awaits (txn t m))) e (awaits_on→ x (txn t b) k).0)))) z));
       }
     where
       item : (x a : ℕ) → T (awaits_on x (txn t a)) → x < S.items
-      item x a h = let w = awaitsOn→ x (txn t a) h in subst (λ (y : ℕ). y < S.items) w.1 (waiter a (awaits→ (txn t a) w.0))
+      item x a h = let w = awaits_on→ x (txn t a) h in subst (λ (y : ℕ). y < S.items) w.1 (waiter a (awaits→ (txn t a) w.0))
 
       shared_still : (x : ℕ) → x < S.items → (r : ℕ) → r ≢ s → holds_shared (lock l' x) r ≡ holds_shared (lock l x) r
       shared_still x i r d = ap (λ (o : Lock). holds_shared o r) (freed x i) ∙ unshared-shares s (lock l x) r d
@@ -123,15 +123,15 @@ module _ (S : Sizes) (G : Tables) (g : Good S G) (s : ℕ) (within : s < S.slots
         versions_exact = g.versions_exact;
         last_most = g.last_most;
         clock_most = g.clock_most;
-        txn_good = λ r i. txn-carried S t t l l' r (txn t r) (omega arith) (omega arith) (λ d. fewer r _ ((g.txn_good r i).item_known d)) (g.txn_good r i);
+        txn_good = λ r i. txn_carried S t t l l' r (txn t r) (omega arith) (omega arith) (λ d. fewer r _ ((g.txn_good r i).item_known d)) (g.txn_good r i);
         distinct = g.distinct;
         lock_good = λ x i. subst (λ (o : Lock). GoodLock S t o) (sym (freed x i)) (unshared-lock s (lock l x) S t (g.lock_good x i));
-        quota_good = λ r i. quota-carried S l l' r (txn t r) (exclusives-fewer S l l' r (λ x k. (fewer r x k).exclusive)) (g.quota_good r i);
+        quota_good = λ r i. quota_carried S l l' r (txn t r) (exclusives_fewer S l l' r (λ x k. (fewer r x k).exclusive)) (g.quota_good r i);
         versions_good = g.versions_good;
         ranks_good = ranked;
-        settled_good = settled-carried S G (tables t l' G.versions) (λ r i h. (h, refl)) (λ r x i j a h. ((fewer r x j).exclusive h, refl)) g.settled_good;
-        sets_good = sets-carried S G (tables t l' G.versions) g g.sets_good.apart (λ q i h. h) (λ r i. refl) (λ q x i b. b) fewer (λ x q i b. b);
-        no_circle = fewer-no-circle S G g t l' links;
+        settled_good = settled_carried S G (tables t l' G.versions) (λ r i h. (h, refl)) (λ r x i j a h. ((fewer r x j).exclusive h, refl)) g.settled_good;
+        sets_good = sets_carried S G (tables t l' G.versions) g g.sets_good.apart (λ q i h. h) (λ r i. refl) (λ q x i b. b) fewer (λ x q i b. b);
+        no_circle = fewer_no_circle S G g t l' links;
       }
 
   pub unshared-holds : (x : ℕ) → x < S.items → T (holds_shared (lock (unshare S s G.locks) x) s) → ⊥
@@ -205,7 +205,7 @@ module _
         go (inl e) = subst (λ (m : ℕ). GoodTxn S t' G.locks m (txn t' m)) (sym e) (subst (λ (w : Txn). GoodTxn S t' G.locks s w) (sym here) new_row)
         go (inr d) =
             subst (λ (w : Txn). GoodTxn S t' G.locks r w) (sym (there r d))
-            (txn-carried S t₀ t' G.locks G.locks r (txn t₀ r) (let a = last' in omega arith) (let a = clock' in omega arith) (λ w. no_more-same r refl) (g.txn_good r i))
+            (txn_carried S t₀ t' G.locks G.locks r (txn t₀ r) (let a = last' in omega arith) (let a = clock' in omega arith) (λ w. no_more_same r refl) (g.txn_good r i))
 
     number' : (r : ℕ) → (txn t' r).number ≡ (txn t₀ r).number
     number' r = go (same? r s)
@@ -235,11 +235,11 @@ module _
         let e = there r (λ z. update_no_reader (txn t₀ s) update (subst (λ (m : ℕ). T (is_reader (txn t₀ m))) z h)) in
         (subst (λ (w : Txn). T (is_reader w)) (sym e) h, reads-alike t₀ t' r e)
 
-    reader-new :
+    reader_new :
         (x : ℕ) → x < S.items → (r : ℕ) → T (is_reader (txn t' r))
         → (T (is_reader (txn t₀ r)) × (reader_in t' r ≡ reader_in t₀ r)) ⊎ T (sees (reader_in t' r) (get_or (versions_in S (row (version_row S) x G.versions)) 0 no_version))
     unfolding sees stamp_at
-    reader-new x i r h = go (same? r s)
+    reader_new x i r h = go (same? r s)
       where
         vs : List Version
         vs = versions_in S (row (version_row S) x G.versions)
@@ -267,8 +267,8 @@ module _
         record {
           apart = λ a b i j h m. relaxed_not b j m;
           of_relaxed = λ r q i b. absurd (later_not r q i b (same? r s));
-          holdsRead = λ x r q i j e b. absurd (read_not q x j b (same? q s));
-          holdsHidden = λ x r q i h b. absurd (let m = (g.versions_good x i).from_relaxed 0 q b in alone q m.0 m.1);
+          holds_read = λ x r q i j e b. absurd (read_not q x j b (same? q s));
+          holds_hidden = λ x r q i h b. absurd (let m = (g.versions_good x i).from_relaxed 0 q b in alone q m.0 m.1);
         }
       where
         later_not : (r q : ℕ) → r < S.slots → T (bit (txn t' r).later_for q) → (r ≡ s) ⊎ (r ≢ s) → ⊥
@@ -337,16 +337,16 @@ module _
           clock_most = let a = clock' in let b = g.clock_most in omega arith;
           txn_good = rows;
           distinct = λ a b i j d h e. g.distinct a b i j d (number-live (txn t₀ b) (λ z. live-number (txn t' b) h (number' b ∙ z))) (sym (number' a) ∙ e ∙ number' b);
-          lock_good = λ x i. lock-carried S t₀ t' (lock G.locks x)
+          lock_good = λ x i. lock_carried S t₀ t' (lock G.locks x)
               (λ r h q. subst (λ (w : Txn). T (live_update w)) (sym (there r (λ e. sharing x i (subst (λ (m : ℕ). T (holds_shared (lock G.locks x) m)) e h)))) q)
               (λ r h q. holds' r q) (g.lock_good x i);
-          quota_good = quotas-but S G.locks t₀ t' s there (subst (λ (w : Txn). GoodQuota S G.locks s w) (sym here) new_quota) g.quota_good;
-          versions_good = λ x i. versions-carried S t₀ t' _ (let a = clock' in omega arith) (λ r j h. reader-stays r h) (λ r j h. reader-new x i r h)
+          quota_good = quotas_but S G.locks t₀ t' s there (subst (λ (w : Txn). GoodQuota S G.locks s w) (sym here) new_quota) g.quota_good;
+          versions_good = λ x i. versions_carried S t₀ t' _ (let a = clock' in omega arith) (λ r j h. reader-stays r h) (λ r j h. reader_new x i r h)
               (λ q j h. absurd (alone q j h)) (g.versions_good x i);
           ranks_good = left-ranks S t₀ t' G.locks s inside others idle g.ranks_good G.locks (λ x r d. refl);
           settled_good = stamped;
           sets_good = sets;
-          no_circle = fewer-no-circle S G g t' G.locks links';
+          no_circle = fewer_no_circle S G g t' G.locks links';
         }
 
 -- ---- both together

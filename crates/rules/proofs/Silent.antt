@@ -20,7 +20,7 @@ use Rattle.rules.specs.Step.{holds_back}
 use Rattle.rules.specs.Conditions.{ConflictIn, HeldBackIn, Circle, When, order, Answered}
 use Rattle.rules.specs.Promises.{code_of, waits_silently, waits_at_all, ReaderWaits, Descends, SilentDescends, NoCircleAtAll, NoSetWaits}
 use Rattle.rules.proofs.Tests.{and_left, and_right, and_both, or_cases, true_is, false_is, ne_use}
-use Rattle.rules.proofs.Counts.{someBelow→, →someBelow}
+use Rattle.rules.proofs.Counts.{some_below→, →some_below}
 use Rattle.rules.proofs.RowKinds.{settled-live, update_no_reader, start-reads, settled-starts, live-number}
 use Rattle.rules.proofs.EqualRows.{holder}
 use Rattle.rules.proofs.EqualRanks.{waiter_inside}
@@ -69,13 +69,13 @@ module _ (S : Sizes) (G : Tables) (a b : ℕ) where
   silent→ : T (waits_silently S G a b) → (x : ℕ) × T (by_start (txn G.txns a)) × T (holds_back G.txns G.locks x a b)
   unfolding waits_silently
   silent→ h =
-      let w = someBelow→ S.items (λ x. holds_back G.txns G.locks x a b) (and_right (by_start (txn G.txns a)) _ h) in
+      let w = some_below→ S.items (λ x. holds_back G.txns G.locks x a b) (and_right (by_start (txn G.txns a)) _ h) in
       (w.0, and_left (by_start (txn G.txns a)) _ h, w.2)
 
   →silent : (x : ℕ) → x < S.items → T (by_start (txn G.txns a)) → T (holds_back G.txns G.locks x a b) → T (waits_silently S G a b)
   unfolding waits_silently
   →silent x i r h =
-      and_both (by_start (txn G.txns a)) _ r (→someBelow S.items (λ x. holds_back G.txns G.locks x a b) x i h)
+      and_both (by_start (txn G.txns a)) _ r (→some_below S.items (λ x. holds_back G.txns G.locks x a b) x i h)
 
   at-all→ : T (waits_at_all S G a b) → T (waits_for G.txns G.locks a b) ⊎ T (waits_silently S G a b)
   unfolding waits_at_all
@@ -239,11 +239,11 @@ module _ (n : ℕ) (E : ℕ → ℕ → Bool) (inside : (a b : ℕ) → T (E a b
           (z : Bool) → some_below n next ≡ z
           → ((b : ℕ) → T (among b) → T (E a b) → (c : ℕ) × T (among c) × ((b : ℕ) → T (among b) → T (E c b) → ⊥))
           → (c : ℕ) × T (among c) × ((b : ℕ) → T (among b) → T (E c b) → ⊥)
-      go true q f = let r = someBelow→ n next (true_is q) in f r.0 (and_left (among r.0) _ r.2) (and_right (among r.0) _ r.2)
-      go false q f = (a, u, λ b v e. false_is q (→someBelow n next b (inside a b e) (and_both (among b) _ v e)))
+      go true q f = let r = some_below→ n next (true_is q) in f r.0 (and_left (among r.0) _ r.2) (and_right (among r.0) _ r.2)
+      go false q f = (a, u, λ b v e. false_is q (→some_below n next b (inside a b e) (and_both (among b) _ v e)))
 
   pub set_last : (s : ℕ) → T (among s) → (a : ℕ) × T (among a) × ((b : ℕ) → T (among b) → T (E a b) → ⊥)
   set_last s h = last (ahead s) s (omega arith) h
 
-pub no_set-waits : (S : Sizes) → NoSetWaits S
-no_set-waits S G among s g h = set_last S.slots (waits_at_all S G) (within S G g) (acyclic S G g) among s h
+pub no_set_waits : (S : Sizes) → NoSetWaits S
+no_set_waits S G among s g h = set_last S.slots (waits_at_all S G) (within S G g) (acyclic S G g) among s h

@@ -9,7 +9,7 @@ use Rattle.names.specs.declared.Sizes.{Sizes}
 use Rattle.rules.specs.Tables.{Tables, txn, live_update, lock, holds_exclusive, exclusives_of, exclusive_lock}
 use Rattle.rules.specs.Waits.{noted, circle_at}
 use Rattle.rules.specs.Good.{Good}
-use Rattle.rules.specs.Locks.{toWrite, Cell, decision}
+use Rattle.rules.specs.Locks.{to_write, Cell, decision}
 use Rattle.rules.specs.Locks.{OwnValue, ReplaceValue, NewestValue, ExchangeLock, TakeShared, TakeExclusive, Conflict}
 use Rattle.rules.specs.Answers.{Outcome, Write, code, Deadlock, QuotaSpent, Refused, Waits, as_slot, as_item}
 use Rattle.rules.specs.Step.{step, access, cell_deed, conflicted, done, awaits_other, writes_further}
@@ -23,9 +23,9 @@ module _
     (free : awaits_other G.txns s exclusive_lock x ≡ false)
   where
     -- the conflict is asked later, and answers 0, 1 or 2
-    access-below : (done S (access S toWrite s x v G) G).answer.code < code QuotaSpent
+    access_below : (done S (access S to_write s x v G) G).answer.code < code QuotaSpent
     unfolding access cell_deed conflicted done
-    access-below = go (decision S toWrite G.txns G.locks x s)
+    access_below = go (decision S to_write G.txns G.locks x s)
       where
         waits : (b : Bool) → (done S (cond b (Refused Deadlock) (Waits (as_slot s) exclusive_lock (as_item x))) G).answer.code < code QuotaSpent
         waits true = omega arith
@@ -41,11 +41,11 @@ module _
         go Conflict = waits (circle_at S (noted S G.txns G.locks s exclusive_lock x) G.locks s)
 
     -- exactly where it holds as many items exclusively as it may, and not the one that it writes
-    pub spent-exactly :
+    pub spent_exactly :
         ((step S (Write n x v) G).answer.code ≡ code QuotaSpent)
         ↔ ((exclusives_of S G.locks s ≡ S.quota) × (T (holds_exclusive (lock G.locks x) s) → ⊥))
     unfolding access
-    spent-exactly = go (writes_further S G.locks s x) refl
+    spent_exactly = go (writes_further S G.locks s x) refl
       where
         go :
             (b : Bool) → writes_further S G.locks s x ≡ b
@@ -56,6 +56,6 @@ module _
           λ h. ap (λ (o : Outcome). o.answer.code) (update_spent S G g n s C up x v known free e),
         )
         go false e = (
-          λ q. absurd (let a = access-below in let b : (step S (Write n x v) G).answer.code ≡ (done S (access S toWrite s x v G) G).answer.code = ap (λ (o : Outcome). o.answer.code) (update-writes S G g n s C up x v known free e) in omega arith),
+          λ q. absurd (let a = access_below in let b : (step S (Write n x v) G).answer.code ≡ (done S (access S to_write s x v G) G).answer.code = ap (λ (o : Outcome). o.answer.code) (update-writes S G g n s C up x v known free e) in omega arith),
           λ h. absurd (has_room S G.locks s x e h.1 h.0),
         )

@@ -28,7 +28,7 @@ pub one_outcome : (S : Sizes) → OneOutcome S
 one_outcome S c G = (step S c G, refl, λ p e. e)
 
 -- a test: what both ways have, the choice has. One line for each branch of nested tests
-pub cond-case :
+pub cond_case :
     {A : Type 0} (P : A → Type 0) (z : Bool) (o o' : A) → (z ≡ true → P o) → (z ≡ false → P o') → P (cond z o o')
-cond-case P true o o' f h = f refl
-cond-case P false o o' f h = h refl
+cond_case P true o o' f h = f refl
+cond_case P false o o' f h = h refl

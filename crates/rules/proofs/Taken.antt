@@ -17,7 +17,7 @@ use Rattle.rules.specs.Step.{with_txns, joined, joining, asking_joins, grant_joi
 use Rattle.rules.proofs.Tests.{true_is, false_is}
 use Rattle.rules.proofs.Bits.{bit_none, or_in, or_in_left, or_in_right}
 use Rattle.rules.proofs.EqualSets.{read→, →read}
-use Rattle.rules.proofs.Carried.{NoMore, lock-carried}
+use Rattle.rules.proofs.Carried.{NoMore, lock_carried}
 use Rattle.rules.proofs.Noting.{noted-keeps}
 use Rattle.rules.proofs.Joined.{joined_same, joined_in, joined-good}
 use Rattle.rules.proofs.Grants.{Room, InSets, locked-good}
@@ -100,12 +100,12 @@ module _
               (→read S G.txns x q j (subst (λ (w : ℕ). T (bit w x)) (same (λ (r : Txn). r.items_read) (λ r v. refl) q) b))));
         }
 
-    pub anew-good :
+    pub anew_good :
         (h' : Lock) → GoodLock S G.txns h' → ((r : ℕ) → r ≢ s → NoMore r (lock G.locks x) h')
         → ((r : ℕ) → r ≢ s → T (holds_shared (lock G.locks x) r) → T (holds_shared h' r)) → (T (holds_exclusive h' s) → Room S G.locks s x)
         → (T (holds_exclusive h' s) → k ≡ exclusive_lock) → Good S (locked_anew S s k x h' G)
     unfolding locked_anew live_update may_hold live_settled live
-    anew-good h' good' others keeps room wants =
+    anew_good h' good' others keeps room wants =
         locked-good S H anew_joined s x inside (subst T (sym (same live_update (λ r v. refl) s)) update) known h'
-        (lock-carried S G.txns H.txns h' (λ r a u. subst T (sym (same live_update (λ r v. refl) r)) u) (λ r a u. subst T (sym (same may_hold (λ r v. refl) r)) u) good')
+        (lock_carried S G.txns H.txns h' (λ r a u. subst T (sym (same live_update (λ r v. refl) r)) u) (λ r a u. subst T (sym (same may_hold (λ r v. refl) r)) u) good')
         others keeps room (anew_sets h' wants)

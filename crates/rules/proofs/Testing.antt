@@ -24,7 +24,7 @@ use Rattle.rules.proofs.Tests.{and_left, and_right, and_both, is_true, true_is, 
 use Rattle.rules.proofs.Quotas.{has_room, further→}
 use Rattle.rules.proofs.RowKinds.{update-live, reader-live, start-reads, update_no_reader}
 use Rattle.rules.proofs.Deadlock.{circle_is}
-use Rattle.rules.proofs.Callers.{caller-is, caller-none, caller-found, Free, free-found, free-none, is-settled, settled-kind}
+use Rattle.rules.proofs.Callers.{caller_is, caller_none, caller-found, Free, free-found, free_none, is_settled, settled-kind}
 use Rattle.rules.proofs.Decisions.{blocked_for, blocked-other, wanted-lock}
 use Rattle.rules.proofs.Ways.{Mere, Way, refused, kept_waiting, began_update, began_query, began_relaxed}
 use Rattle.rules.proofs.EqualSets.{some_settled_lem, settled_some}
@@ -64,7 +64,7 @@ module _ (S : Sizes) (c : Call) (G : Tables) where
       → Goes (NoSlot ∷ NumbersSpent ∷ rs) (begin_by S k q G)
   unfolding begin_by When
   begins k q rs w =
-      tests NoSlot _ (eqb (free_slot S G.txns) S.slots) _ (λ z. omega arith, λ z. omega arith) (λ e. free-none S G.txns e)
+      tests NoSlot _ (eqb (free_slot S G.txns) S.slots) _ (λ z. omega arith, λ z. omega arith) (λ e. free_none S G.txns e)
       (λ e w. let f = free-found S G.txns e in f.free (w (free_slot S G.txns) f.inside))
       (λ e. tests NumbersSpent _ (eqb (last_number G.txns) last_word) _ (λ z. omega arith, λ z. omega arith)
       (λ f. eqb-true (last_number G.txns) last_word f)
@@ -121,19 +121,19 @@ module _ (S : Sizes) (G : Tables) (g : Good S G) (c : Call) (n : ℕ) (says-n : 
   s = slot_of S G.txns n
 
   pub here : eqb s S.slots ≡ false → CallerIn c S G s
-  here e = caller-is S G c n says-n e
+  here e = caller_is S G c n says-n e
 
   -- the caller is in the slot that is found
   there : (r : ℕ) → CallerIn c S G r → s ≡ r
   there r C = caller-found S G g r n C.inside C.alive (only-n _ C.named)
 
-  pub names-tests :
+  pub names_tests :
       (rs : List Refusal) (d : Deed) → (eqb s S.slots ≡ false → Goes S c G rs d)
       → Goes S c G (UnknownTransaction ∷ rs) (cond (eqb s S.slots) (Refused UnknownTransaction) d)
   unfolding When
-  names-tests rs d k =
+  names_tests rs d k =
       tests S c G UnknownTransaction rs (eqb s S.slots) d (λ z. omega arith, λ z. omega arith)
-      (λ e r C. caller-none S G.txns n e r C.inside C.alive (only-n _ C.named))
+      (λ e r C. caller_none S G.txns n e r C.inside C.alive (only-n _ C.named))
       (λ e w. w s (here e))
       k
 
@@ -149,21 +149,21 @@ module _ (S : Sizes) (G : Tables) (g : Good S G) (c : Call) (n : ℕ) (says-n : 
 
   -- ---- read and write: c asks for a lock on x and no other
   module _ (a : Asked) (x : ℕ) (asks : Wants c (wanted a) x) (only-asks : (k y : ℕ) → Wants c k y → (k ≡ wanted a) × (y ≡ x)) where
-    pub items-tests :
+    pub items_tests :
         (rs : List Refusal) (d : Deed) → (leb S.items x ≡ false → Goes S c G rs d)
         → Goes S c G (UnknownItem ∷ rs) (cond (leb S.items x) (Refused UnknownItem) d)
     unfolding When
-    items-tests rs d h =
+    items_tests rs d h =
         tests S c G UnknownItem rs (leb S.items x) d (λ z. omega arith, λ z. omega arith)
         (λ e. (wanted a, x, asks, leb-true S.items x e))
         (λ e w. let l = leb-false S.items x e in let m = w.3 in let q = (only-asks w.0 w.1 w.2).1 in omega arith)
         h
 
-    pub waits-tests :
+    pub waits_tests :
         (rs : List Refusal) (d : Deed) → CallerIn c S G s → (awaits_other G.txns s (wanted a) x ≡ false → Goes S c G rs d)
         → Goes S c G (StillWaiting ∷ rs) (cond (awaits_other G.txns s (wanted a) x) (Refused StillWaiting) d)
     unfolding When awaits_other
-    waits-tests rs d C h = tests S c G StillWaiting rs (awaits_other G.txns s (wanted a) x) d (λ z. omega arith, λ z. omega arith) yes no h
+    waits_tests rs d C h = tests S c G StillWaiting rs (awaits_other G.txns s (wanted a) x) d (λ z. omega arith, λ z. omega arith) yes no h
       where
         k : ℕ
         k = (txn G.txns s).awaited_lock
@@ -195,17 +195,17 @@ module _ (S : Sizes) (G : Tables) (g : Good S G) (c : Call) (n : ℕ) (says-n : 
             false_is e (and_both (not (eqb k no_lock)) (not same) (ne_make k no_lock d) (not_make same (λ t. m (again t))))
 
     -- a write past the writing, of what is not held
-    pub past-tests :
+    pub past_tests :
         (rs : List Refusal) (d : Deed) → wanted a ≡ exclusive_lock → CallerIn c S G s → (IsSettle c → ⊥)
         → (writes_past G.txns G.locks s x ≡ false → Goes S c G rs d)
         → Goes S c G (PastWriting ∷ rs) (cond (writes_past G.txns G.locks s x) (Refused PastWriting) d)
     unfolding When writes_past
-    past-tests rs d w C no-settle h =
+    past_tests rs d w C no-settle h =
         tests S c G PastWriting rs (writes_past G.txns G.locks s x) d (λ z. omega arith, λ z. omega arith)
         (λ e. (
           s,
           C,
-          is-settled G.txns s C.alive (is_true _ (and_left (eqb (txn G.txns s).kind a_settled) _ (true_is e))),
+          is_settled G.txns s C.alive (is_true _ (and_left (eqb (txn G.txns s).kind a_settled) _ (true_is e))),
           inl (x, subst (λ (k : ℕ). Wants c k x) w asks, not_use (holds_exclusive (lock G.locks x) s) (and_right (eqb (txn G.txns s).kind a_settled) _ (true_is e))),
         ))
         (λ e m. no e m.0 m.1 m.2 m.3)
@@ -224,13 +224,13 @@ module _ (S : Sizes) (G : Tables) (g : Good S G) (c : Call) (n : ℕ) (says-n : 
             (at_caller (λ (i : ℕ). T (holds_exclusive (lock G.locks y) i) → ⊥) r D n))))
 
     -- an update's write of a further item
-    pub quota-tests :
+    pub quota_tests :
         (rs : List Refusal) (d : Deed) → wanted a ≡ exclusive_lock → CallerIn c S G s
         → ((T (holds_exclusive (lock G.locks x) s) → ⊥) → T (live_update (txn G.txns s)))
         → (writes_further S G.locks s x ≡ false → Goes S c G rs d)
         → Goes S c G (QuotaSpent ∷ rs) (cond (writes_further S G.locks s x) (Refused QuotaSpent) d)
     unfolding When
-    quota-tests rs d w C up h =
+    quota_tests rs d w C up h =
         tests S c G QuotaSpent rs (writes_further S G.locks s x) d (λ z. omega arith, λ z. omega arith)
         (λ e. let f = further→ S G.locks s x e in (s, x, C, up f.1, subst (λ (k : ℕ). Wants c k x) w asks, f.0, f.1))
         (λ e m. no e m.0 m.1 m.2 m.4 m.5 m.6)

@@ -15,7 +15,7 @@ use Rattle.rules.specs.Tested.{all_read}
 use Rattle.rules.proofs.Tests.{and_left, and_right, and_both, or_cases, or_left, or_right, is_true, true_is, false_is, eq_make}
 use Rattle.rules.proofs.Counts.{some_mem, mem_some}
 use Rattle.rules.proofs.Choice.{place_hit, place_miss, choice_hit, choice_miss}
-use Rattle.rules.proofs.Passing.{tally, passing, counted-le, passing-some}
+use Rattle.rules.proofs.Passing.{tally, passing, counted-le, passing_some}
 
 -- ---- the newest is kept, and stays in front
 pub kept-first : (qs : List Reader) (v : Version) (vs : List Version) → kept qs (v ∷ vs) ≡ v ∷ kept_from qs (v ∷ vs) 1 vs
@@ -33,25 +33,25 @@ unfolding stamp_at
 kept-newest qs vs = ap (λ (v : Version). v.stamp) (kept_top qs vs)
 
 -- ---- what all_read says of each place
-pub allRead→ :
+pub all_read→ :
     (qs : List Reader) (vs : List Version) (k : ℕ) (rest : List Version) → T (all_read qs vs k rest)
     → (j : ℕ) → j < length rest → T (eqb (k + j) 0 || read_by_some qs vs (k + j))
 unfolding all_read
-allRead→ qs vs k [] h j l = absurd (not-suc-le-zero l)
-allRead→ qs vs k (v ∷ rest) h zero l = rw add-zero (and_left (eqb k 0 || read_by_some qs vs k) (all_read qs vs (suc k) rest) h)
-allRead→ qs vs k (v ∷ rest) h (suc j) l =
+all_read→ qs vs k [] h j l = absurd (not-suc-le-zero l)
+all_read→ qs vs k (v ∷ rest) h zero l = rw add-zero (and_left (eqb k 0 || read_by_some qs vs k) (all_read qs vs (suc k) rest) h)
+all_read→ qs vs k (v ∷ rest) h (suc j) l =
     rw add-suc
-    (rw suc-add at (allRead→ qs vs (suc k) rest (and_right (eqb k 0 || read_by_some qs vs k) (all_read qs vs (suc k) rest) h) j (le_of_suc-le-suc l)))
+    (rw suc-add at (all_read→ qs vs (suc k) rest (and_right (eqb k 0 || read_by_some qs vs k) (all_read qs vs (suc k) rest) h) j (le_of_suc-le-suc l)))
 
-pub →allRead :
+pub →all_read :
     (qs : List Reader) (vs : List Version) (k : ℕ) (rest : List Version)
     → ((j : ℕ) → j < length rest → T (eqb (k + j) 0 || read_by_some qs vs (k + j))) → T (all_read qs vs k rest)
 unfolding all_read
-→allRead qs vs k [] f = tt
-→allRead qs vs k (v ∷ rest) f =
+→all_read qs vs k [] f = tt
+→all_read qs vs k (v ∷ rest) f =
     and_both (eqb k 0 || read_by_some qs vs k) (all_read qs vs (suc k) rest)
     (rw add-zero at (f 0 (omega arith)))
-    (→allRead qs vs (suc k) rest (λ j l. rw suc-add (rw add-suc at (f (suc j) (omega arith)))))
+    (→all_read qs vs (suc k) rest (λ j l. rw suc-add (rw add-suc at (f (suc j) (omega arith)))))
 
 -- every version but the newest has a reader
 pub reader :
@@ -59,7 +59,7 @@ pub reader :
     → (k : ℕ) → 0 < k → k < length vs → (q : Reader) × Memᴰ q qs × (place q vs ≡ k)
 unfolding read_by_some
 reader qs vs h zero z l = absurd (not-suc-le-zero z)
-reader qs vs h (suc k) z l = go (or_cases (eqb (0 + suc k) 0) (read_by_some qs vs (0 + suc k)) (allRead→ qs vs 0 vs h (suc k) l))
+reader qs vs h (suc k) z l = go (or_cases (eqb (0 + suc k) 0) (read_by_some qs vs (0 + suc k)) (all_read→ qs vs 0 vs h (suc k) l))
   where
     go : T (eqb (0 + suc k) 0) ⊎ T (read_by_some qs vs (0 + suc k)) → (q : Reader) × Memᴰ q qs × (place q vs ≡ suc k)
     go (inl x) = absurd (let e = eqb→eq (0 + suc k) 0 x in omega arith)
@@ -68,13 +68,13 @@ reader qs vs h (suc k) z l = go (or_cases (eqb (0 + suc k) 0) (read_by_some qs v
         (r.0, r.1, (let e = eqb→eq (place r.0 vs) (0 + suc k) r.2 in omega arith))
 
 -- ---- how many are kept: at most one more than there are starts, and at most as many as there are
-length-keptFrom :
+length-kept_from :
     (qs : List Reader) (vs : List Version) (k : ℕ) (rest : List Version) → 0 < k
     → length (kept_from qs vs k rest) ≡ passing (λ i. read_by_some qs vs i) k (length rest)
 unfolding kept_from passing tally
-length-keptFrom qs vs k [] h = refl
-length-keptFrom qs vs k (v ∷ rest) h =
-    rw (ne_eqb k 0 (λ e. omega arith)) (go (read_by_some qs vs k) (length-keptFrom qs vs (suc k) rest (omega arith)))
+length-kept_from qs vs k [] h = refl
+length-kept_from qs vs k (v ∷ rest) h =
+    rw (ne_eqb k 0 (λ e. omega arith)) (go (read_by_some qs vs k) (length-kept_from qs vs (suc k) rest (omega arith)))
   where
     go :
         (b : Bool) → length (kept_from qs vs (suc k) rest) ≡ passing (λ i. read_by_some qs vs i) (suc k) (length rest)
@@ -87,8 +87,8 @@ pub length-kept : (qs : List Reader) (vs : List Version) → length (kept qs vs)
 unfolding kept kept_from read_by_some
 length-kept qs [] = omega arith
 length-kept qs (v ∷ vs) =
-    let a = length-keptFrom qs (v ∷ vs) 1 vs (omega arith) in
-    let b = passing-some (λ q. true) (λ q. place q (v ∷ vs)) qs 1 (length vs) in
+    let a = length-kept_from qs (v ∷ vs) 1 vs (omega arith) in
+    let b = passing_some (λ q. true) (λ q. place q (v ∷ vs)) qs 1 (length vs) in
     let c = counted-le (λ q. true) qs in
     omega arith
 
@@ -107,12 +107,12 @@ length-kept-le qs vs = from 0 vs
         go false h = omega arith
 
 -- each of them was there
-kept-of-from :
+kept_of_from :
     (qs : List Reader) (vs : List Version) (i : ℕ) (rest : List Version) (k : ℕ) → k < length (kept_from qs vs i rest)
     → (j : ℕ) × (j < length rest) × (get_or (kept_from qs vs i rest) k no_version ≡ get_or rest j no_version)
 unfolding kept_from
-kept-of-from qs vs i [] k h = absurd (omega arith)
-kept-of-from qs vs i (v ∷ rest) k h = go (eqb i 0 || read_by_some qs vs i) k (kept-of-from qs vs (suc i) rest) h
+kept_of_from qs vs i [] k h = absurd (omega arith)
+kept_of_from qs vs i (v ∷ rest) k h = go (eqb i 0 || read_by_some qs vs i) k (kept_of_from qs vs (suc i) rest) h
   where
     older : List Version
     older = kept_from qs vs (suc i) rest
@@ -128,21 +128,21 @@ pub kept_of :
     (qs : List Reader) (vs : List Version) (k : ℕ) → k < length (kept qs vs)
     → (j : ℕ) × (j < length vs) × (get_or (kept qs vs) k no_version ≡ get_or vs j no_version)
 unfolding kept
-kept_of qs vs k h = kept-of-from qs vs 0 vs k h
+kept_of qs vs k h = kept_of_from qs vs 0 vs k h
 
 -- a row all of whose older versions are read is not changed
-pub kept-fixed-from :
+pub kept_fixed_from :
     (qs : List Reader) (vs : List Version) (k : ℕ) (rest : List Version) → T (all_read qs vs k rest) → kept_from qs vs k rest ≡ rest
 unfolding kept_from all_read
-kept-fixed-from qs vs k [] h = refl
-kept-fixed-from qs vs k (v ∷ rest) h =
+kept_fixed_from qs vs k [] h = refl
+kept_fixed_from qs vs k (v ∷ rest) h =
     let a = eqb k 0 || read_by_some qs vs k in
     rw (is_true a (and_left a (all_read qs vs (suc k) rest) h))
-    (ap {B = List Version} (λ l. v ∷ l) (kept-fixed-from qs vs (suc k) rest (and_right a (all_read qs vs (suc k) rest) h)))
+    (ap {B = List Version} (λ l. v ∷ l) (kept_fixed_from qs vs (suc k) rest (and_right a (all_read qs vs (suc k) rest) h)))
 
 pub kept_fixed : (qs : List Reader) (vs : List Version) → T (all_read qs vs 0 vs) → kept qs vs ≡ vs
 unfolding kept
-kept_fixed qs vs h = kept-fixed-from qs vs 0 vs h
+kept_fixed qs vs h = kept_fixed_from qs vs 0 vs h
 
 -- ---- each start finds what it found
 -- the first of a row is chosen, or not

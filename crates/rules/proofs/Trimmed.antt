@@ -16,7 +16,7 @@ use Rattle.rules.specs.Tested.{falls, nests, last_seen, versions_good}
 use Rattle.rules.proofs.Tests.{and_left, and_right, and_both}
 use Rattle.rules.proofs.Bits.{contains→, →contains}
 use Rattle.rules.proofs.Counts.{every_mem, mem_every}
-use Rattle.rules.proofs.Choice.{versions_in-row_of, row_of-unused, row_of-unhidden, zero_all, falls→Falls, nests→Nests, older-seen, place-fits, place-exists}
+use Rattle.rules.proofs.Choice.{versions_in-row_of, row_of-unused, row_of-unhidden, zero_all, falls→Falls, nests→Nests, older_seen, place-fits, place_exists}
 use Rattle.rules.proofs.Trim.{kept-first, kept-found, kept_read, length-kept}
 
 -- ---- stamps still fall
@@ -95,7 +95,7 @@ kept-nests qs (v ∷ vs) d = kept-nests-from qs (v ∷ vs) 1 v vs d
 pub seen→found :
     (qs : List Reader) (vs : List Version) → 0 < length vs → T (last_seen qs vs) → (q : Reader) → Memᴰ q qs → place q vs < length vs
 unfolding last_seen
-seen→found qs vs h o q m = place-exists q vs h (every_mem (λ q. sees q (get_or vs (length vs - 1) no_version)) o m)
+seen→found qs vs h o q m = place_exists q vs h (every_mem (λ q. sees q (get_or vs (length vs - 1) no_version)) o m)
 
 pub found→seen :
     (qs : List Reader) (vs : List Version) → T (falls vs) → T (nests vs) → ((q : Reader) → Memᴰ q qs → place q vs < length vs) → T (last_seen qs vs)
@@ -104,7 +104,7 @@ found→seen qs vs d n f =
     mem_every (λ q. sees q (get_or vs (length vs - 1) no_version)) qs
     (λ q m.
     let l = f q m in
-    older-seen vs (falls→Falls vs d) (nests→Nests vs n) q (place q vs) (length vs - 1) (omega arith) (omega arith) (place-fits q vs l))
+    older_seen vs (falls→Falls vs d) (nests→Nests vs n) q (place q vs) (length vs - 1) (omega arith) (omega arith) (place-fits q vs l))
 
 pub kept_seen :
     (qs : List Reader) (v : Version) (vs : List Version) → T (falls (v ∷ vs)) → T (nests (v ∷ vs)) → T (last_seen qs (v ∷ vs))
@@ -143,11 +143,11 @@ module _ (S : Sizes) (now : ℕ) (qs : List Reader) (m : ℕ) (v : Version) (vs 
   abbrev all : List Version
   all = v ∷ vs
 
-  pub rowOf-good :
+  pub row_of-good :
       T (falls (v ∷ vs)) → T (nests (v ∷ vs)) → T (contains m v.hidden) → v.stamp ≤ now → T (last_seen qs (v ∷ vs)) → length qs < S.places
       → T (versions_good S now qs m (row_of S (kept qs (v ∷ vs))))
   unfolding versions_good stamp_at hidden_at
-  rowOf-good d e h n o f =
+  row_of-good d e h n o f =
       let k = kept qs all in
       let r = row_of S k in
       let c = kept-first qs v vs in

@@ -26,8 +26,8 @@ use Rattle.rules.proofs.ChangedVersions.{ended-versions, committed-versions, set
 use Rattle.rules.proofs.Steps.{acts}
 use Rattle.rules.proofs.Judged.{way}
 use Rattle.rules.proofs.Keeps.{keeps}
-use Rattle.rules.proofs.Ways.{Way, refused, waited, began_update, began_query, began_relaxed, read_own, read_newest, readShared, readSettled, readVersion}
-use Rattle.rules.proofs.Ways.{wroteOwn, wroteSettled, wroteTaken, committedUpdate, committedEmpty, committed_settled, committed_query, aborted_update, aborted_settled, aborted_query, settledUpdate, kept_waiting}
+use Rattle.rules.proofs.Ways.{Way, refused, waited, began_update, began_query, began_relaxed, read_own, read_newest, read_shared, read_settled, read_version}
+use Rattle.rules.proofs.Ways.{wrote_own, wrote_settled, wrote_taken, committed_update, committed_empty, committed_settled, committed_query, aborted_update, aborted_settled, aborted_query, settled_update, kept_waiting}
 
 module _ (S : Sizes) (enough : S.slots ≤ S.places) (G : Tables) (g : Good S G) (x : ℕ) (known : x < S.items) where
   abbrev vs : List Version
@@ -148,15 +148,15 @@ module _ (S : Sizes) (enough : S.slots ≤ S.places) (G : Tables) (g : Good S G)
   way_comes c d (began_relaxed s F n a) h = stay c (After d) h refl
   way_comes c d (read_own n s y U e) h = stay c (After d) h refl
   way_comes c d (read_newest n s y U e) h = stay c (After d) h refl
-  way_comes c d (readShared n s y U e f) h = stay c (After d) h refl
-  way_comes c d (readSettled n s y C p i e) h = stay c (After d) h refl
-  way_comes c d (readVersion n s y C q i o b) h = stay c (After d) h refl
-  way_comes c d (wroteOwn n s y v U e) h = stay c (After d) h refl
-  way_comes c d (wroteSettled n s y v C p i e) h = stay c (After d) h refl
-  way_comes c d (wroteTaken n s y v U e f m) h = stay c (After d) h refl
-  way_comes c d (committedUpdate n s C u i v w) h =
+  way_comes c d (read_shared n s y U e f) h = stay c (After d) h refl
+  way_comes c d (read_settled n s y C p i e) h = stay c (After d) h refl
+  way_comes c d (read_version n s y C q i o b) h = stay c (After d) h refl
+  way_comes c d (wrote_own n s y v U e) h = stay c (After d) h refl
+  way_comes c d (wrote_settled n s y v C p i e) h = stay c (After d) h refl
+  way_comes c d (wrote_taken n s y v U e f m) h = stay c (After d) h refl
+  way_comes c d (committed_update n s C u i v w) h =
       new n s C (committed S s G) h (clock G.txns + 1) (readers S G.txns) (committed-versions S G g enough s C.inside u x known)
-  way_comes c d (committedEmpty n s C u i e) h = stay c (After d) h refl
+  way_comes c d (committed_empty n s C u i e) h = stay c (After d) h refl
   way_comes c d (committed_settled n s C p) h =
       new n s C (settled_committed S s G) h (txn G.txns s).start (readers S (settled_committed S s G).txns)
       (settled-commit-versions S G g enough s C.inside p x known
@@ -166,7 +166,7 @@ module _ (S : Sizes) (enough : S.slots ≤ S.places) (G : Tables) (g : Good S G)
   way_comes c d (aborted_update n s C u) h = stay c (After d) h refl
   way_comes c d (aborted_settled n s C p) h = trim c (settled_aborted S s G) h (settled-abort-versions S G g enough s C.inside x known)
   way_comes c d (aborted_query n s C q) h = end n s C c h
-  way_comes c d (settledUpdate n s C u i v a) h = stay c (After d) h refl
+  way_comes c d (settled_update n s C u i v a) h = stay c (After d) h refl
 
 -- ---- told of `step`
 pub versions_come : (S : Sizes) → S.slots ≤ S.places → VersionsCome S

@@ -124,11 +124,11 @@ pub set_txn_none : (t : List ℕ) (s : ℕ) → set_txn t s no_txn ≡ put_from 
 unfolding set_txn
 set_txn_none t s = refl
 
-pub setTxn-new :
+pub set_txn_new :
     (t : List ℕ) (s n k q : ℕ)
     → set_txn t s (new_txn n k q) ≡ set (set (set (set_txn t s no_txn) (txn_at s) n) (txn_at s + txn_kind_at) k) (txn_at s + txn_start_at) q
 unfolding set_txn
-setTxn-new t s n k q =
+set_txn_new t s n k q =
     put-set (txn_at s) (set (set free txn_number_at n) txn_kind_at k) t 0 txn_start_at q (omega arith)
     ∙ ap (λ (u : List ℕ). set u (txn_at s + txn_start_at) q)
     (put-set (txn_at s) (set free txn_number_at n) t 0 txn_kind_at k (omega arith)

@@ -19,13 +19,13 @@ use Rattle.rules.specs.Step.{with_txns, cleared, awaits_other}
 use Rattle.rules.proofs.Tests.{same?, true_is, false_is, ne_make, not_make, and_left, and_right, and_both, or_left, or_right}
 use Rattle.rules.proofs.Counts.{count_none}
 use Rattle.rules.proofs.Views.{awaiting, set_awaited-row, length-set_txn, last_number-set_txn, clock-set_txn, txn-set_txn, txn-set_txn-other}
-use Rattle.rules.proofs.EqualRanks.{awaits→, →awaits, awaitsOn→, →awaitsOn}
+use Rattle.rules.proofs.EqualRanks.{awaits→, →awaits, awaits_on→, →awaits_on}
 use Rattle.rules.proofs.Walks.{→waits-for}
 use Rattle.rules.proofs.Lines.{leaving-idle, left-ranks, left-links}
 use Rattle.rules.proofs.Joins.{come_ranks}
 use Rattle.rules.proofs.Noting.{rank-shared, rank-last, rank-least, rank_most, noted-known, noted-length, noted-last, noted-clock, noted_there, noted_here}
 use Rattle.rules.proofs.Noting.{closed-length, closed-last, closed-clock, closed-row}
-use Rattle.rules.proofs.Deadlock.{fewer-no-circle, new_no_circle}
+use Rattle.rules.proofs.Deadlock.{fewer_no_circle, new_no_circle}
 use Rattle.rules.proofs.Awaits.{MayAwait, awaiting_good}
 
 -- test 6 lets a waiter's awaited call pass, and none but it
@@ -36,7 +36,7 @@ only_this t s k x e w = go (eqb (txn t s).awaited_lock k && eqb (txn t s).awaite
     go : (b : Bool) → (eqb (txn t s).awaited_lock k && eqb (txn t s).awaited_item x) ≡ b → ((txn t s).awaited_lock ≡ k) × T (awaits_on x (txn t s))
     go true f = (
       eqb→eq (txn t s).awaited_lock k (and_left (eqb (txn t s).awaited_lock k) _ (true_is f)),
-      →awaitsOn x (txn t s) w (eqb→eq (txn t s).awaited_item x (and_right (eqb (txn t s).awaited_lock k) _ (true_is f))),
+      →awaits_on x (txn t s) w (eqb→eq (txn t s).awaited_item x (and_right (eqb (txn t s).awaited_lock k) _ (true_is f))),
     )
     go false f =
         absurd (false_is e (and_both (not (eqb (txn t s).awaited_lock no_lock)) _ (ne_make (txn t s).awaited_lock no_lock (awaits→ (txn t s) w))
@@ -73,7 +73,7 @@ module _
     -- it comes into the line
     module _ (idle : T (awaits (txn t s)) → ⊥) where
       new : T (awaits_on x (txn t s)) → ⊥
-      new h = idle (awaitsOn→ x (txn t s) h).0
+      new h = idle (awaits_on→ x (txn t s) h).0
 
       here : txn t' s ≡ awaiting (txn t s) k x (rank_for S t l s x)
       here = noted_here S t l s k x new g.txns_exact inside
@@ -95,7 +95,7 @@ module _
           shares = and_right (awaits_on x (txn t b)) _ u
 
           d : s ≢ b
-          d e = idle (subst (λ (m : ℕ). T (awaits (txn t m))) (sym e) (awaitsOn→ x (txn t b) w).0)
+          d e = idle (subst (λ (m : ℕ). T (awaits (txn t m))) (sym e) (awaits_on→ x (txn t b) w).0)
 
           -- both want it exclusively
           mine : k ≡ exclusive_lock
@@ -111,8 +111,8 @@ module _
               go : ((txn t b).awaited_lock ≡ shared_lock) ⊎ ((txn t b).awaited_lock ≢ shared_lock) → (txn t b).awaited_lock ≡ exclusive_lock
               go (inl e) =
                   absurd ((g.txn_good b i).awaits_shared e
-                  (subst (λ (y : ℕ). T (holds (lock l y) b)) (sym (awaitsOn→ x (txn t b) w).1) (unfold holds in (or_left (holds_shared (lock l x) b) _ shares))))
-              go (inr n) = let a = (g.txn_good b i).lock_listed in let c = awaits→ (txn t b) (awaitsOn→ x (txn t b) w).0 in omega arith
+                  (subst (λ (y : ℕ). T (holds (lock l y) b)) (sym (awaits_on→ x (txn t b) w).1) (unfold holds in (or_left (holds_shared (lock l x) b) _ shares))))
+              go (inr n) = let a = (g.txn_good b i).lock_listed in let c = awaits→ (txn t b) (awaits_on→ x (txn t b) w).0 in omega arith
 
           conflict : (r : ℕ) → T (holds_shared (lock l x) r) → T (conflicts (lock l x) exclusive_lock r)
           conflict r c = shared-conflicts (lock l x) r c
@@ -128,8 +128,8 @@ module _
 
           back : T (waits_for t' l b s)
           back =
-              →waits-for t' l b s (λ e. awaits→ (txn t b) (awaitsOn→ x (txn t b) w).0 (sym (ap (λ (w : Txn). w.awaited_lock) row) ∙ e)) (λ e. d (sym e))
-              (inl (subst (λ (y : ℕ). T (conflicts (lock l y) (txn t' b).awaited_lock s)) (sym (ap (λ (w : Txn). w.awaited_item) row ∙ (awaitsOn→ x (txn t b) w).1))
+              →waits-for t' l b s (λ e. awaits→ (txn t b) (awaits_on→ x (txn t b) w).0 (sym (ap (λ (w : Txn). w.awaited_lock) row) ∙ e)) (λ e. d (sym e))
+              (inl (subst (λ (y : ℕ). T (conflicts (lock l y) (txn t' b).awaited_lock s)) (sym (ap (λ (w : Txn). w.awaited_item) row ∙ (awaits_on→ x (txn t b) w).1))
               (subst (λ (j : ℕ). T (conflicts (lock l x) j s)) (sym (ap (λ (w : Txn). w.awaited_lock) row ∙ its)) (conflict s h))))
 
       first : T (holds_shared (lock l x) s) → rank_for S t l s x ≡ 1
@@ -140,8 +140,8 @@ module _
       ranked =
           come_ranks S t t' l s x (rank_for S t l s x) inside there idle (→awaits (txn t' s) waits)
           (ap (λ (w : Txn). w.awaited_item) here) (ap (λ (w : Txn). w.rank) here) g.ranks_good (rank-least S t l s x new) (rank_most S t l s x new)
-          (λ r i d w h. let a = first h in let b = g.ranks_good.least r i (awaitsOn→ x (txn t r) w).0 in omega arith)
-          (λ r i d w n. let a = rank-last S t l s x new n in let v = awaitsOn→ x (txn t r) w in let b = subst (λ (y : ℕ). (txn t r).rank ≤ waiters_on S t y) v.1 (g.ranks_good.most r i v.0) in omega arith)
+          (λ r i d w h. let a = first h in let b = g.ranks_good.least r i (awaits_on→ x (txn t r) w).0 in omega arith)
+          (λ r i d w n. let a = rank-last S t l s x new n in let v = awaits_on→ x (txn t r) w in let b = subst (λ (y : ℕ). (txn t r).rank ≤ waiters_on S t y) v.1 (g.ranks_good.most r i v.0) in omega arith)
 
       came_good : Good S (with_txns G t')
       came_good =
@@ -217,7 +217,7 @@ module _ (S : Sizes) (G : Tables) (g : Good S G) (s : ℕ) (inside : s < S.slots
       t' (cleared-length S t size s inside ∙ size) (cleared-last S t size s inside) (cleared-clock S t size s inside) (cleared_here S t size s inside) (λ e. refl)
       (leaving t s) (cleared_there S t size s inside) (leaving-idle t s)
       (left-ranks S t t' G.locks s inside (cleared_there S t size s inside) (cleared-idle S t size s inside) g.ranks_good G.locks (λ x r d. refl))
-      (fewer-no-circle S G g t' G.locks
+      (fewer_no_circle S G g t' G.locks
       (λ a b h. left-links S t t' G.locks s inside (cleared_there S t size s inside) (cleared-idle S t size s inside) g.ranks_good G.locks (cleared-length S t size s inside ∙ size) a b (λ w k c. c) h))
     where
       t : List ℕ

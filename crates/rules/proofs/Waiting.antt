@@ -22,7 +22,7 @@ use Rattle.rules.specs.Promises.{code_of, after, SameButRank, StaysWaiting, Othe
 use Rattle.rules.proofs.Tests.{false_is, true_is, ne_make, same?}
 use Rattle.rules.proofs.Views.{txn-set_txn-other, txn-top}
 use Rattle.rules.proofs.RowKinds.{any-query-reads, settled-reads, start-reads}
-use Rattle.rules.proofs.EqualRanks.{→awaits, awaitsOn→, →awaitsOn}
+use Rattle.rules.proofs.EqualRanks.{→awaits, awaits_on→, →awaits_on}
 use Rattle.rules.proofs.Noting.{noted-known, noted_there, closed-row}
 use Rattle.rules.proofs.Joined.{joined_length, joined_there, joined_here, forgotten-row}
 use Rattle.rules.proofs.ReadNoted.{holder_inside, read-other}
@@ -32,10 +32,10 @@ use Rattle.rules.proofs.Steps.{acts}
 use Rattle.rules.proofs.Callers.{caller-found}
 use Rattle.rules.proofs.Deadlock.{repeated}
 use Rattle.rules.proofs.Judged.{way}
-use Rattle.rules.proofs.Ways.{Way, refused, waited, began_update, began_query, began_relaxed, read_own, read_newest, readShared, readSettled, readVersion}
-use Rattle.rules.proofs.Ways.{wroteOwn, wroteSettled, wroteTaken, committedUpdate, committedEmpty, committed_settled, committed_query, aborted_update, aborted_settled, aborted_query, settledUpdate, kept_waiting}
+use Rattle.rules.proofs.Ways.{Way, refused, waited, began_update, began_query, began_relaxed, read_own, read_newest, read_shared, read_settled, read_version}
+use Rattle.rules.proofs.Ways.{wrote_own, wrote_settled, wrote_taken, committed_update, committed_empty, committed_settled, committed_query, aborted_update, aborted_settled, aborted_query, settled_update, kept_waiting}
 use Rattle.rules.proofs.Refused.{NotedDown, HeldSilently, wait_is}
-use Rattle.rules.proofs.Answered.{answered, answered-when}
+use Rattle.rules.proofs.Answered.{answered, answered_when}
 
 -- ---- a call names one transaction at most, and wants one lock
 pub named? : (c : Call) (m : ℕ) → Names c m ⊎ (Names c m → ⊥)
@@ -155,21 +155,21 @@ module _ (S : Sizes) (G : Tables) (g : Good S G) (s : ℕ) (inside : s < S.slots
     other_row c d (began_relaxed r F l a) o = left_other r (new r F) last_number_at _ (omega arith) _
     other_row c d (read_own n r x U h) o = cleared-other r (named c o n r refl U.caller) U.caller.inside
     other_row c d (read_newest n r x U h) o = cleared-other r (named c o n r refl U.caller) U.caller.inside
-    other_row c d (readShared n r x U h f) o = anew_other r (named c o n r refl U.caller) U.caller.inside _
+    other_row c d (read_shared n r x U h f) o = anew_other r (named c o n r refl U.caller) U.caller.inside _
     other_row c d (kept_waiting r C q) o = same_row refl
-    other_row c d (readSettled n r x C p i h) o = cleared-other r (named c o n r refl C) C.inside
-    other_row c d (readVersion n r x C q i b e) o = read-row r (named c o n r refl C) C.inside x i
-    other_row c d (wroteOwn n r x v U h) o = cleared-other r (named c o n r refl U.caller) U.caller.inside
-    other_row c d (wroteSettled n r x v C p i h) o = cleared-other r (named c o n r refl C) C.inside
-    other_row c d (wroteTaken n r x v U h f m) o = anew_other r (named c o n r refl U.caller) U.caller.inside _
-    other_row c d (committedEmpty n r C u i e) o = aborted-other r (named c o n r refl C) no_txn
-    other_row c d (committedUpdate n r C u i l w) o = left_other r (named c o n r refl C) clock_at _ (omega arith) no_txn
+    other_row c d (read_settled n r x C p i h) o = cleared-other r (named c o n r refl C) C.inside
+    other_row c d (read_version n r x C q i b e) o = read-row r (named c o n r refl C) C.inside x i
+    other_row c d (wrote_own n r x v U h) o = cleared-other r (named c o n r refl U.caller) U.caller.inside
+    other_row c d (wrote_settled n r x v C p i h) o = cleared-other r (named c o n r refl C) C.inside
+    other_row c d (wrote_taken n r x v U h f m) o = anew_other r (named c o n r refl U.caller) U.caller.inside _
+    other_row c d (committed_empty n r C u i e) o = aborted-other r (named c o n r refl C) no_txn
+    other_row c d (committed_update n r C u i l w) o = left_other r (named c o n r refl C) clock_at _ (omega arith) no_txn
     other_row c d (committed_settled n r C p) o = gone-other r (named c o n r refl C) no_txn
     other_row c d (committed_query n r C q) o = ended-other r (named c o n r refl C) no_txn
     other_row c d (aborted_update n r C u) o = aborted-other r (named c o n r refl C) no_txn
     other_row c d (aborted_settled n r C p) o = gone-other r (named c o n r refl C) no_txn
     other_row c d (aborted_query n r C q) o = ended-other r (named c o n r refl C) no_txn
-    other_row c d (settledUpdate n r C u i l a) o = left_other r (named c o n r refl C) clock_at _ (omega arith) _
+    other_row c d (settled_update n r C u i l a) o = left_other r (named c o n r refl C) clock_at _ (omega arith) _
 
   -- ---- its own calls, while it awaits
   module _ (awaits' : R.awaited_lock ≢ no_lock) where
@@ -179,7 +179,7 @@ module _ (S : Sizes) (G : Tables) (g : Good S G) (s : ℕ) (inside : s < S.slots
 
     -- test 6 lets the awaited call pass, and none but it
     this : (k x : ℕ) → awaits_other t s k x ≡ false → (R.awaited_lock ≡ k) × (R.awaited_item ≡ x)
-    this k x e = let w = only_this t s k x e (→awaits R awaits') in (w.0, (awaitsOn→ x R w.1).1)
+    this k x e = let w = only_this t s k x e (→awaits R awaits') in (w.0, (awaits_on→ x R w.1).1)
 
     abbrev Stays : Call → Deed → Type 0
     Stays c d =
@@ -218,21 +218,24 @@ module _ (S : Sizes) (G : Tables) (g : Good S G) (s : ℕ) (inside : s < S.slots
         stands c r C e = one_caller S G g c r s C (record { inside = inside; alive = alive; named = e })
     own_row c d (read_own n r x U h) e = let p = it n r e U in inr (inl (e, (p.0, sym p.1), refl))
     own_row c d (read_newest n r x U h) e = let p = it n r e U in inr (inl (e, (p.0, sym p.1), refl))
-    own_row c d (readShared n r x U h f) e = let p = it n r e U in inr (inl (e, (p.0, sym p.1), refl))
+    own_row c d (read_shared n r x U h f) e = let p = it n r e U in inr (inl (e, (p.0, sym p.1), refl))
     own_row c d (kept_waiting r C q) e = inl (same_row refl)
-    own_row c d (readSettled n r x C p i h) e = absurd (idle n r e C (settled-reads (txn t r) p))
-    own_row c d (readVersion n r x C q i o b) e = absurd (idle n r e C q)
-    own_row c d (wroteOwn n r x v U h) e = let p = it n r e U in inr (inl (e, (p.0, sym p.1), refl))
-    own_row c d (wroteSettled n r x v C p i h) e = absurd (idle n r e C (settled-reads (txn t r) p))
-    own_row c d (wroteTaken n r x v U h f m) e = let p = it n r e U in inr (inl (e, (p.0, sym p.1), refl))
-    own_row c d (committedEmpty n r C u i w) e = absurd (busy n r e C i)
-    own_row c d (committedUpdate n r C u i l w) e = absurd (busy n r e C i)
+    own_row c d (read_settled n r x C p i h) e = absurd (idle n r e C (settled-reads (txn t r) p))
+    own_row c d (read_version n r x C q i o b) e = absurd (idle n r e C q)
+    own_row c d (wrote_own n r x v U h) e = let p = it n r e U in inr (inl (e, (p.0, sym p.1), refl))
+    own_row c d (wrote_settled n r x v C p i h) e = absurd (idle n r e C (settled-reads (txn t r) p))
+    own_row c d (wrote_taken n r x v U h f m) e = let p = it n r e U in inr (inl (e, (p.0, sym p.1), refl))
+    own_row c d (committed_empty n r C u i w) e = absurd (busy n r e C i)
+    own_row c d (committed_update n r C u i l w) e = absurd (busy n r e C i)
     own_row c d (committed_settled n r C p) e = absurd (idle n r e C (settled-reads (txn t r) p))
     own_row c d (committed_query n r C q) e = absurd (idle n r e C (any-query-reads (txn t r) q))
     own_row c d (aborted_update n r C u) e = inr (inr (ap Abort e))
     own_row c d (aborted_settled n r C p) e = inr (inr (ap Abort e))
     own_row c d (aborted_query n r C q) e = absurd (idle n r e C (any-query-reads (txn t r) q))
-    own_row c d (settledUpdate n r C u i l a) e = absurd (busy n r e C i)
+    own_row c d (settled_update n r C u i l a) e = absurd (busy n r e C i)
+    own_row _ _ (began_update _ _ _) e = elim e [ ]
+    own_row _ _ (began_query _ _ _) e = elim e [ ]
+    own_row _ _ (began_relaxed _ _ _ _) e = elim e [ ]
 
 -- ---- told of `step`
 pub others_leave : (S : Sizes) → OthersLeave S
@@ -260,13 +263,13 @@ stays_waiting S c G s g inside awaits = subst (Shown G s c) (sym (acts S c G g))
 -- a call that is answered 2 is in a conflict, and its wait would close a circle
 pub repeated_waits : (S : Sizes) → RepeatedWaits S
 unfolding When
-repeated_waits S c G s g C awaits wants = (λ e. never (answered-when S c G Deadlock (order c) (code_of S c G) (answered S c G) e), again)
+repeated_waits S c G s g C awaits wants = (λ e. never (answered_when S c G Deadlock (order c) (code_of S c G) (answered S c G) e), again)
   where
     R : Txn
     R = txn G.txns s
 
     stands : T (awaits_on R.awaited_item R)
-    stands = →awaitsOn R.awaited_item R (→awaits R awaits) refl
+    stands = →awaits_on R.awaited_item R (→awaits R awaits) refl
 
     never : ((r : ℕ) × (k : ℕ) × (x : ℕ) × ConflictIn c S G r k x × Circle S G r k x) → ⊥
     never w =

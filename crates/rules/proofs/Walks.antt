@@ -11,8 +11,8 @@ use Rattle.rules.specs.Tables.{Txn, txn, txn_words, no_lock, exclusive_lock, Loc
 use Rattle.rules.specs.Waits.{awaits, awaits_on, conflicts, ahead, blocks, waits_for, Walk, one, more, marked, reached, circle_at, no_circle}
 use Rattle.rules.proofs.Tests.{and_left, and_right, and_both, or_cases, or_left, or_right}
 use Rattle.rules.proofs.Tests.{not_make, not_use, ne_make, ne_use, eq_make, same?}
-use Rattle.rules.proofs.Counts.{everyBelow→, →everyBelow}
-use Rattle.rules.proofs.EqualRanks.{awaits→, →awaits, awaitsOn→, waiter_inside}
+use Rattle.rules.proofs.Counts.{every_below→, →every_below}
+use Rattle.rules.proofs.EqualRanks.{awaits→, →awaits, awaits_on→, waiter_inside}
 use Rattle.rules.proofs.Circles.{reached→walk, walk→reached, walk_within}
 
 -- ---- walks, whatever the links are
@@ -171,7 +171,7 @@ module _ (S : Sizes) (t l : List ℕ) (size : length t ≡ txn_words S)
 
       go : x < S.items → T (conflicts (lock l x) k b) ⊎ T (ahead x k (txn t a).rank (txn t b)) → b < S.slots
       go i (inl c) = inside x i b (conflicts→holds (lock l x) k b c)
-      go i (inr c) = waiter_within b (awaits→ (txn t b) (awaitsOn→ x (txn t b) (ahead→ x k (txn t a).rank (txn t b) c).0).0)
+      go i (inr c) = waiter_within b (awaits→ (txn t b) (awaits_on→ x (txn t b) (ahead→ x k (txn t a).rank (txn t b) c).0).0)
 
   -- a walk begins at one who waits
   begins : {a b : ℕ} → Walk (waits_for t l) a b → (txn t a).awaited_lock ≢ no_lock
@@ -197,10 +197,10 @@ module _ (S : Sizes) (t l : List ℕ) (size : length t ≡ txn_words S)
   unfolding no_circle
   no-circle→ h a w =
       not_use (circle_at S t l a)
-      (everyBelow→ S.slots (λ a. not (circle_at S t l a)) h a (walk_within S.slots (waits_for t l) waits-within w))
+      (every_below→ S.slots (λ a. not (circle_at S t l a)) h a (walk_within S.slots (waits_for t l) waits-within w))
       (walk→circle a w)
 
   pub →no-circle : ((a : ℕ) → Walk (waits_for t l) a a → ⊥) → T (no_circle S t l)
   unfolding no_circle
   →no-circle f =
-      →everyBelow S.slots (λ a. not (circle_at S t l a)) (λ a i. not_make (circle_at S t l a) (λ u. f a (circle→walk a u)))
+      →every_below S.slots (λ a. not (circle_at S t l a)) (λ a i. not_make (circle_at S t l a) (λ u. f a (circle→walk a u)))

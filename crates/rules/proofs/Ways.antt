@@ -78,29 +78,29 @@ pub data Way (S : Sizes) (G : Tables) : Call → Deed → Type 0 where
       → Way S G BeginRelaxed (Begins (as_slot s) a_relaxed (as_stamp first_stamp))
   read_own : (n s x : ℕ) → Updater S G n s shared_lock x → T (holds_exclusive (lock G.locks x) s) → Way S G (Read n x) (ReadsOwn (as_slot s) (as_item x))
   read_newest : (n s x : ℕ) → Updater S G n s shared_lock x → T (holds_shared (lock G.locks x) s) → Way S G (Read n x) (ReadsNewest (as_slot s) (as_item x))
-  readShared :
+  read_shared :
       (n s x : ℕ) → Updater S G n s shared_lock x → (T (holds (lock G.locks x) s) → ⊥) → (lock G.locks x).exclusive ≡ 0
       → Way S G (Read n x) (TakesShared (as_slot s) (as_item x))
-  readSettled :
+  read_settled :
       (n s x : ℕ) → Caller S G n s → T (live_settled (txn G.txns s)) → x < S.items → T (holds_exclusive (lock G.locks x) s)
       → Way S G (Read n x) (ReadsOwn (as_slot s) (as_item x))
-  readVersion :
+  read_version :
       (n s x : ℕ) → Caller S G n s → T (is_reader (txn G.txns s)) → x < S.items → (T (holds_exclusive (lock G.locks x) s) → ⊥)
       → held_back S G.txns G.locks x s ≡ false → Way S G (Read n x) (ReadsVersion (as_slot s) (as_item x))
-  wroteOwn :
+  wrote_own :
       (n s x v : ℕ) → Updater S G n s exclusive_lock x → T (holds_exclusive (lock G.locks x) s)
       → Way S G (Write n x v) (Replaces (as_slot s) (as_item x) v)
-  wroteSettled :
+  wrote_settled :
       (n s x v : ℕ) → Caller S G n s → T (live_settled (txn G.txns s)) → x < S.items → T (holds_exclusive (lock G.locks x) s)
       → Way S G (Write n x v) (Replaces (as_slot s) (as_item x) v)
-  wroteTaken :
+  wrote_taken :
       (n s x v : ℕ) → Updater S G n s exclusive_lock x → T (holds_shared (lock G.locks x) s) ⊎ (T (holds (lock G.locks x) s) → ⊥)
       → ((r : ℕ) → r ≢ s → T (holds (lock G.locks x) r) → ⊥) → exclusives_of S G.locks s ≢ S.quota
       → Way S G (Write n x v) (TakesExclusive (as_slot s) (as_item x) v)
-  committedUpdate :
+  committed_update :
       (n s : ℕ) → Caller S G n s → T (live_update (txn G.txns s)) → (txn G.txns s).awaited_lock ≡ no_lock → clock G.txns ≢ last_word
       → exclusives_of S G.locks s ≢ 0 → Way S G (Commit n) (Commits (as_slot s))
-  committedEmpty :
+  committed_empty :
       (n s : ℕ) → Caller S G n s → T (live_update (txn G.txns s)) → (txn G.txns s).awaited_lock ≡ no_lock
       → exclusives_of S G.locks s ≡ 0 → Way S G (Commit n) (CommitsEmpty (as_slot s))
   committed_settled : (n s : ℕ) → Caller S G n s → T (live_settled (txn G.txns s)) → Way S G (Commit n) (CommitsSettled (as_slot s))
@@ -108,6 +108,6 @@ pub data Way (S : Sizes) (G : Tables) : Call → Deed → Type 0 where
   aborted_update : (n s : ℕ) → Caller S G n s → T (live_update (txn G.txns s)) → Way S G (Abort n) (Aborts (as_slot s))
   aborted_settled : (n s : ℕ) → Caller S G n s → T (live_settled (txn G.txns s)) → Way S G (Abort n) (AbortsSettled (as_slot s))
   aborted_query : (n s : ℕ) → Caller S G n s → T (any_query (txn G.txns s)) → Way S G (Abort n) (Ends (as_slot s))
-  settledUpdate :
+  settled_update :
       (n s : ℕ) → Caller S G n s → T (live_update (txn G.txns s)) → (txn G.txns s).awaited_lock ≡ no_lock → clock G.txns ≢ last_word
       → ((q : ℕ) → q < S.slots → T (live_relaxed (txn G.txns q)) → ⊥) → Way S G (Settle n) (Settles (as_slot s))

@@ -204,112 +204,112 @@ pub record SettledEnded (S : Sizes) (s : ℕ) (f : ℕ → List Version) (G G' :
 -- ---- every granted call: its four numbers, the tables afterwards, and which words of them are others than before
 pub data Granted (S : Sizes) (G : Tables) : Call → Outcome → Type 0 where
   -- "begin: number is the new number"
-  updateBegins :
+  update_begins :
       (s : ℕ) → Free S G.txns s → Begun s an_update 0 G (begun an_update 0 s G)
       → Granted S G BeginUpdate (says granted 0 (last_number G.txns + 1) 0 (begun an_update 0 s G))
-  queryBegins :
+  query_begins :
       (s : ℕ) → Free S G.txns s → Begun s a_query (clock G.txns) G (begun a_query (clock G.txns) s G)
       → Granted S G BeginQuery (says granted 0 (last_number G.txns + 1) 0 (begun a_query (clock G.txns) s G))
   -- request E11
-  relaxedBegins :
+  relaxed_begins :
       (s : ℕ) → Free S G.txns s → Begun s a_relaxed 0 G (begun a_relaxed 0 s G)
       → Granted S G BeginRelaxed (says granted 0 (last_number G.txns + 1) 0 (begun a_relaxed 0 s G))
   -- "own working value": no word changes
-  ownRead :
+  own_read :
       (n x s : ℕ) → Updater S G n s shared_lock x → T (holds_exclusive (lock G.locks x) s)
       → Granted S G (Read n x) (says granted (lock G.locks x).working 0 0 G)
   -- "newest value": no word changes
-  sharedRead :
+  shared_read :
       (n x s : ℕ) → Updater S G n s shared_lock x → T (holds_shared (lock G.locks x) s)
       → Granted S G (Read n x) (says granted (newest S G.versions x) 0 1 G)
   -- "take shared, newest value"
-  sharedTaken :
+  shared_taken :
       (n x s : ℕ) → Updater S G n s shared_lock x → (T (holds (lock G.locks x) s) → ⊥)
       → Locked S s x (sets_after S G s shared_lock x) (shared_too (lock G.locks x) s) G
       (locked_anew S s shared_lock x (shared_too (lock G.locks x) s) G)
       → Granted S G (Read n x)
       (says granted (newest S G.versions x) 0 1 (locked_anew S s shared_lock x (shared_too (lock G.locks x) s) G))
   -- request E6, "sees its own working values": no word changes
-  settledOwnRead :
+  settled_own_read :
       (n x s : ℕ) → Caller S G n s → T (live_settled (txn G.txns s)) → x < S.items → T (holds_exclusive (lock G.locks x) s)
       → Granted S G (Read n x) (says granted (lock G.locks x).working 0 0 G)
   -- "the newest version whose stamp is at most its start": a query's read is counted
-  queryReads :
+  query_reads :
       (n x s : ℕ) → Caller S G n s → T (live_query (txn G.txns s)) → x < S.items → held_back S G.txns G.locks x s ≡ false
       → Counted s (looked_at S G s x) G (with_txns G (counted G.txns s (looked_at S G s x)))
       → Granted S G (Read n x)
       (says granted (chosen S G s x).value 0 (looked_at S G s x) (with_txns G (counted G.txns s (looked_at S G s x))))
   -- request E11, "The query reads the newest version whose creator is not in the set"
-  relaxedReads :
+  relaxed_reads :
       (n x s : ℕ) → Caller S G n s → T (live_relaxed (txn G.txns s)) → x < S.items
       → RelaxedCounted s x (looked_at S G s x) G (with_txns G (counted (read_noted G.txns G.locks s x) s (looked_at S G s x)))
       → Granted S G (Read n x)
       (says granted (chosen S G s x).value 0 (looked_at S G s x)
       (with_txns G (counted (read_noted G.txns G.locks s x) s (looked_at S G s x))))
   -- request E6, "reads by that stamp": no word changes
-  settledReads :
+  settled_reads :
       (n x s : ℕ) → Caller S G n s → T (live_settled (txn G.txns s)) → x < S.items
       → (T (holds_exclusive (lock G.locks x) s) → ⊥) → held_back S G.txns G.locks x s ≡ false
       → Granted S G (Read n x) (says granted (chosen S G s x).value 0 (looked_at S G s x) G)
   -- "replace the working value": the transactions and the versions are the very same lists
-  valueReplaced :
+  value_replaced :
       (n x v s : ℕ) → Updater S G n s exclusive_lock x → T (holds_exclusive (lock G.locks x) s)
       → LockChanged x (replaced (lock G.locks x) v) G.locks (set_lock G.locks x (replaced (lock G.locks x) v))
       → Granted S G (Write n x v) (says granted 0 0 0 (with_locks G G.txns (set_lock G.locks x (replaced (lock G.locks x) v))))
   -- request E6, "writes only what it already holds"
-  settledReplaced :
+  settled_replaced :
       (n x v s : ℕ) → Caller S G n s → T (live_settled (txn G.txns s)) → x < S.items → T (holds_exclusive (lock G.locks x) s)
       → LockChanged x (replaced (lock G.locks x) v) G.locks (set_lock G.locks x (replaced (lock G.locks x) v))
       → Granted S G (Write n x v) (says granted 0 0 0 (with_locks G G.txns (set_lock G.locks x (replaced (lock G.locks x) v))))
   -- "exchange for exclusive"
-  sharedExchanged :
+  shared_exchanged :
       (n x v s : ℕ) → Updater S G n s exclusive_lock x → T (holds_shared (lock G.locks x) s)
       → Locked S s x (sets_after S G s exclusive_lock x) (taken (lock G.locks x) s v) G
       (locked_anew S s exclusive_lock x (taken (lock G.locks x) s v) G)
       → Granted S G (Write n x v) (says granted 0 0 0 (locked_anew S s exclusive_lock x (taken (lock G.locks x) s v) G))
   -- "take exclusive"
-  exclusiveTaken :
+  exclusive_taken :
       (n x v s : ℕ) → Updater S G n s exclusive_lock x → (T (holds (lock G.locks x) s) → ⊥)
       → Locked S s x (sets_after S G s exclusive_lock x) (taken (lock G.locks x) s v) G
       (locked_anew S s exclusive_lock x (taken (lock G.locks x) s v) G)
       → Granted S G (Write n x v) (says granted 0 0 0 (locked_anew S s exclusive_lock x (taken (lock G.locks x) s v) G))
   -- "update commit: number is the stamp"
-  updateCommits :
+  update_commits :
       (n s : ℕ) → Caller S G n s → T (live_update (txn G.txns s)) → exclusives_of S G.locks s ≢ 0 → Committed S s G (committed S s G)
       → Granted S G (Commit n) (says granted 0 (clock G.txns + 1) 0 (committed S s G))
   -- request E7: "commits without a new stamp, answers the present clock": no clock and no version row changes
-  emptyCommits :
+  empty_commits :
       (n s : ℕ) → Caller S G n s → T (live_update (txn G.txns s)) → exclusives_of S G.locks s ≡ 0 → Aborted S s G (aborted S s G)
       → Granted S G (Commit n) (says granted 0 (clock G.txns) 0 (aborted S s G))
   -- "A query only ends."; request E8: "answers the sum as value and the count as looked"
-  queryCommits :
+  query_commits :
       (n s : ℕ) → Caller S G n s → T (live_query (txn G.txns s)) → Ended S s G (ended S s G)
       → Granted S G (Commit n) (says granted (txn G.txns s).weight_sum 0 (txn G.txns s).read_count (ended S s G))
   -- request E11
-  relaxedCommits :
+  relaxed_commits :
       (n s : ℕ) → Caller S G n s → T (live_relaxed (txn G.txns s)) → RelaxedEnded S s G (ended S s G)
       → Granted S G (Commit n) (says granted (txn G.txns s).weight_sum 0 (txn G.txns s).read_count (ended S s G))
   -- request E6: "Its commit puts versions under that stamp, answers it and takes no new one"
-  settledCommits :
+  settled_commits :
       (n s : ℕ) → Caller S G n s → T (live_settled (txn G.txns s))
       → SettledEnded S s (λ x. with_new G.locks s (txn G.txns s).start 0 x (versions_of S G.versions x)) G (settled_committed S s G)
       → Granted S G (Commit n) (says granted 0 (txn G.txns s).start 0 (settled_committed S s G))
-  updateAborts :
+  update_aborts :
       (n s : ℕ) → Caller S G n s → T (live_update (txn G.txns s)) → Aborted S s G (aborted S s G)
       → Granted S G (Abort n) (says granted 0 0 0 (aborted S s G))
   -- request E6: "its abort trims rows as a query's end does"
-  settledAborts :
+  settled_aborts :
       (n s : ℕ) → Caller S G n s → T (live_settled (txn G.txns s))
       → SettledEnded S s (λ x. versions_of S G.versions x) G (settled_aborted S s G)
       → Granted S G (Abort n) (says granted 0 0 0 (settled_aborted S s G))
   -- request E6: "the stamp is answered as number"
-  updateSettles :
+  update_settles :
       (n s : ℕ) → Caller S G n s → T (live_update (txn G.txns s)) → Settled S s G (settled S s G)
       → Granted S G (Settle n) (says granted 0 (clock G.txns + 1) 0 (settled S s G))
   -- "for a query is the same as commit"
-  queryAborts :
+  query_aborts :
       (n s : ℕ) → Caller S G n s → T (live_query (txn G.txns s)) → Ended S s G (ended S s G)
       → Granted S G (Abort n) (says granted (txn G.txns s).weight_sum 0 (txn G.txns s).read_count (ended S s G))
-  relaxedAborts :
+  relaxed_aborts :
       (n s : ℕ) → Caller S G n s → T (live_relaxed (txn G.txns s)) → RelaxedEnded S s G (ended S s G)
       → Granted S G (Abort n) (says granted (txn G.txns s).weight_sum 0 (txn G.txns s).read_count (ended S s G))

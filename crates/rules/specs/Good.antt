@@ -136,11 +136,11 @@ pub record GoodSets (S : Sizes) (G : Tables) : Type 0 where
       (s q : ℕ) → s < S.slots → T (bit (txn G.txns s).later_for q) → (q < S.slots) × T (live_relaxed (txn G.txns q))
   -- "An update joins when it asks to write what the query has read .., when the query reads what it holds exclusively, or when it reads
   -- or overwrites a version whose creator is in the set.": so who holds an item exclusively is in the sets of those who have read it
-  pub holdsRead :
+  pub holds_read :
       (x s q : ℕ) → x < S.items → q < S.slots → T (holds_exclusive (lock G.locks x) s) → T (bit (txn G.txns q).items_read x)
       → T (bit (txn G.txns s).later_for q)
   -- and who holds it, either way, in those from which its newest version is hidden
-  pub holdsHidden :
+  pub holds_hidden :
       (x s q : ℕ) → x < S.items → T (holds (lock G.locks x) s) → T (bit (hidden_now S G.versions x) q)
       → T (bit (txn G.txns s).later_for q)
 

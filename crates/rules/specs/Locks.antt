@@ -10,11 +10,11 @@ use Rattle.rules.specs.Waits.{ahead, rank_for}
 
 -- what an update asks for, and the lock that it wants for it
 pub data Asked : Type 0 where
-  to_read toWrite : Asked
+  to_read to_write : Asked
 
 abbrev pub wanted : Asked → ℕ
 wanted to_read = shared_lock
-wanted toWrite = exclusive_lock
+wanted to_write = exclusive_lock
 
 -- what the caller holds of the item
 pub data Held : Type 0 where
@@ -27,11 +27,11 @@ held_by h s = cond (holds_exclusive h s) exclusively (cond (holds_shared h s) sh
 -- wanted lock conflicts. Request E4: "A call that needs no further lock is granted as before."
 unfoldable pub decide : Asked → Held → Bool → Bool → Bool → Cell
 decide to_read exclusively shared exclusive earlier = OwnValue
-decide toWrite exclusively shared exclusive earlier = ReplaceValue
+decide to_write exclusively shared exclusive earlier = ReplaceValue
 decide to_read sharing shared exclusive earlier = NewestValue
-decide toWrite sharing shared exclusive earlier = cond (shared || earlier) Conflict ExchangeLock
+decide to_write sharing shared exclusive earlier = cond (shared || earlier) Conflict ExchangeLock
 decide to_read nothing shared exclusive earlier = cond (exclusive || earlier) Conflict TakeShared
-decide toWrite nothing shared exclusive earlier = cond (shared || (exclusive || earlier)) Conflict TakeExclusive
+decide to_write nothing shared exclusive earlier = cond (shared || (exclusive || earlier)) Conflict TakeExclusive
 
 -- "another holds shared", "another holds exclusive"
 unfoldable pub another_shares : Sizes → Lock → ℕ → Bool

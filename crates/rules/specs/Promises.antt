@@ -9,7 +9,7 @@ use Rattle.rules.specs.Tables.{Reader, up_to, outside, reader_in, readers, no_lo
 use Rattle.rules.specs.Versions.{Version, no_version, versions_of, hidden_at, hidden_now, sees, place, choice, revealed}
 use Rattle.rules.specs.Waits.{awaits_on, waiters_on, rank_for, raised, blocks, waits_for, Walk}
 use Rattle.rules.specs.Good.{Good}
-use Rattle.rules.specs.Locks.{Asked, to_read, toWrite, wanted}
+use Rattle.rules.specs.Locks.{Asked, to_read, to_write, wanted}
 use Rattle.rules.specs.Answers.{Call, Read, Write, Commit, Abort, Outcome, says, granted, code, Wait, Deadlock, StillWaiting}
 use Rattle.rules.specs.Step.{step, holds_back, held_back, writes_further, with_txns, asking_joins, joining, read_noted, counted, with_new, committed, settled_committed, ended, settled_aborted}
 use Rattle.rules.specs.Conditions.{Caller, CallerIn, Updater, Names, Wants, NeedsLock, Circle, order, Answered}
@@ -79,13 +79,13 @@ StaysGood S = (c : Call) (G : Tables) → Good S G → Good S (after S c G)
 -- the call by which the transaction n asks to read the item x, or to write v there
 abbrev pub asking : Asked → ℕ → ℕ → ℕ → Call
 asking to_read n x v = Read n x
-asking toWrite n x v = Write n x v
+asking to_write n x v = Write n x v
 
 -- "an update's read or write that passes the earlier tests": n in slot s is an update, the item is known, nothing else is awaited, and
 -- the quota of request E2 leaves room for a write
 pub record Passes (S : Sizes) (G : Tables) (a : Asked) (n s x : ℕ) : Type 0 where
   pub asks : Updater S G n s (wanted a) x
-  pub room : a ≡ toWrite → writes_further S G.locks s x ≡ false
+  pub room : a ≡ to_write → writes_further S G.locks s x ≡ false
 
 -- a further lock is needed, and another holder's lock or an earlier waiter's wanted one conflicts
 abbrev pub Conflicting : Sizes → Tables → Asked → ℕ → ℕ → Type 0
@@ -112,7 +112,7 @@ WaitExactly S = AnsweredWhere S (code Wait) (λ G a s x. Conflicting S G a s x �
 -- "A taken exclusive lock clears the caller's shared bit and sets the working value.": what a granted call leaves the slot s (Held)
 abbrev pub HoldsFor : Asked → ℕ → Lock → ℕ → Type 0
 HoldsFor to_read v h s = T (holds h s)
-HoldsFor toWrite v h s = T (holds_exclusive h s) × (T (holds_shared h s) → ⊥) × (h.working ≡ v)
+HoldsFor to_write v h s = T (holds_exclusive h s) × (T (holds_shared h s) → ⊥) × (h.working ≡ v)
 
 abbrev pub GrantedHolds : Sizes → Type 0
 GrantedHolds S =
@@ -260,7 +260,7 @@ pub record TrimmedTo (S : Sizes) (vs : List Version) (G : Tables) (x : ℕ) : Ty
   pub read :
       (r : ℕ) → r < S.slots → T (is_reader (txn G.txns r))
       → choice (reader_in G.txns r) (versions_of S G.versions x) ≡ choice (reader_in G.txns r) vs
-  pub noOther :
+  pub no_other :
       (k : ℕ) → 0 < k → k < length (versions_of S G.versions x)
       → (r : ℕ) × (r < S.slots) × T (is_reader (txn G.txns r)) × (place (reader_in G.txns r) (versions_of S G.versions x) ≡ k)
   pub places : length (versions_of S G.versions x) ≤ S.slots

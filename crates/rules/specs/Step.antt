@@ -14,7 +14,7 @@ use Rattle.rules.specs.Tables.{slot_of, free_slot, reader_in, readers, Lock, loc
 use Rattle.rules.specs.Versions.{Version, versions_of, newest, hidden_now, place, choice, rewritten, revealed}
 use Rattle.rules.specs.Waits.{noted, closed_up, circle_at}
 use Rattle.rules.specs.Tested.{good}
-use Rattle.rules.specs.Locks.{Asked, to_read, toWrite, wanted, Cell, OwnValue, ReplaceValue, NewestValue}
+use Rattle.rules.specs.Locks.{Asked, to_read, to_write, wanted, Cell, OwnValue, ReplaceValue, NewestValue}
 use Rattle.rules.specs.Locks.{ExchangeLock, TakeShared, TakeExclusive, Conflict, decision}
 use Rattle.rules.specs.Answers.{Call, BeginUpdate, BeginQuery, Read, Write, Commit, Abort, Settle, BeginRelaxed, Outcome, says, granted, refuses}
 use Rattle.rules.specs.Answers.{Wait, Deadlock, UnknownTransaction, UnknownItem, QueryMayNotWrite, StillWaiting}
@@ -112,7 +112,7 @@ write_by S n x v G =
     (cond (awaits_other G.txns s exclusive_lock x) (Refused StillWaiting)
     (cond (writes_past G.txns G.locks s x) (Refused PastWriting)
     (cond (writes_further S G.locks s x) (Refused QuotaSpent)
-    (access S toWrite s x v G))))))
+    (access S to_write s x v G))))))
 
 -- ---- Commit and abort
 -- request E7: an update in slot s "that holds no exclusive lock, and has not ended its writing .. cannot get code 9"

@@ -25,8 +25,8 @@ pub record Going (piece : List ℕ) (s₀ : State) (out₀ : List ℕ) (s : Stat
   pub after : after_piece (drop at piece) s ≡ after_piece piece s₀
   pub put : Putting (replies_in piece s₀) (replies_in (drop at piece) s) out₀ out used
 
-pub going-first : (piece : List ℕ) (s : State) (out : List ℕ) → Going piece s out s out 0 0
-going-first piece s out =
+pub going_first : (piece : List ℕ) (s : State) (out : List ℕ) → Going piece s out s out 0 0
+going_first piece s out =
     record { within = omega arith; small = omega arith; size = refl; after = refl; put = putting_first (replies_in piece s) out }
 
 module _ {piece : List ℕ} {s₀ : State} {out₀ : List ℕ} {h : Held} {G : Tables} {out : List ℕ} {used at : ℕ}
@@ -70,8 +70,8 @@ module _ {piece : List ℕ} {s₀ : State} {out₀ : List ℕ} {h : Held} {G : T
     unfolding replies_in
     none_replies = ap (λ (ps : List Parsed). replies_to ps G) (none_reads r g e)
 
-    pub going-past : Going piece s₀ out₀ (state (held_by r.lines) G) out used (length piece)
-    going-past =
+    pub going_past : Going piece s₀ out₀ (state (held_by r.lines) G) out used (length piece)
+    going_past =
         record {
           within = omega arith;
           small = omega (arith, i.small, i.within);

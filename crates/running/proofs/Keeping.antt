@@ -17,8 +17,8 @@ use Rattle.running.proofs.Replied.{reply_most}
 
 -- a line that is begun is answered
 module _ (h : Held) (G : Tables) (t : begun h ≡ true) {out m : List ℕ} {p : Parsed} {used : ℕ} (q : p ≡ read_as h) (w : Wrote out 0 (reply_to p G) m used) where
-  pub last-used : longest_reply ≤ length out → used ≤ length out
-  last-used r = omega (arith, w.index, reply_most p G, r)
+  pub last_used : longest_reply ≤ length out → used ≤ length out
+  last_used r = omega (arith, w.index, reply_most p G, r)
 
   pub last_replied : take used m ≡ replies_at_end (state h G)
   unfolding replies_at_end last replies_to

@@ -13,7 +13,7 @@ use Rattle.rules.specs.Words.{bit, implies, every_below, some_below, slots_that,
 use Rattle.rules.specs.Tables.{txn, Lock, lock, holds_shared, holds_exclusive, live_settled, live_relaxed, some_settled, some_relaxed, relaxed_in, have_read}
 use Rattle.rules.specs.Tested.{sets_good, holders_joined}
 use Rattle.rules.proofs.Tests.{iff_eq, is_true, true_is, false_is, and_left, and_right, and_both, implies_make, not_make, ne_use}
-use Rattle.rules.proofs.Counts.{someBelow→, →someBelow, →everyBelow}
+use Rattle.rules.proofs.Counts.{some_below→, →some_below, →every_below}
 use Rattle.rules.proofs.Bits.{slots_lt, slots→, →slots}
 use Rattle.words.proofs.SlotWords.{no_bit, has_bit}
 use Rattle.words.proofs.Turns.{or_zero}
@@ -42,22 +42,22 @@ some_slots : (n : ℕ) (p : ℕ → Bool) → some_below n p ≡ not (eqb (slots
 some_slots n p =
     iff_eq (some_below n p) (not (eqb (slots_that n p) 0))
     (λ h.
-    let w = someBelow→ n p h in
+    let w = some_below→ n p h in
     not_make (eqb (slots_that n p) 0) (λ z. no_bit w.0 (subst (λ (m : ℕ). T (bit m w.0)) (eqb→eq (slots_that n p) 0 z) (→slots n p w.0 w.1 w.2))))
     (λ h.
     let w = has_bit n (slots_that n p) (slots_lt n p) (ne_use (slots_that n p) 0 h) in
-    →someBelow n p w.0 w.1 (slots→ n p w.0 w.2).1)
+    →some_below n p w.0 w.1 (slots→ n p w.0 w.2).1)
 
 -- ---- the words of the pass over the rows say whether the sets are good
 abbrev tested : Bool → Bool → Bool → Bool → Bool
 tested p r c j = (not (not p && not r) && c) && cond r true j
 
 module _ (t l v : List ℕ) where
-  sets-words :
+  sets_words :
       sets_good base t
       ≡ (not (not (eqb (settled_in base t) 0) && not (eqb (relaxed_in base t) 0)) && eqb (bit_or (relaxed_in base t) (later_in base t)) (relaxed_in base t))
   unfolding sets_good some_settled some_relaxed settled_in relaxed_in later_in contains
-  sets-words =
+  sets_words =
       ap₂ (λ (a b : Bool). not a && b)
       (ap₂ ◌&&◌ (some_slots base.slots (λ s. live_settled (txn t s))) (some_slots base.slots (λ s. live_relaxed (txn t s))))
       (sym (within_or (slots_that base.slots (λ s. live_relaxed (txn t s))) base.slots (λ s. (txn t s).later_for)))
@@ -65,7 +65,7 @@ module _ (t l v : List ℕ) where
   module _ {p r o : ℕ} (ep : p ≡ settled_in base t) (er : r ≡ relaxed_in base t) (eo : o ≡ later_in base t) where
     whole : tested (eqb p 0) (eqb r 0) (eqb (bit_or r o) r) (all_joined base t l v) ≡ sets_test base t l v
     unfolding sets_test
-    whole = rw (ep, er, eo) (ap (λ (b : Bool). b && cond (eqb (relaxed_in base t) 0) true (all_joined base t l v)) (sym sets-words))
+    whole = rw (ep, er, eo) (ap (λ (b : Bool). b && cond (eqb (relaxed_in base t) 0) true (all_joined base t l v)) (sym sets_words))
 
     -- a set of nobody's
     pub sets_out : bit_or r o ≢ r → false ≡ sets_test base t l v
@@ -107,7 +107,7 @@ module _ (t l v : List ℕ) (x : ℕ) where
       let b = eqb→eq (lock l x).exclusive 0 (and_right (eqb (lock l x).shared 0) (eqb (lock l x).exclusive 0) z) in
       sym
       (is_true (joined_at base t l v x)
-      (→everyBelow base.slots _
+      (→every_below base.slots _
       (λ s i.
       and_both (implies (eqb (lock l x).exclusive (suc s)) (contains (txn t s).later_for (bit_or (have_read base t x) (hidden_word base v x)))) _
       (implies_make (eqb (lock l x).exclusive (suc s)) _ (λ k. absurd (false_is (ap (λ (n : ℕ). eqb n (suc s)) b ∙ eqb-zero-suc s) k)))

@@ -17,8 +17,8 @@ use Rattle.rules.specs.Tables.{version_row, masks_at, Reader, last_number, clock
 use Rattle.rules.specs.Versions.{no_version, versions_from, versions_in, versions_of, hidden_at, hidden_now}
 use Rattle.rules.specs.Tested.{tops_most, free_zero, listed, start_good, awaited_good, reads_good, notes_good, falls, nests, versions_good, holders_joined, sets_good}
 use Rattle.rules.proofs.Tests.{iff_eq, is_true, and_left, and_right, and_both, implies_make, implies_use, not_make}
-use Rattle.rules.proofs.Counts.{everyBelow→, →everyBelow}
-use Rattle.rules.proofs.Rows.{everyRow→, →everyRow, row_word}
+use Rattle.rules.proofs.Counts.{every_below→, →every_below}
+use Rattle.rules.proofs.Rows.{every_row→, →every_row, row_word}
 use Rattle.rules.proofs.Bits.{or_in, contains→, →contains, slots→, →slots}
 use Rattle.words.proofs.SlotWords.{no_bit}
 use Rattle.shapes.specs.Shape.{row_good, rows_good}
@@ -83,7 +83,7 @@ module _ (t l v : List ℕ) (rows : T (rows_good base t)) (now : ℕ) (qs : List
     no_items : (s : ℕ) → s < base.slots → (txn t s).items_read ≡ 0
     unfolding rows_good notes_good
     no_items s i =
-        let h = row_notes t (txn t s) (everyBelow→ base.slots (λ s. row_good base t (txn t s)) (and_right (tops_most t) _ rows) s i) in
+        let h = row_notes t (txn t s) (every_below→ base.slots (λ s. row_good base t (txn t s)) (and_right (tops_most t) _ rows) s i) in
         let k = and_right (ltb (txn t s).items_read (2 ^ base.items)) _ h in
         eqb→eq (txn t s).items_read 0
         (implies_use (not (live_relaxed (txn t s))) _ (and_left (implies (not (live_relaxed (txn t s))) (eqb (txn t s).items_read 0)) _ k) (not_make (live_relaxed (txn t s)) (no_relaxed s i)))
@@ -104,7 +104,7 @@ module _ (t l v : List ℕ) (rows : T (rows_good base t)) (now : ℕ) (qs : List
     joined_none : (x : ℕ) → x < base.items → T (asked x)
     unfolding holders_joined
     joined_none x i =
-        →everyBelow base.slots _
+        →every_below base.slots _
         (λ s j.
         and_both (implies (holds_exclusive (lock l x) s) (contains (txn t s).later_for (bit_or (have_read base t x) (hidden_now base v x)))) _
         (implies_make (holds_exclusive (lock l x) s) _
@@ -118,11 +118,11 @@ module _ (t l v : List ℕ) (rows : T (rows_good base t)) (now : ℕ) (qs : List
   sets_same = ap (λ (b : Bool). sets_good base t && b) (go (eqb (relaxed_in base t) 0) refl)
     where
       go : (b : Bool) → eqb (relaxed_in base t) 0 ≡ b → cond b true (every_below base.items (joined_at base t l v)) ≡ every_below base.items asked
-      go true e = sym (is_true (every_below base.items asked) (→everyBelow base.items asked (joined_none (eqb-true (relaxed_in base t) 0 e))))
+      go true e = sym (is_true (every_below base.items asked) (→every_below base.items asked (joined_none (eqb-true (relaxed_in base t) 0 e))))
       go false e =
           iff_eq (every_below base.items (joined_at base t l v)) (every_below base.items asked)
-          (λ h. →everyBelow base.items asked (λ x i. subst T (joined_is x i) (everyBelow→ base.items (joined_at base t l v) h x i)))
-          (λ h. →everyBelow base.items (joined_at base t l v) (λ x i. subst T (sym (joined_is x i)) (everyBelow→ base.items asked h x i)))
+          (λ h. →every_below base.items asked (λ x i. subst T (joined_is x i) (every_below→ base.items (joined_at base t l v) h x i)))
+          (λ h. →every_below base.items (joined_at base t l v) (λ x i. subst T (sym (joined_is x i)) (every_below→ base.items asked h x i)))
 
 -- ---- the rules' one test of all rows of versions is a test of the versions, and one of those who hold the items
 pub rows_apart :
@@ -134,14 +134,14 @@ rows_apart t l v now qs m =
     iff_eq (every_row base.items (version_row base) both 0 v) (every_row base.items (version_row base) good 0 v && every_below base.items joined)
     (λ h.
     and_both (every_row base.items (version_row base) good 0 v) _
-    (→everyRow base.items (version_row base) good 0 v (λ x i. and_left (good x (row (version_row base) x v)) _ (at h x i)))
-    (→everyBelow base.items joined (λ x i. and_right (good x (row (version_row base) x v)) _ (at h x i))))
+    (→every_row base.items (version_row base) good 0 v (λ x i. and_left (good x (row (version_row base) x v)) _ (at h x i)))
+    (→every_below base.items joined (λ x i. and_right (good x (row (version_row base) x v)) _ (at h x i))))
     (λ h.
-    →everyRow base.items (version_row base) both 0 v (λ x i.
+    →every_row base.items (version_row base) both 0 v (λ x i.
     subst (λ (n : ℕ). T (both n (row (version_row base) x v))) (sym (zero-add x))
     (and_both (good x (row (version_row base) x v)) _
-    (everyRow→ base.items (version_row base) good 0 v (and_left (every_row base.items (version_row base) good 0 v) _ h) x i)
-    (everyBelow→ base.items joined (and_right (every_row base.items (version_row base) good 0 v) _ h) x i))))
+    (every_row→ base.items (version_row base) good 0 v (and_left (every_row base.items (version_row base) good 0 v) _ h) x i)
+    (every_below→ base.items joined (and_right (every_row base.items (version_row base) good 0 v) _ h) x i))))
   where
     good : ℕ → List ℕ → Bool
     good x r = versions_good base now qs m r
@@ -153,4 +153,4 @@ rows_apart t l v now qs m =
     joined x = holders_joined base t x (lock l x) (hidden_at (versions_in base (row (version_row base) x v)) 0)
 
     at : T (every_row base.items (version_row base) both 0 v) → (x : ℕ) → x < base.items → T (both x (row (version_row base) x v))
-    at h x i = subst (λ (n : ℕ). T (both n (row (version_row base) x v))) (zero-add x) (everyRow→ base.items (version_row base) both 0 v h x i)
+    at h x i = subst (λ (n : ℕ). T (both n (row (version_row base) x v))) (zero-add x) (every_row→ base.items (version_row base) both 0 v h x i)

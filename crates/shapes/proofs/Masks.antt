@@ -8,7 +8,7 @@ use lib.Bits.{bit_or}
 use lib.Dec.{T}
 use Rattle.rules.specs.Words.{bit, every_below, contains}
 use Rattle.rules.proofs.Tests.{iff_eq}
-use Rattle.rules.proofs.Counts.{everyBelow→, →everyBelow, split-le}
+use Rattle.rules.proofs.Counts.{every_below→, →every_below, split-le}
 use Rattle.rules.proofs.Bits.{or_in, or_in_left, or_in_right, contains→, →contains}
 pub use Rattle.rules.proofs.Bits.{slots_lt, slots_at}
 use Rattle.words.proofs.SlotWords.{no_bit}
@@ -43,5 +43,5 @@ or_of (suc n) f i k =
 pub within_or : (m n : ℕ) (f : ℕ → ℕ) → contains m (or_below n f) ≡ every_below n (λ s. contains m (f s))
 within_or m n f =
     iff_eq (contains m (or_below n f)) (every_below n (λ s. contains m (f s)))
-    (λ h. →everyBelow n (λ s. contains m (f s)) (λ s l. →contains m (f s) (λ i k. contains→ m (or_below n f) h i (or_below_lem n f s i l k))))
-    (λ h. →contains m (or_below n f) (λ i k. let r = or_of n f i k in contains→ m (f r.0) (everyBelow→ n (λ s. contains m (f s)) h r.0 r.1) i r.2))
+    (λ h. →every_below n (λ s. contains m (f s)) (λ s l. →contains m (f s) (λ i k. contains→ m (or_below n f) h i (or_below_lem n f s i l k))))
+    (λ h. →contains m (or_below n f) (λ i k. let r = or_of n f i k in contains→ m (f r.0) (every_below→ n (λ s. contains m (f s)) h r.0 r.1) i r.2))

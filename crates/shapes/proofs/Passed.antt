@@ -111,10 +111,10 @@ module _ (t : List ℕ) {ok : Bool} {u w p q o i : ℕ} (h : Passed t ok u w p q
           (settled_no (other_unsettled at (λ z. omega arith)) a₃) (yes live_relaxed h.of_relaxed (relaxed-live at n k) a₄)
 
       -- of a live update, which does not wait, or does
-      pub passed-still :
+      pub passed_still :
           {v x y z : ℕ} → at.kind ≡ 0 → at.awaited_lock ≡ 0 → v ≡ bit_or u (one_shifted i) → x ≡ w → y ≡ p → z ≡ q → Passed t r v x y z b (i + 1)
       unfolding waits
-      passed-still k j a₁ a₂ a₃ a₄ =
+      passed_still k j a₁ a₂ a₃ a₄ =
           seen (yes live_update h.of_updates (update-live at n k) a₁)
           (no waits h.of_waiting (rw (update-live at n k, eq-eqb at.awaited_lock 0 j)) a₂)
           (settled_no (other_unsettled at (λ z. omega arith)) a₃) (relaxed_no (other_strict at (λ z. omega arith)) a₄)

@@ -12,7 +12,7 @@ use Rattle.rules.specs.Words.{implies}
 use Rattle.rules.specs.Tables.{last_number, clock, Txn, txn, live, live_update, live_settled, live_relaxed, may_hold, by_start, is_reader, a_relaxed, no_lock, exclusive_lock}
 use Rattle.rules.specs.Tested.{all_zero, free_zero, listed, start_good, awaited_good, reads_good, notes_good}
 use Rattle.rules.proofs.Tests.{iff_eq, is_true, is_false, true_is, and_left, and_right, and_both, implies_make, same?}
-use Rattle.rules.proofs.Counts.{→everyBelow}
+use Rattle.rules.proofs.Counts.{→every_below}
 use Rattle.rules.proofs.EqualRows.{live-number}
 use Rattle.shapes.specs.Shape.{row_good, every_item, free_ok, update_ok, query_ok, relaxed_ok, settled_ok, apart_from, distinct_at}
 
@@ -309,7 +309,7 @@ module _ (t : List ℕ) (s : ℕ) where
   pub free-apart : (txn t s).number ≡ 0 → true ≡ distinct_at t s
   unfolding distinct_at
   free-apart e =
-      sym (is_true (distinct_at t s) (→everyBelow s (λ r. implies (live (txn t s)) (not (eqb (txn t r).number (txn t s).number)))
+      sym (is_true (distinct_at t s) (→every_below s (λ r. implies (live (txn t s)) (not (eqb (txn t r).number (txn t s).number)))
       (λ r b. implies_make (live (txn t s)) _ (λ a. absurd (live-number (txn t s) a e)))))
 
   pub live-apart : (txn t s).number ≢ 0 → apart_from t s (txn t s).number ≡ distinct_at t s

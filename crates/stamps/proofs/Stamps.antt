@@ -13,7 +13,7 @@ use Rattle.rules.specs.Tables.{Tables, txn, live_settled, lock, holds_exclusive,
 use Rattle.rules.specs.Versions.{versions_of, stamp_at}
 use Rattle.rules.specs.Tested.{stamps_apart, stamp_above, settled_good}
 use Rattle.rules.proofs.Tests.{and_left, and_right, and_both, implies_use, implies_make, is_true, false_is, eq_make}
-use Rattle.rules.proofs.Counts.{everyBelow→, →everyBelow}
+use Rattle.rules.proofs.Counts.{every_below→, →every_below}
 use Rattle.rules.proofs.Bits.{bit_none}
 use Rattle.rules.proofs.Rows.{row_word}
 use Rattle.words.proofs.Turns.{iff_eq}
@@ -38,7 +38,7 @@ module _ (t : List ℕ) (s : ℕ) where
   pub writing_apart : live_settled (txn t s) ≡ false → true ≡ apart_at t s
   unfolding apart_at stamps_apart
   writing_apart e =
-      sym (is_true (apart_at t s) (→everyBelow s (λ r. stamps_apart t r s) (λ r i.
+      sym (is_true (apart_at t s) (→every_below s (λ r. stamps_apart t r s) (λ r i.
       implies_make (live_settled (txn t r) && live_settled (txn t s)) _ (λ k. absurd (false_is e (and_right (live_settled (txn t r)) _ k))))))
 
   -- who is
@@ -58,22 +58,22 @@ module _ (G : Tables) (x : ℕ) where
   pub above_none : ((s : ℕ) → s < base.slots → T (live_settled (txn G.txns s)) → (lock G.locks x).exclusive ≡ suc s → ⊥) → true ≡ above_at G x
   unfolding above_at stamp_above holds_exclusive
   above_none d =
-      sym (is_true (above_at G x) (→everyBelow base.slots (λ s. implies (live_settled (txn G.txns s)) (stamp_above base G s x)) (λ s i.
+      sym (is_true (above_at G x) (→every_below base.slots (λ s. implies (live_settled (txn G.txns s)) (stamp_above base G s x)) (λ s i.
       implies_make (live_settled (txn G.txns s)) _ (λ k. implies_make (holds_exclusive (lock G.locks x) s) _ (λ h. absurd (d s i k (eqb→eq (lock G.locks x).exclusive (suc s) h)))))))
 
   -- slot s does
-  pub above-one :
+  pub above_one :
       (s : ℕ) → s < base.slots → T (live_settled (txn G.txns s)) → (lock G.locks x).exclusive ≡ suc s
       → ltb (stamp_at (versions_of base G.versions x) 0) (txn G.txns s).start ≡ above_at G x
   unfolding above_at stamp_above holds_exclusive
-  above-one s i k e =
+  above_one s i k e =
       iff_eq (ltb (stamp_at (versions_of base G.versions x) 0) (txn G.txns s).start) (above_at G x)
-      (λ h. →everyBelow base.slots (λ s. implies (live_settled (txn G.txns s)) (stamp_above base G s x)) (λ r j.
+      (λ h. →every_below base.slots (λ s. implies (live_settled (txn G.txns s)) (stamp_above base G s x)) (λ r j.
       implies_make (live_settled (txn G.txns r)) _ (λ m. implies_make (holds_exclusive (lock G.locks x) r) _ (λ n.
       subst (λ (m : ℕ). T (ltb (stamp_at (versions_of base G.versions x) 0) (txn G.txns m).start)) (let q = eqb→eq (lock G.locks x).exclusive (suc r) n in let z : s ≡ r = omega arith in z) h))))
       (λ h.
       implies_use (holds_exclusive (lock G.locks x) s) _
-      (implies_use (live_settled (txn G.txns s)) _ (everyBelow→ base.slots (λ s. implies (live_settled (txn G.txns s)) (stamp_above base G s x)) h s i) k)
+      (implies_use (live_settled (txn G.txns s)) _ (every_below→ base.slots (λ s. implies (live_settled (txn G.txns s)) (stamp_above base G s x)) h s i) k)
       (eq_make (lock G.locks x).exclusive (suc s) e))
 
 -- ---- all slots and all items
@@ -94,24 +94,24 @@ module _ (G : Tables) where
       (λ h.
       let a = and_left (every_below base.slots (apart_at t)) _ h in
       let b = and_right (every_below base.slots (apart_at t)) _ h in
-      →everyBelow base.slots slot_test (λ s i.
-      and_both (every_below s (λ r. stamps_apart t r s)) _ (everyBelow→ base.slots (apart_at t) a s i)
-      (implies_make (live_settled (txn t s)) _ (λ k. →everyBelow base.items (stamp_above base G s) (λ x j.
-      implies_use (live_settled (txn t s)) _ (everyBelow→ base.slots (item_test x) (everyBelow→ base.items (above_at G) b x j) s i) k)))))
+      →every_below base.slots slot_test (λ s i.
+      and_both (every_below s (λ r. stamps_apart t r s)) _ (every_below→ base.slots (apart_at t) a s i)
+      (implies_make (live_settled (txn t s)) _ (λ k. →every_below base.items (stamp_above base G s) (λ x j.
+      implies_use (live_settled (txn t s)) _ (every_below→ base.slots (item_test x) (every_below→ base.items (above_at G) b x j) s i) k)))))
       (λ h.
-      let at : (s : ℕ) → s < base.slots → T (slot_test s) = λ s i. everyBelow→ base.slots slot_test h s i in
+      let at : (s : ℕ) → s < base.slots → T (slot_test s) = λ s i. every_below→ base.slots slot_test h s i in
       and_both (every_below base.slots (apart_at t)) _
-      (→everyBelow base.slots (apart_at t) (λ s i. and_left (every_below s (λ r. stamps_apart t r s)) _ (at s i)))
-      (→everyBelow base.items (above_at G) (λ x j. →everyBelow base.slots (item_test x) (λ s i.
+      (→every_below base.slots (apart_at t) (λ s i. and_left (every_below s (λ r. stamps_apart t r s)) _ (at s i)))
+      (→every_below base.items (above_at G) (λ x j. →every_below base.slots (item_test x) (λ s i.
       implies_make (live_settled (txn t s)) _ (λ k.
-      everyBelow→ base.items (stamp_above base G s) (implies_use (live_settled (txn t s)) _ (and_right (every_below s (λ r. stamps_apart t r s)) _ (at s i)) k) x j)))))
+      every_below→ base.items (stamp_above base G s) (implies_use (live_settled (txn t s)) _ (and_right (every_below s (λ r. stamps_apart t r s)) _ (at s i)) k) x j)))))
 
   -- nobody is past its writing
   pub none_stamped : settled_in base t ≡ 0 → T (settled_good base G)
   unfolding settled_good stamps_apart
   none_stamped e =
-      →everyBelow base.slots slot_test (λ s i.
+      →every_below base.slots slot_test (λ s i.
       let off : live_settled (txn t s) ≡ false = sym (settled_at t s i) ∙ ap (λ (u : ℕ). bit u s) e ∙ bit_none s in
       and_both (every_below s (λ r. stamps_apart t r s)) _
-      (→everyBelow s (λ r. stamps_apart t r s) (λ r j. implies_make (live_settled (txn t r) && live_settled (txn t s)) _ (λ k. absurd (false_is off (and_right (live_settled (txn t r)) _ k)))))
+      (→every_below s (λ r. stamps_apart t r s) (λ r j. implies_make (live_settled (txn t r) && live_settled (txn t s)) _ (λ k. absurd (false_is off (and_right (live_settled (txn t r)) _ k)))))
       (implies_make (live_settled (txn t s)) _ (λ k. absurd (false_is off k))))

@@ -8,9 +8,9 @@ use Rattle.plays.specs.Plays.{Line, ◌⇒◌, Trial, any_end}
 use Rattle.starred_row.specs.FullRow.{trial_i, full_row}
 use Rattle.starred_quotas.specs.Quotas.{trial_q, trial_r}
 use Rattle.starred_waiters.specs.Waiters.{nobody_stands, second_stands, trial_s, trial_t, exchanger_ahead, trial_u, closed_up_line, trial_v}
-use Rattle.starred_settled.specs.Settled.{end_xY, end_aA, trial_x, trial_y, trial_aA}
-use Rattle.starred_weighed.specs.Weighed.{trial_aB, below_limit, trial_aC, trial_aD, at_limit, trial_aE, beyond_limit, trial_aF}
-use Rattle.starred_relaxed.specs.Relaxed.{trial_aG, trial_aH, trial_aI, trial_aJ, trial_aK}
+use Rattle.starred_settled.specs.Settled.{end_x_y, end_a_a, trial_x, trial_y, trial_a_a}
+use Rattle.starred_weighed.specs.Weighed.{trial_a_b, below_limit, trial_a_c, trial_a_d, at_limit, trial_a_e, beyond_limit, trial_a_f}
+use Rattle.starred_relaxed.specs.Relaxed.{trial_a_g, trial_a_h, trial_a_i, trial_a_j, trial_a_k}
 
 -- "A. The run above.", and of request E8 "trial A's `commit 2` now prints `0 3 0 2`"
 unfoldable pub trial_a : List Line
@@ -140,17 +140,17 @@ trials S =
     ∷ (record { from = fresh S; script = trial_t; end = exchanger_ahead })
     ∷ (record { from = fresh S; script = trial_u; end = closed_up_line })
     ∷ (record { from = fresh S; script = trial_v; end = second_stands })
-    ∷ (record { from = fresh S; script = trial_x; end = end_xY S })
-    ∷ (record { from = fresh S; script = trial_y; end = end_xY S })
-    ∷ (record { from = fresh S; script = trial_aA; end = end_aA S })
-    ∷ (record { from = fresh S; script = trial_aB; end = any_end })
-    ∷ (record { from = below_limit S; script = trial_aC; end = any_end })
-    ∷ (record { from = below_limit S; script = trial_aD; end = any_end })
-    ∷ (record { from = at_limit S; script = trial_aE; end = any_end })
-    ∷ (record { from = beyond_limit S; script = trial_aF; end = any_end })
-    ∷ (record { from = fresh S; script = trial_aG; end = any_end })
-    ∷ (record { from = fresh S; script = trial_aH; end = any_end })
-    ∷ (record { from = fresh S; script = trial_aI; end = any_end })
-    ∷ (record { from = fresh S; script = trial_aJ; end = any_end })
-    ∷ (record { from = fresh S; script = trial_aK; end = any_end })
+    ∷ (record { from = fresh S; script = trial_x; end = end_x_y S })
+    ∷ (record { from = fresh S; script = trial_y; end = end_x_y S })
+    ∷ (record { from = fresh S; script = trial_a_a; end = end_a_a S })
+    ∷ (record { from = fresh S; script = trial_a_b; end = any_end })
+    ∷ (record { from = below_limit S; script = trial_a_c; end = any_end })
+    ∷ (record { from = below_limit S; script = trial_a_d; end = any_end })
+    ∷ (record { from = at_limit S; script = trial_a_e; end = any_end })
+    ∷ (record { from = beyond_limit S; script = trial_a_f; end = any_end })
+    ∷ (record { from = fresh S; script = trial_a_g; end = any_end })
+    ∷ (record { from = fresh S; script = trial_a_h; end = any_end })
+    ∷ (record { from = fresh S; script = trial_a_i; end = any_end })
+    ∷ (record { from = fresh S; script = trial_a_j; end = any_end })
+    ∷ (record { from = fresh S; script = trial_a_k; end = any_end })
     ∷ []

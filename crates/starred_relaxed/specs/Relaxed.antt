@@ -5,8 +5,8 @@ use Rattle.plays.specs.Plays.{Line, ◌⇒◌}
 
 -- AG. The run of examples/dashboard.txt, cut short: a strict query and a relaxed one; what the first update commits, the relaxed one sees; the
 -- second writes what it has read, and all that this one commits is hidden from it.
-unfoldable pub trial_aG : List Line
-trial_aG =
+unfoldable pub trial_a_g : List Line
+trial_a_g =
     (BeginUpdate ⇒ (0, 0, 1, 0))
     ∷ (Write 1 5 1001 ⇒ (0, 0, 0, 0))
     ∷ (Write 1 6 2001 ⇒ (0, 0, 0, 0))
@@ -27,8 +27,8 @@ trial_aG =
     ∷ []
 
 -- AH. An update asks to write what R1 has read, and is granted: it joins. Another waits for the same, and joins. Both items of the first stay hidden.
-unfoldable pub trial_aH : List Line
-trial_aH =
+unfoldable pub trial_a_h : List Line
+trial_a_h =
     (BeginRelaxed ⇒ (0, 0, 1, 0))
     ∷ (Read 1 5 ⇒ (0, 0, 0, 1))
     ∷ (BeginUpdate ⇒ (0, 0, 2, 0))
@@ -47,8 +47,8 @@ trial_aH =
     ∷ []
 
 -- AI. R1 reads what an update holds exclusively: the update joins.
-unfoldable pub trial_aI : List Line
-trial_aI =
+unfoldable pub trial_a_i : List Line
+trial_a_i =
     (BeginRelaxed ⇒ (0, 0, 1, 0))
     ∷ (BeginUpdate ⇒ (0, 0, 2, 0))
     ∷ (Write 2 5 52 ⇒ (0, 0, 0, 0))
@@ -62,8 +62,8 @@ trial_aI =
     ∷ []
 
 -- AJ. An update reads a version whose creator has joined: it joins. So does one that overwrites such a version.
-unfoldable pub trial_aJ : List Line
-trial_aJ =
+unfoldable pub trial_a_j : List Line
+trial_a_j =
     (BeginRelaxed ⇒ (0, 0, 1, 0))
     ∷ (Read 1 5 ⇒ (0, 0, 0, 1))
     ∷ (BeginUpdate ⇒ (0, 0, 2, 0))
@@ -84,8 +84,8 @@ trial_aJ =
     ∷ []
 
 -- AK. Code 13 both ways, and tested last.
-unfoldable pub trial_aK : List Line
-trial_aK =
+unfoldable pub trial_a_k : List Line
+trial_a_k =
     (BeginUpdate ⇒ (0, 0, 1, 0))
     ∷ (BeginRelaxed ⇒ (0, 0, 2, 0))
     ∷ (Settle 1 ⇒ (13, 0, 0, 0))

@@ -12,11 +12,11 @@ unfoldable pub clock_and_row : ℕ → ℕ → ℕ → Sizes → Tables → Bool
 clock_and_row c x m S G = eqb (clock G.txns) c && eqb (length (versions_of S G.versions x)) m
 
 -- X and Y end at the clock 2, and of y one version is left; AA ends at the clock 3, and of x one is left
-unfoldable pub end_xY : Sizes → Tables → Bool
-end_xY S G = clock_and_row 2 6 1 S G
+unfoldable pub end_x_y : Sizes → Tables → Bool
+end_x_y S G = clock_and_row 2 6 1 S G
 
-unfoldable pub end_aA : Sizes → Tables → Bool
-end_aA S G = clock_and_row 3 5 1 S G
+unfoldable pub end_a_a : Sizes → Tables → Bool
+end_a_a S G = clock_and_row 3 5 1 S G
 
 -- X. T1 writes x and reads y, and settles: stamp 1. T2 writes y, which T1 shares no more, and commits: 2. T1 reads y as it was, and its own x;
 -- it writes x again, y: 12, settles again: 12. Q3 reads y: what T2 wrote; x: 1, and another item meanwhile. T1 commits: 1. Q3 reads x: what
@@ -67,8 +67,8 @@ trial_y =
 
 -- AA. T1 commits at once: the clock, 0. T2 reads x, T3 has to wait to write it. T2 commits: 0. T3 writes x and commits: 1. T4 writes y and settles:
 -- 2. T5 reads x and commits: 2. T6 writes another item and commits: 3. T7 commits at once: 3. T4 commits: 2.
-unfoldable pub trial_aA : List Line
-trial_aA =
+unfoldable pub trial_a_a : List Line
+trial_a_a =
     (BeginUpdate ⇒ (0, 0, 1, 0))
     ∷ (Commit 1 ⇒ (0, 0, 0, 0))
     ∷ (BeginUpdate ⇒ (0, 0, 2, 0))

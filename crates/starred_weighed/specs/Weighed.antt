@@ -10,8 +10,8 @@ use Rattle.plays.specs.Plays.{Line, ◌⇒◌}
 -- AB. T1 writes x. Q2 reads x: looked 1. T1 reads y, and settles; it reads y by its stamp. Q3 reads x: 1, an item that there is not: 4, and
 -- writes: 5. T1 commits: no sum and no count. Q3 reads x, and Q2 again, as it was: looked 2. Q3 aborts: it read once, and that weighs 1. Q2
 -- commits: twice, and these weigh 3. Q4 reads nothing.
-unfoldable pub trial_aB : List Line
-trial_aB =
+unfoldable pub trial_a_b : List Line
+trial_a_b =
     (BeginUpdate ⇒ (0, 0, 1, 0))
     ∷ (Write 1 5 51 ⇒ (0, 0, 0, 0))
     ∷ (BeginQuery ⇒ (0, 0, 2, 0))
@@ -57,8 +57,8 @@ read_so_far n w S =
 unfoldable pub below_limit : Sizes → Tables
 below_limit S = read_so_far (last_word - 2) (last_word - 3) S
 
-unfoldable pub trial_aC : List Line
-trial_aC =
+unfoldable pub trial_a_c : List Line
+trial_a_c =
     (BeginUpdate ⇒ (0, 0, 2, 0))
     ∷ (Write 2 5 52 ⇒ (0, 0, 0, 0))
     ∷ (Read 1 5 ⇒ (0, 0, 0, 1))
@@ -69,15 +69,15 @@ trial_aC =
     ∷ []
 
 -- AD. The same, without the last two reads: the count is the limit less 1, the sum the limit less 2.
-unfoldable pub trial_aD : List Line
-trial_aD = (Read 1 5 ⇒ (0, 0, 0, 1)) ∷ (Commit 1 ⇒ (0, last_word - 2, 0, last_word - 1)) ∷ []
+unfoldable pub trial_a_d : List Line
+trial_a_d = (Read 1 5 ⇒ (0, 0, 0, 1)) ∷ (Commit 1 ⇒ (0, last_word - 2, 0, last_word - 1)) ∷ []
 
 -- AE. The sum is the limit less 1, and a weight of 2 is one too many: it is held there.
 unfoldable pub at_limit : Sizes → Tables
 at_limit S = read_so_far (last_word - 1) (last_word - 1) S
 
-unfoldable pub trial_aE : List Line
-trial_aE =
+unfoldable pub trial_a_e : List Line
+trial_a_e =
     (BeginUpdate ⇒ (0, 0, 2, 0))
     ∷ (Write 2 5 52 ⇒ (0, 0, 0, 0))
     ∷ (Commit 2 ⇒ (0, 0, 1, 0))
@@ -89,5 +89,5 @@ trial_aE =
 unfoldable pub beyond_limit : Sizes → Tables
 beyond_limit S = read_so_far last_word 4294967296 S
 
-unfoldable pub trial_aF : List Line
-trial_aF = (Read 1 5 ⇒ (10, 0, 0, 0)) ∷ []
+unfoldable pub trial_a_f : List Line
+trial_a_f = (Read 1 5 ⇒ (10, 0, 0, 0)) ∷ []

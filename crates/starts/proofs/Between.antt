@@ -12,8 +12,8 @@ use Rattle.rules.specs.Words.{some, some_below, bit}
 use Rattle.rules.specs.Tables.{Reader}
 use Rattle.rules.specs.Versions.{Version, no_version, stamp_at, hidden_at, sees, read_by_some}
 use Rattle.rules.proofs.Tests.{iff_eq, and_right}
-use Rattle.rules.proofs.Counts.{some_mem, mem_some, someBelow→, →someBelow}
-use Rattle.rules.proofs.Choice.{Falls, Nests, older-seen}
+use Rattle.rules.proofs.Counts.{some_mem, mem_some, some_below→, →some_below}
+use Rattle.rules.proofs.Choice.{Falls, Nests, older_seen}
 use Rattle.rules.proofs.Reading.{read_between}
 use Rattle.starts.specs.Starts.{Split}
 use Rattle.starts.specs.Ordered.{lanes, guard, InOrder, between}
@@ -31,10 +31,10 @@ in_order_lem us q ordered lo hi g = iff_eq (some inside us) (some_below lanes (�
     to t =
         let m = mem_some inside us t in
         let k = ordered.all m.0 m.1 in
-        →someBelow lanes (λ k. inside (get_or q k 0)) k.0 k.1 (rw k.2 m.2)
+        →some_below lanes (λ k. inside (get_or q k 0)) k.0 k.1 (rw k.2 m.2)
 
     from : T (some_below lanes (λ k. inside (get_or q k 0))) → T (some inside us)
-    from t = let m = someBelow→ lanes (λ k. inside (get_or q k 0)) t in go (get_or q m.0 0) m.2 (ordered.only m.0 m.1)
+    from t = let m = some_below→ lanes (λ k. inside (get_or q k 0)) t in go (get_or q m.0 0) m.2 (ordered.only m.0 m.1)
       where
         go : (s : ℕ) → T (inside s) → (s ≡ guard) ⊎ Memᴰ s us → T (some inside us)
         go s h (inl e) = absurd (let a = ltb→lt s hi (and_right (leb lo s) (ltb s hi) h) in omega arith)
@@ -64,7 +64,7 @@ module _
         → read_by_some qs vs (suc j) ≡ (within us (stamp_at vs (suc j)) (stamp_at vs j) || not (eqb (hidden_at vs j) (hidden_at vs (suc j))))
     unfolding Nests stamp_at hidden_at
     read-within j h =
-        read_between vs j h (λ q i l. older-seen vs fall nest q i j (omega arith) (omega arith)) qs
+        read_between vs j h (λ q i l. older_seen vs fall nest q i j (omega arith) (omega arith)) qs
         ∙ split_between qs us m split (get_or vs (suc j) no_version) (get_or vs j no_version) (nest j (suc j) (omega arith) h) (first-known vs nest m known j (omega arith))
 
     pub read_same :

@@ -13,21 +13,21 @@ use Rattle.rules.specs.Words.{every, some, some_below, bit}
 use Rattle.rules.specs.Tables.{Txn, txn, live, an_update, a_relaxed, is_reader, live_relaxed, Reader, up_to, outside, reader_in, readers, relaxed_in}
 use Rattle.rules.specs.Versions.{Version, sees}
 use Rattle.rules.proofs.Tests.{same?, iff_eq, and_left, and_right, and_both, or_cases, or_left, or_right, not_make, not_use, is_false, true_is, false_is, eq_make, ne_make, ne_use}
-use Rattle.rules.proofs.Counts.{some_mem, mem_some, every_mem, mem_every, someBelow→, →someBelow}
+use Rattle.rules.proofs.Counts.{some_mem, mem_some, every_mem, mem_every, some_below→, →some_below}
 use Rattle.rules.proofs.Bits.{bit_none, bit_below, below_power, no_bits, same_bits}
 use Rattle.rules.proofs.RowKinds.{relaxed-live, relaxed-reads, reads_up_to, reads-outside}
 use Rattle.rules.proofs.EqualVersions.{relaxed→, →relaxed}
-use Rattle.rules.proofs.Readers.{reader_in_lem, in-reader}
+use Rattle.rules.proofs.Readers.{reader_in_lem, in_reader}
 use Rattle.rules.proofs.Reading.{between}
 use Rattle.starts.specs.Starts.{reads_by_start, starts_from, starts, Split}
 
 -- ---- each start is there
-start-in-from :
+start_in_from :
     (t : List ℕ) (s : ℕ) → T (reads_by_start (txn t s)) → (m i : ℕ) → i ≤ s → s < i + m → Memᴰ (txn t s).start (starts_from t i m)
 unfolding starts_from
-start-in-from t s q zero i l h = absurd (omega arith)
-start-in-from t s q (suc m) i l h =
-    go (same? i s) (reads_by_start (txn t i)) refl (λ k. start-in-from t s q m (suc i) k (omega arith))
+start_in_from t s q zero i l h = absurd (omega arith)
+start_in_from t s q (suc m) i l h =
+    go (same? i s) (reads_by_start (txn t i)) refl (λ k. start_in_from t s q m (suc i) k (omega arith))
   where
     go :
         (i ≡ s) ⊎ (i ≢ s) → (b : Bool) → reads_by_start (txn t i) ≡ b → (suc i ≤ s → Memᴰ (txn t s).start (starts_from t (suc i) m))
@@ -38,15 +38,15 @@ start-in-from t s q (suc m) i l h =
     go (inr d) false f ih = ih (omega arith)
 
 -- and no other
-in-start-from :
+in_start-from :
     (t : List ℕ) (u m i : ℕ) → Memᴰ u (starts_from t i m)
     → (s : ℕ) × (s < i + m) × T (reads_by_start (txn t s)) × ((txn t s).start ≡ u)
 unfolding starts_from
-in-start-from t u zero i h = absurd (none h)
+in_start-from t u zero i h = absurd (none h)
   where
     none : Memᴰ u [] → ⊥
     none = elim [ ]
-in-start-from t u (suc m) i h = go (reads_by_start (txn t i)) refl h (in-start-from t u m (suc i))
+in_start-from t u (suc m) i h = go (reads_by_start (txn t i)) refl h (in_start-from t u m (suc i))
   where
     Found : ℕ → Type 0
     Found n = (s : ℕ) × (s < n) × T (reads_by_start (txn t s)) × ((txn t s).start ≡ u)
@@ -84,14 +84,14 @@ unfolding starts
 readers-split S t =
     record {
       start = λ u h.
-          let k = in-start-from t u S.slots 0 h in
+          let k = in_start-from t u S.slots 0 h in
           let r = start-reader (txn t k.0) k.2 in
           Memᴰ.cast (sym (reads_up_to t k.0 r.1 ∙ ap up_to k.3)) (reader_in_lem S t k.0 (let l = k.1 in omega arith) r.0);
       relaxed = λ s h.
           let k = relaxed→ S t s h in
           Memᴰ.cast (sym (reads-outside t s (relaxed-live (txn t s) k.1).1)) (reader_in_lem S t s k.0 (relaxed-reads (txn t s) k.1));
       only = λ q h.
-          let k = in-reader S t q h in
+          let k = in_reader S t q h in
           kinds k.0 k.1 k.2 q k.3 (same? (txn t k.0).kind a_relaxed);
     }
   where
@@ -101,7 +101,7 @@ readers-split S t =
         → ((u : ℕ) × Memᴰ u (starts_from t 0 S.slots) × (q ≡ up_to u)) ⊎ ((s : ℕ) × T (bit (relaxed_in S t) s) × (q ≡ outside s))
     kinds s l h q e (inl k) = inr (s, →relaxed S t s l (reader-relaxed (txn t s) h k), sym e ∙ reads-outside t s k)
     kinds s l h q e (inr d) =
-        inl ((txn t s).start, start-in-from t s (reader-start (txn t s) h d) S.slots 0 (omega arith) (omega arith), sym e ∙ reads_up_to t s d)
+        inl ((txn t s).start, start_in_from t s (reader-start (txn t s) h d) S.slots 0 (omega arith) (omega arith), sym e ∙ reads_up_to t s d)
 
 -- ---- two words, the one within the other, are different if a bit of the one is none of the other
 bit-more : (a b : ℕ) → a ≢ b → ((i : ℕ) → T (bit a i) → T (bit b i)) → (i : ℕ) × T (bit b i) × (T (bit a i) → ⊥)
@@ -109,7 +109,7 @@ bit-more a b d f = go (some_below b (λ i. bit b i && not (bit a i))) refl
   where
     go : (c : Bool) → some_below b (λ i. bit b i && not (bit a i)) ≡ c → (i : ℕ) × T (bit b i) × (T (bit a i) → ⊥)
     go true e =
-        let k = someBelow→ b (λ i. bit b i && not (bit a i)) (true_is e) in
+        let k = some_below→ b (λ i. bit b i && not (bit a i)) (true_is e) in
         (k.0, and_left (bit b k.0) _ k.2, not_use (bit a k.0) (and_right (bit b k.0) _ k.2))
     go false e =
         absurd (d (same_bits a b (λ i. iff_eq (bit a i) (bit b i) (f i) (λ t. old i t (bit a i) refl))))
@@ -117,7 +117,7 @@ bit-more a b d f = go (some_below b (λ i. bit b i && not (bit a i))) refl
         old : (i : ℕ) → T (bit b i) → (c : Bool) → bit a i ≡ c → T (bit a i)
         old i t true z = true_is z
         old i t false z =
-            absurd (false_is e (→someBelow b (λ i. bit b i && not (bit a i)) i (bit_below b i b (below_power b) t)
+            absurd (false_is e (→some_below b (λ i. bit b i && not (bit a i)) i (bit_below b i b (below_power b) t)
             (and_both (bit b i) _ t (not_make (bit a i) (false_is z)))))
 
 -- some start lies from lo on and below hi

@@ -25,12 +25,12 @@ none_beside stamp =
     }
 
 -- one start more: a neighbour is the one of before, or the new start
-pub one-beside :
+pub one_beside :
     (qs : List ℕ) (stamp below next start : ℕ) {b n : ℕ} → Beside qs stamp below next
     → below ≤ b → (start < stamp → start < b) → (b ≡ below) ⊎ ((start < stamp) × (b ≡ suc start))
     → n ≤ next → (stamp ≤ start → n ≤ start) → (n ≡ next) ⊎ ((stamp ≤ start) × (n ≡ start))
     → Beside (qs ++ (start ∷ [])) stamp b n
-one-beside qs stamp below next start {b} {n} k lb sb eb ln sn en =
+one_beside qs stamp below next start {b} {n} k lb sb eb ln sn en =
     record {
       lower = λ q m l. ⊎_elim (λ (x : Memᴰ q qs). let y = k.lower q x l in omega arith) (λ (x : Memᴰ q (start ∷ [])). let y = Memᴰ.eq_of_singleton x in let z = sb (omega arith) in omega arith) (Memᴰ.append_cases qs m);
       below_is = low k.below_is eb;
@@ -76,8 +76,8 @@ module _ (qs : List ℕ) (stamp below next : ℕ) (k : Beside qs stamp below nex
       go (inr e) = (e.0, e.1, (let z = e.3 in omega arith), e.2)
 
   -- the starts from lo on and below the stamp
-  pub within-below : (lo : ℕ) → within qs lo stamp ≡ ltb lo below
-  within-below lo = iff_eq (within qs lo stamp) (ltb lo below) to from
+  pub within_below : (lo : ℕ) → within qs lo stamp ≡ ltb lo below
+  within_below lo = iff_eq (within qs lo stamp) (ltb lo below) to from
     where
       to : T (within qs lo stamp) → T (ltb lo below)
       to t = let f = finds lo stamp t in let a = k.lower f.0 f.1 f.3 in lt→ltb lo below (let b = f.2 in omega arith)

@@ -13,7 +13,7 @@ use Rattle.rules.specs.Tables.{lock, holds, holds_shared, holds_exclusive}
 use Rattle.rules.specs.Good.{GoodTxn}
 use Rattle.rules.specs.Tested.{tops_most, free_zero, listed, start_good, awaited_good, reads_good, notes_good, awaiter_good, txn_good, lock_good}
 use Rattle.rules.proofs.Tests.{and_right, and_both, or_cases, or_right, not_make, implies_make, ne_make, false_is}
-use Rattle.rules.proofs.Counts.{everyBelow→}
+use Rattle.rules.proofs.Counts.{every_below→}
 use Rattle.rules.proofs.Bits.{bit_none, slots_at, slots_lt}
 use Rattle.rules.proofs.RowKinds.{free_or_live, live-update, live-query, live-settled, live-relaxed, query-reads, settled-reads, relaxed-reads}
 use Rattle.rules.proofs.EqualRows.{txn→Good, lock→Good, holder}
@@ -77,7 +77,7 @@ awaits-live t s r g d = and_both (live_update r) _ (go (free_or_live r)) (ne_mak
 module _ (t : List ℕ) (h : T (rows_good base t)) where
   row_at : (s : ℕ) → s < base.slots → GoodTxn base t [] s (txn t s)
   unfolding rows_good
-  row_at s i = row→Good t s (txn t s) (everyBelow→ base.slots (λ s. row_good base t (txn t s)) (and_right (tops_most t) _ h) s i)
+  row_at s i = row→Good t s (txn t s) (every_below→ base.slots (λ s. row_good base t (txn t s)) (and_right (tops_most t) _ h) s i)
 
   pub awaiting : Awaiting t (waiting_in base t)
   unfolding waiting_in
@@ -95,5 +95,5 @@ module _ (t : List ℕ) (h : T (rows_good base t)) where
         locks_exact = zl;
         lock_listed = λ s i. (row_at s i).lock_listed;
         item_known = λ s i. (row_at s i).item_known;
-        inside = λ x i b a. (holder base t (lock l x) (lock→Good base t (lock l x) (everyBelow→ base.items (λ x. lock_good base t (lock l x)) k x i)) b a).0;
+        inside = λ x i b a. (holder base t (lock l x) (lock→Good base t (lock l x) (every_below→ base.items (λ x. lock_good base t (lock l x)) k x i)) b a).0;
       }

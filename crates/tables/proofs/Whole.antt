@@ -12,8 +12,8 @@ use Rattle.rules.specs.Versions.{versions_in, hidden_at, hidden_now}
 use Rattle.rules.specs.Waits.{no_circle}
 use Rattle.rules.specs.Tested.{good, sizes_exact, tops_most, txn_good, awaiter_good, distinct, lock_good, quota_good, versions_good, ranks_good, settled_good, sets_good, holders_joined}
 use Rattle.rules.proofs.Tests.{and_left, and_right, and_both, is_false, eq_make}
-use Rattle.rules.proofs.Counts.{everyBelow→, →everyBelow}
-use Rattle.rules.proofs.Rows.{everyRow→}
+use Rattle.rules.proofs.Counts.{every_below→, →every_below}
+use Rattle.rules.proofs.Rows.{every_row→}
 use Rattle.rules.proofs.EqualVersions.{versions→Good}
 use Rattle.words.proofs.Turns.{iff_eq}
 use Rattle.starts.specs.Starts.{starts, Split}
@@ -86,16 +86,16 @@ module _ (t l v : List ℕ) where
       let a = and_left (sizes_exact base (tables t l v)) _ h in
       let b = and_right (eqb (length t) (txn_words base)) _ a in
       let both : (s : ℕ) → s < base.slots → T (row_good base t (txn t s) && awaiter_test s)
-      = λ s i. subst T (row_parts t l s (txn t s)) (everyBelow→ base.slots row_test (and_left (every_below base.slots row_test) _ h₂) s i) in
+      = λ s i. subst T (row_parts t l s (txn t s)) (every_below→ base.slots row_test (and_left (every_below base.slots row_test) _ h₂) s i) in
       record {
         txns_exact = eqb→eq (length t) (txn_words base) (and_left (eqb (length t) (txn_words base)) _ a);
         locks_exact = eqb→eq (length l) (lock_words base) (and_left (eqb (length l) (lock_words base)) _ b);
         versions_exact = eqb→eq (length v) (version_words base) (and_right (eqb (length l) (lock_words base)) _ b);
-        rows = and_both (tops_most t) _ (and_left (tops_most t) _ h₁) (→everyBelow base.slots (λ s. row_good base t (txn t s)) (λ s i. and_left (row_good base t (txn t s)) _ (both s i)));
+        rows = and_both (tops_most t) _ (and_left (tops_most t) _ h₁) (→every_below base.slots (λ s. row_good base t (txn t s)) (λ s i. and_left (row_good base t (txn t s)) _ (both s i)));
         locks = and_left (every_below base.items (λ x. lock_good base t (lock l x))) _ h₄;
         quotas = and_left (every_below base.slots quota_test) _ h₅;
         numbers = and_left (distinct base t) _ h₃;
-        awaiters = →everyBelow base.slots awaiter_test (λ s i. and_right (row_good base t (txn t s)) _ (both s i));
+        awaiters = →every_below base.slots awaiter_test (λ s i. and_right (row_good base t (txn t s)) _ (both s i));
         ranks = and_left (ranks_good base t l) _ h₇;
         settled = and_left (settled_good base (tables t l v)) _ h₈;
         sets = and_left (sets_good base t) _ h₉;
@@ -112,11 +112,11 @@ module _ (t l v : List ℕ) where
       (and_both (eqb (length l) (lock_words base)) _ (eq_make (length l) (lock_words base) p.locks_exact) (eq_make (length v) (version_words base) p.versions_exact)))
       (and_both (tops_most t) _ (and_left (tops_most t) _ p.rows)
       (and_both (every_below base.slots row_test) _
-      (→everyBelow base.slots row_test (λ s i.
+      (→every_below base.slots row_test (λ s i.
       subst T (sym (row_parts t l s (txn t s)))
       (and_both (row_good base t (txn t s)) _
-      (everyBelow→ base.slots (λ s. row_good base t (txn t s)) (and_right (tops_most t) _ p.rows) s i)
-      (everyBelow→ base.slots awaiter_test p.awaiters s i))))
+      (every_below→ base.slots (λ s. row_good base t (txn t s)) (and_right (tops_most t) _ p.rows) s i)
+      (every_below→ base.slots awaiter_test p.awaiters s i))))
       (and_both (distinct base t) _ p.numbers
       (and_both (every_below base.items (λ x. lock_good base t (lock l x))) _ p.locks
       (and_both (every_below base.slots quota_test) _ p.quotas
@@ -146,13 +146,13 @@ versions-are t v q e o f =
 pub each-good :
     (t v : List ℕ) → T (versions_test t v) → (x : ℕ) → x < base.items
     → T (versions_good base (clock t) (readers base t) (relaxed_in base t) (row (version_row base) x v))
-each-good t v h x i = everyRow→ base.items (version_row base) (λ x r. versions_good base (clock t) (readers base t) (relaxed_in base t) r) 0 v h x i
+each-good t v h x i = every_row→ base.items (version_row base) (λ x r. versions_good base (clock t) (readers base t) (relaxed_in base t) r) 0 v h x i
 
 -- so each item has one
 pub each_has : (t v : List ℕ) → T (versions_test t v) → (x : ℕ) → x < base.items → 1 ≤ get_or (row (version_row base) x v) 0 0
 each_has t v h x i = (versions→Good base t (row (version_row base) x v) (each-good t v h x i)).count_least
 
 -- and the test of the sets is what the rules ask of these and of those who hold
-pub sets-are :
+pub sets_are :
     (t l v : List ℕ) → T (rows_good base t) → T (versions_test t v) → sets_test base t l v ≡ (sets_good base t && holders_test t l v)
-sets-are t l v rows versions = sets_same t l v rows (clock t) (readers base t) (each-good t v versions)
+sets_are t l v rows versions = sets_same t l v rows (clock t) (readers base t) (each-good t v versions)

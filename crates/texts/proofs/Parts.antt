@@ -6,7 +6,7 @@ use native.Mathlib.Omega.{arith}
 use lib.ListN.{length, take, drop, take-append-drop}
 use lib.Seq.{take_at}
 use Rattle.texts.specs.Written.{written, Wrote}
-use Rattle.texts.proofs.Written.{wrote-more}
+use Rattle.texts.proofs.Written.{wrote_more}
 
 -- `after` is `before` with the text written over it but for the rest
 pub record Putting (text rest before after : List ℕ) (used : ℕ) : Type 0 where
@@ -23,7 +23,7 @@ pub putting_on : {text rest part more l m n : List ℕ} {used next : ℕ} → us
 putting_on {part = part} {more} h e p w =
     record {
       done = p.done ++ part;
-      wrote = wrote-more (omega (arith, h, p.wrote.index)) p.wrote w;
+      wrote = wrote_more (omega (arith, h, p.wrote.index)) p.wrote w;
       total = append_assoc p.done part more ∙ ap (λ (x : List ℕ). p.done ++ x) (sym e) ∙ p.total;
     }
 

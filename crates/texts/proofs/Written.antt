@@ -38,8 +38,8 @@ module _ (l : List ℕ) (at : ℕ) (s t : List ℕ) (h : at + length s ≤ lengt
       ∙ ap (λ (k : ℕ). take at l ++ ((s ++ t) ++ drop k l)) n
 
 -- a text, and a text after it
-pub wrote-more : {l m n s t : List ℕ} {at e k : ℕ} → at + length s ≤ length l → Wrote l at s m e → Wrote m e t n k → Wrote l at (s ++ t) n k
-wrote-more {l} {m} {n} {s} {t} {at} {e} {k} h a b =
+pub wrote_more : {l m n s t : List ℕ} {at e k : ℕ} → at + length s ≤ length l → Wrote l at s m e → Wrote m e t n k → Wrote l at (s ++ t) n k
+wrote_more {l} {m} {n} {s} {t} {at} {e} {k} h a b =
     record {
       bytes = b.bytes ∙ ap₂ (λ (x : List ℕ) (y : ℕ). written x y t) a.bytes a.index ∙ written-more l at s t h;
       index = omega (arith, length-append s t, a.index, b.index);

@@ -10,7 +10,7 @@ use borrow.Author.Tests.{ltb-true, ltb-false, lt-ltb, le-ltb, le-leb}
 use Rattle.names.specs.Sizes.{base}
 use Rattle.names.specs.Layout.{version_stamp_at, version_pair}
 use Rattle.rules.proofs.Tests.{and_left, and_right, and_both}
-use Rattle.rules.proofs.Counts.{someBelow→, →someBelow, everyBelow→, →everyBelow}
+use Rattle.rules.proofs.Counts.{some_below→, →some_below, every_below→, →every_below}
 use Rattle.rules.specs.Words.{some_below, every_below}
 use Rattle.choices.specs.Pairs.{stamp_in}
 use Rattle.starts.specs.Ordered.{lanes, Rises, Skipped}
@@ -29,12 +29,12 @@ pub between_first : (q : List ℕ) (lo hi p : ℕ) → Rises q → First q lo p 
 unfolding between
 between_first q lo hi p s f = iff_eq (some_below lanes (λ k. leb lo (get_or q k 0) && ltb (get_or q k 0) hi)) (ltb (get_or q p 0) hi)
     (λ t.
-    let w = someBelow→ lanes (λ k. leb lo (get_or q k 0) && ltb (get_or q k 0) hi) t in
+    let w = some_below→ lanes (λ k. leb lo (get_or q k 0) && ltb (get_or q k 0) hi) t in
     let k = w.0 in
     let a : lo ≤ get_or q k 0 = leb→le lo (get_or q k 0) (and_left (leb lo (get_or q k 0)) (ltb (get_or q k 0) hi) w.2) in
     let b : get_or q k 0 < hi = ltb→lt (get_or q k 0) hi (and_right (leb lo (get_or q k 0)) (ltb (get_or q k 0) hi) w.2) in
     lt→ltb (get_or q p 0) hi (go k w.1 a b (ltb k p) refl))
-    (λ t. →someBelow lanes (λ k. leb lo (get_or q k 0) && ltb (get_or q k 0) hi) p (let h = f.within in omega arith)
+    (λ t. →some_below lanes (λ k. leb lo (get_or q k 0) && ltb (get_or q k 0) hi) p (let h = f.within in omega arith)
     (and_both (leb lo (get_or q p 0)) (ltb (get_or q p 0) hi) (le→leb lo (get_or q p 0) f.here) t))
   where
     go : (k : ℕ) → k < lanes → lo ≤ get_or q k 0 → get_or q k 0 < hi → (c : Bool) → ltb k p ≡ c → get_or q p 0 < hi
@@ -118,8 +118,8 @@ ends q r m p j s g h =
     let z : j - 1 ≡ 0 = omega arith in
     let e : read_at q r 0 ≡ ltb (get_or q p 0) (stamp_in r 0) = sym (ap (read_at q r) z) ∙ read_next q r m p j s g ∙ ap (λ (n : ℕ). ltb (get_or q p 0) (get_or r n 0)) y in
     rw g.old (iff_eq (ltb (get_or q p 0) (stamp_in r 0)) (every_below (m - 1) (read_at q r))
-    (λ t. →everyBelow (m - 1) (read_at q r) (λ i b. all i b (ltb 0 i) refl (subst T (sym e) t)))
-    (λ t. subst T e (everyBelow→ (m - 1) (read_at q r) t 0 (omega arith))))
+    (λ t. →every_below (m - 1) (read_at q r) (λ i b. all i b (ltb 0 i) refl (subst T (sym e) t)))
+    (λ t. subst T e (every_below→ (m - 1) (read_at q r) t 0 (omega arith))))
   where
     all : (i : ℕ) → i < m - 1 → (t : Bool) → ltb 0 i ≡ t → T (read_at q r 0) → T (read_at q r i)
     all i b true e w = let o : 0 < i = ltb-true 0 i e in g.done i (omega arith) b

@@ -13,7 +13,7 @@ use Rattle.names.specs.Sizes.{base}
 use Rattle.rules.specs.Words.{every_below, some_below, contains, bit}
 use Rattle.rules.specs.Tables.{masks_at}
 use Rattle.rules.proofs.Tests.{iff_eq, and_left, and_right, and_both, or_left, or_cases, not_use, eq_make, is_false, false_is}
-use Rattle.rules.proofs.Counts.{everyBelow→, →everyBelow, someBelow→}
+use Rattle.rules.proofs.Counts.{every_below→, →every_below, some_below→}
 use Rattle.rules.proofs.Bits.{bit_none, no_bits, contains→, →contains}
 use Rattle.choices.specs.Pairs.{stamp_in, hidden_in}
 use Rattle.words.specs.Zeros.{zero_words}
@@ -25,17 +25,17 @@ pub zero_at : (l : List ℕ) (from n : ℕ) → T (zero_words l from n) → (i :
 unfolding zero_words
 zero_at l from n t i a b =
     ap (λ (k : ℕ). get_or l k 0) (let e : i ≡ from + (i - from) = omega arith in e)
-    ∙ eqb→eq (get_or l (from + (i - from)) 0) 0 (everyBelow→ n (λ k. eqb (get_or l (from + k) 0) 0) t (i - from) (omega arith))
+    ∙ eqb→eq (get_or l (from + (i - from)) 0) 0 (every_below→ n (λ k. eqb (get_or l (from + k) 0) 0) t (i - from) (omega arith))
 
 pub zero_make : (l : List ℕ) (from n : ℕ) → ((i : ℕ) → from ≤ i → i < from + n → get_or l i 0 ≡ 0) → T (zero_words l from n)
 unfolding zero_words
-zero_make l from n f = →everyBelow n (λ k. eqb (get_or l (from + k) 0) 0) (λ k h. eq_make (get_or l (from + k) 0) 0 (f (from + k) (omega arith) (omega arith)))
+zero_make l from n f = →every_below n (λ k. eqb (get_or l (from + k) 0) 0) (λ k h. eq_make (get_or l (from + k) 0) 0 (f (from + k) (omega arith) (omega arith)))
 
 -- what a start reads has an older stamp than what stands before it
 pub between-lt : (q : List ℕ) (lo hi : ℕ) → T (between q lo hi) → lo < hi
 unfolding between
 between-lt q lo hi t =
-    let m = someBelow→ lanes (λ k. leb lo (get_or q k 0) && ltb (get_or q k 0) hi) t in
+    let m = some_below→ lanes (λ k. leb lo (get_or q k 0) && ltb (get_or q k 0) hi) t in
     let s = get_or q m.0 0 in
     let a = leb→le lo s (and_left (leb lo s) (ltb s hi) m.2) in
     let b = ltb→lt s hi (and_right (leb lo s) (ltb s hi) m.2) in
@@ -94,8 +94,8 @@ module _ (q r : List ℕ) (m : ℕ) (least : 1 ≤ m) (most : m ≤ base.places)
       (zero_make r (masks_at base + m) (base.places - m) (λ i a b. zero_at r (masks_at base) base.places (and_left masks_zero _ t) i (omega arith) (omega arith)))
       (and_both old _ (and_left old _ d)
       (and_both last_shown _ (eq_make (hidden_in r (m - 1)) 0 (zero (m - 1) (omega arith)))
-      (→everyBelow (m - 1) (step_at q r)
-      (λ j h. subst T (sym (step-read j (zero j (omega arith)) (zero (j + 1) (omega arith)))) (everyBelow→ (m - 1) (read_at q r) (and_right old _ d) j h))))))
+      (→every_below (m - 1) (step_at q r)
+      (λ j h. subst T (sym (step-read j (zero j (omega arith)) (zero (j + 1) (omega arith)))) (every_below→ (m - 1) (read_at q r) (and_right old _ d) j h))))))
 
   from_walk : T (walk_ok q 0 r m) → T (masks_zero && read_in q r m)
   unfolding walk_ok walk_in read_in
@@ -104,7 +104,7 @@ module _ (q r : List ℕ) (m : ℕ) (least : 1 ≤ m) (most : m ≤ base.places)
       (zero_make r (masks_at base) base.places
       (λ i a b. ap (λ (k : ℕ). get_or r k 0) (let e : i ≡ masks_at base + (i - masks_at base) = omega arith in e) ∙ mask (i - masks_at base) (omega arith) (ltb (i - masks_at base) m) refl))
       (and_both old _ (and_left old _ t₂)
-      (→everyBelow (m - 1) (read_at q r) (λ j h. subst T (step-read j (below j (omega arith)) (below (j + 1) (omega arith))) (step j h))))
+      (→every_below (m - 1) (read_at q r) (λ j h. subst T (step-read j (below j (omega arith)) (below (j + 1) (omega arith))) (step j h))))
     where
       t₁ : T (rest_zero && (old && (last_shown && every_below (m - 1) (step_at q r))))
       t₁ = and_right (contains 0 (hidden_in r 0)) _ t
@@ -113,7 +113,7 @@ module _ (q r : List ℕ) (m : ℕ) (least : 1 ≤ m) (most : m ≤ base.places)
       t₂ = and_right rest_zero _ t₁
 
       step : (j : ℕ) → j < m - 1 → T (step_at q r j)
-      step = everyBelow→ (m - 1) (step_at q r) (and_right last_shown _ (and_right old _ t₂))
+      step = every_below→ (m - 1) (step_at q r) (and_right last_shown _ (and_right old _ t₂))
 
       -- each is hidden from no more than the one before it
       less : (j : ℕ) → suc j < m → hidden_in r j ≡ 0 → hidden_in r (suc j) ≡ 0

@@ -12,7 +12,7 @@ use Rattle.names.specs.Layout.{version_stamp_at, version_pair}
 use Rattle.rules.specs.Words.{every_below, contains}
 use Rattle.rules.specs.Tables.{version_row, masks_at}
 use Rattle.rules.proofs.Tests.{and_left, and_right, and_both, ne_make, ne_use, eq_make}
-use Rattle.rules.proofs.Counts.{everyBelow→, →everyBelow}
+use Rattle.rules.proofs.Counts.{every_below→, →every_below}
 use Rattle.choices.specs.Pairs.{count_in, stamp_in, hidden_in}
 use Rattle.words.specs.Zeros.{zero_words}
 use Rattle.versions.specs.Rows.{stamp_before, pairs_wide, step_at, walk_in, walk_ok, unused_ok, many_ok, one_ok, row_ok}
@@ -104,7 +104,7 @@ module _ (now : ℕ) (q : List ℕ) (w : ℕ) (r : List ℕ) where
         new = new;
         old = leb→le (stamp_before r n) (get_or q 0 0) (and_left last_old _ t₅);
         shown = eqb→eq (hidden_in r (n - 1)) 0 (and_left last_shown _ t₆);
-        step = everyBelow→ (n - 1) (step_at q r) (and_right last_shown _ t₆);
+        step = every_below→ (n - 1) (step_at q r) (and_right last_shown _ t₆);
       }
     where
       off : (b : Bool) → T (not b) → b ≡ false
@@ -145,23 +145,23 @@ module _ (now : ℕ) (q : List ℕ) (w : ℕ) (r : List ℕ) where
       let m = g.most in
       ap (λ (k : ℕ). get_or r k 0) (let z : i ≡ masks_at base + (i - masks_at base) = omega arith in z) ∙ g.unhidden (i - masks_at base) (omega arith) (omega arith)))
       (and_both last_old _ (le→leb (stamp_before r n) (get_or q 0 0) g.old)
-      (and_both last_shown _ (eq_make (hidden_in r (n - 1)) 0 g.shown) (→everyBelow (n - 1) (step_at q r) g.step)))))
+      (and_both last_shown _ (eq_make (hidden_in r (n - 1)) 0 g.shown) (→every_below (n - 1) (step_at q r) g.step)))))
       (zero_make r (version_stamp_at + n * version_pair) (pairs_wide - n * version_pair) (λ i a b. let m = g.most in g.unused i (omega arith) (omega arith)))))
     where
       on : (b : Bool) → b ≡ false → T (not b)
       on b e = subst (λ (c : Bool). T (not c)) (sym e) tt
 
-  pub rowOk→ : T (row_ok now q w r) → Row now q w r
+  pub row_ok→ : T (row_ok now q w r) → Row now q w r
   unfolding row_ok
-  rowOk→ t = go (eqb n 1) refl t
+  row_ok→ t = go (eqb n 1) refl t
     where
       go : (c : Bool) → eqb n 1 ≡ c → T (cond c (one_ok now q r) (leb (stamp_in r 0) now && many_ok r q w)) → Row now q w r
       go true e t = one→ (eqb-true n 1 e) t
       go false e t = many→ (leb→le (stamp_in r 0) now (and_left new_enough (many_ok r q w) t)) (and_right new_enough (many_ok r q w) t)
 
-  pub →rowOk : Row now q w r → T (row_ok now q w r)
+  pub →row_ok : Row now q w r → T (row_ok now q w r)
   unfolding row_ok
-  →rowOk g = go (eqb n 1) refl
+  →row_ok g = go (eqb n 1) refl
     where
       go : (c : Bool) → eqb n 1 ≡ c → T (cond c (one_ok now q r) (leb (stamp_in r 0) now && many_ok r q w))
       go true e = →one (eqb-true n 1 e) g

@@ -18,11 +18,11 @@ use Rattle.rules.specs.Tables.{version_row, version_words, masks_at, Reader}
 use Rattle.rules.specs.Versions.{Version, no_version, versions_in, stamp_at, hidden_at, sees, read_by_some}
 use Rattle.rules.specs.Tested.{falls, nests, last_seen, all_read, versions_good}
 use Rattle.rules.proofs.Tests.{and_left, and_right, and_both, or_cases, or_right, eq_make, false_is}
-use Rattle.rules.proofs.Counts.{everyBelow→, →everyBelow, every_mem, mem_every}
-use Rattle.rules.proofs.Rows.{everyRow→, →everyRow}
+use Rattle.rules.proofs.Counts.{every_below→, →every_below, every_mem, mem_every}
+use Rattle.rules.proofs.Rows.{every_row→, →every_row}
 use Rattle.rules.proofs.Bits.{bit_none, contains→, →contains}
 use Rattle.rules.proofs.Choice.{length-versions_in, zero_each, zero_all, Falls, falls→Falls, Falls→falls, Nests, nests→Nests, Nests→nests}
-use Rattle.rules.proofs.Trim.{allRead→, →allRead}
+use Rattle.rules.proofs.Trim.{all_read→, →all_read}
 use Rattle.choices.specs.Pairs.{count_in, stamp_in, hidden_in}
 use Rattle.choices.proofs.Read.{stamp_in_lem, hidden_in_lem}
 use Rattle.words.proofs.Turns.{iff_eq}
@@ -31,7 +31,7 @@ use Rattle.starts.specs.Ordered.{lanes, guard, InOrder, between}
 use Rattle.starts.proofs.Split.{split-seen}
 use Rattle.starts.proofs.Between.{read_same, first-most, first-known}
 use Rattle.versions.specs.Rows.{place_before, stamp_before, step_ok, step_at, row_ok, rows_ok}
-use Rattle.versions.proofs.Rowed.{Row, rowOk→, →rowOk}
+use Rattle.versions.proofs.Rowed.{Row, row_ok→, →row_ok}
 
 -- stamps that fall from place to place fall, and sets that are nested so are nested
 falling : (f : ℕ → ℕ) (n : ℕ) → ((j : ℕ) → suc j < n → f (suc j) < f j) → (i j : ℕ) → i < j → j < n → f j < f i
@@ -120,7 +120,7 @@ module _
         (and_both (every (λ u. leb last.stamp u) us) _
         (mem_every (λ u. leb last.stamp u) us (λ s i. le→leb last.stamp s (old s (ordered.all s i))))
         (eq_make last.hidden 0 (last-hidden g.least ∙ g.shown))))
-        (→allRead qs vs 0 vs (λ j b. rw zero-add (each j b)))))))))))
+        (→all_read qs vs 0 vs (λ j b. rw zero-add (each j b)))))))))))
       where
         before : (k : ℕ) → 2 * m < k → (b : Bool) → ltb k (masks_at base) ≡ b → get_or (take (masks_at base) r) k 0 ≡ 0
         before k l true e = let h = ltb-true k (masks_at base) e in get_or-take (masks_at base) r k 0 h ∙ g.unused k l h
@@ -259,7 +259,7 @@ module _
             omega arith
 
         reads : (j : ℕ) → suc j < m → T (read_by_some qs vs (suc j))
-        reads j b = go (or_cases (eqb (suc j) 0) (read_by_some qs vs (suc j)) (rw zero-add at (allRead→ qs vs 0 vs (and_right (every (λ p. sees p last) qs) (all_read qs vs 0 vs) t₈) (suc j) (let l = long in omega arith))))
+        reads j b = go (or_cases (eqb (suc j) 0) (read_by_some qs vs (suc j)) (rw zero-add at (all_read→ qs vs 0 vs (and_right (every (λ p. sees p last) qs) (all_read qs vs 0 vs) t₈) (suc j) (let l = long in omega arith))))
           where
             go : T (eqb (suc j) 0) ⊎ T (read_by_some qs vs (suc j)) → T (read_by_some qs vs (suc j))
             go (inl x) = absurd (let e = eqb→eq (suc j) 0 x in omega arith)
@@ -280,7 +280,7 @@ module _
 
     -- one row
     pub row_same : row_ok now q w r ≡ versions_good base now qs w r
-    row_same = iff_eq (row_ok now q w r) (versions_good base now qs w r) (λ t. row→ (rowOk→ now q w r t)) (λ t. →rowOk now q w r (→row t))
+    row_same = iff_eq (row_ok now q w r) (versions_good base now qs w r) (λ t. row→ (row_ok→ now q w r t)) (λ t. →row_ok now q w r (→row t))
 
 -- all rows
 pub rows_same :
@@ -289,8 +289,8 @@ pub rows_same :
 unfolding rows_ok row
 rows_same now qs us q w v c l h s =
     iff_eq (every_below base.items test) (every_row base.items (version_row base) good 0 v)
-    (λ t. →everyRow base.items (version_row base) good 0 v (λ k b. subst T (each k b) (everyBelow→ base.items test t k b)))
-    (λ t. →everyBelow base.items test (λ k b. subst T (sym (each k b)) (everyRow→ base.items (version_row base) good 0 v t k b)))
+    (λ t. →every_row base.items (version_row base) good 0 v (λ k b. subst T (each k b) (every_below→ base.items test t k b)))
+    (λ t. →every_below base.items test (λ k b. subst T (sym (each k b)) (every_row→ base.items (version_row base) good 0 v t k b)))
   where
     test : ℕ → Bool
     test i = row_ok now q w (row (version_row base) i v)

@@ -14,7 +14,7 @@ use Rattle.names.specs.Layout.{version_stamp_at, version_pair}
 use Rattle.rules.specs.Words.{every_below}
 use Rattle.rules.specs.Tables.{masks_at}
 use Rattle.rules.proofs.Tests.{is_true, true_is, and_left}
-use Rattle.rules.proofs.Counts.{→everyBelow}
+use Rattle.rules.proofs.Counts.{→every_below}
 use Rattle.choices.specs.Pairs.{stamp_in, hidden_in}
 use Rattle.starts.specs.Ordered.{Rises, Skipped, between}
 use Rattle.versions.specs.Rows.{place_before, stamp_before, step_ok, step_at, walk_in}
@@ -116,5 +116,5 @@ module _ (q r : List ℕ) (m : ℕ) where
     pub ends : j ≤ 0 → true ≡ walk_in q r m
     unfolding walk_in
     ends h =
-        let e : every_below (m - 1) (step_at q r) ≡ true = is_true _ (→everyBelow (m - 1) (step_at q r) (λ i b. g.done i (omega arith) b)) in
+        let e : every_below (m - 1) (step_at q r) ≡ true = is_true _ (→every_below (m - 1) (step_at q r) (λ i b. g.done i (omega arith) b)) in
         rw (g.old, g.shown, e)

@@ -68,11 +68,11 @@ and_swap false true = refl
 and_swap false false = refl
 
 -- holders and earlier waiters, without the slot itself
-pub blockers-of :
+pub blockers_of :
     (t l : List ℕ) (k x p i v w : ℕ) → i < base.slots → Holders (lock l x) k v → Ahead t k x p w
     → Blockers t l k x p i (bit_xor (bit_or v w) (bit_and (bit_or v w) (one_shifted i)))
 unfolding blocks
-blockers-of t l k x p i v w li h o =
+blockers_of t l k x p i v w li h o =
     rw (shifted i (omega arith)) (record { small = below_bits base.slots (bit_xor (bit_or v w) (bit_and (bit_or v w) (2 ^ i))) within; at = at })
   where
     both : (b : ℕ) → bit (bit_or v w) b ≡ (conflicts (lock l x) k b || ahead x k p (txn t b))

@@ -121,11 +121,11 @@ module _ (t l w : List ℕ) (ok : Bool) (i : ℕ) (k : i < base.slots) (h : Link
       })
 
   -- slot i awaits a lock
-  pub linking-waits :
+  pub linking_waits :
       (txn t i).awaited_lock ≢ no_lock → {c : Bool} {v : ℕ} → c ≡ awaiter_good i (txn t i) (lock l (txn t i).awaited_item)
       → Blockers t l (txn t i).awaited_lock (txn t i).awaited_item (txn t i).rank i v
       → {w' : List ℕ} {ok' : Bool} → w' ≡ set w i v → ok' ≡ (c && ok) → Linking t l w' ok' (i + 1)
-  linking-waits d {c} {v} e g {w'} {ok'} p q =
+  linking_waits d {c} {v} e g {w'} {ok'} p q =
       let z = h.size in
       rw (p, q)
       (record {

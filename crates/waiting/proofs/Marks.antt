@@ -16,7 +16,7 @@ use Rattle.rules.specs.Waits.{ahead}
 use Rattle.rules.proofs.Tests.{is_false}
 use Rattle.rules.proofs.Counts.{split-le}
 use Rattle.rules.proofs.Bits.{bit_none, below_bits, one_bit_at}
-use Rattle.rules.proofs.EqualRanks.{awaits→, awaitsOn→, waiter_inside}
+use Rattle.rules.proofs.EqualRanks.{awaits→, awaits_on→, waiter_inside}
 use Rattle.rules.proofs.Walks.{ahead→}
 use Rattle.words.proofs.SlotWords.{or_at, shifted, one_shifted}
 use Rattle.waiting.specs.Waiting.{Ahead}
@@ -63,7 +63,7 @@ pub ahead_of : (t : List ℕ) (k x p w : ℕ) → length t ≡ txn_words base �
 ahead_of t k x p w size m = record { small = below_bits base.slots w (λ b q. slot b (subst T (at b) q)); at = at }
   where
     slot : (b : ℕ) → T (ahead x k p (txn t b)) → b < base.slots
-    slot b q = waiter_inside base t size b (awaits→ (txn t b) (awaitsOn→ x (txn t b) (ahead→ x k p (txn t b) q).0).0)
+    slot b q = waiter_inside base t size b (awaits→ (txn t b) (awaits_on→ x (txn t b) (ahead→ x k p (txn t b) q).0).0)
 
     at : (b : ℕ) → bit w b ≡ ahead x k p (txn t b)
     at b = go (ltb b base.slots) refl

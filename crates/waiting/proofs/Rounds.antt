@@ -10,9 +10,9 @@ use Rattle.rules.specs.Tables.{txn, no_lock, lock}
 use Rattle.rules.specs.Waits.{awaits, waits_for, Walk, no_circle}
 use Rattle.rules.specs.Tested.{awaiter_good, ranks_good}
 use Rattle.rules.proofs.Tests.{false_is, same?, true_is}
-use Rattle.rules.proofs.Counts.{→everyBelow}
+use Rattle.rules.proofs.Counts.{→every_below}
 use Rattle.rules.proofs.Bits.{bit_none}
-use Rattle.rules.proofs.EqualRanks.{awaits→, awaitsOn→, Good→ranks}
+use Rattle.rules.proofs.EqualRanks.{awaits→, awaits_on→, Good→ranks}
 use Rattle.rules.proofs.Walks.{walk_map, waits-for→, waiter_within, no-circle→, →no-circle}
 use Rattle.circles.specs.Links.{linked, LinkWords, Waiting, NoCircle}
 use Rattle.words.proofs.Turns.{iff_eq}
@@ -55,7 +55,7 @@ module _ (t l : List ℕ) (o : Readable t l) (h : Awaiting t 0) where
 
   pub none_awaits : T (awaiters_good base t l)
   unfolding awaiters_good
-  none_awaits = →everyBelow base.slots (λ s. awaiter_good s (txn t s) (lock l (txn t s).awaited_item)) (λ s i. true_is (awaiter_none s (txn t s) (lock l (txn t s).awaited_item) (none s i)))
+  none_awaits = →every_below base.slots (λ s. awaiter_good s (txn t s) (lock l (txn t s).awaited_item)) (λ s i. true_is (awaiter_none s (txn t s) (lock l (txn t s).awaited_item) (none s i)))
 
   pub none_ranked : T (ranks_good base t l)
   none_ranked =
@@ -63,8 +63,8 @@ module _ (t l : List ℕ) (o : Readable t l) (h : Awaiting t 0) where
       (record {
         least = λ s i a. absurd (idle s i a);
         most = λ s i a. absurd (idle s i a);
-        apart = λ x r s i j d a. absurd (idle r i (awaitsOn→ x (txn t r) a).0);
-        exchangers = λ x r s i j a. absurd (idle r i (awaitsOn→ x (txn t r) a).0);
+        apart = λ x r s i j d a. absurd (idle r i (awaits_on→ x (txn t r) a).0);
+        exchangers = λ x r s i j a. absurd (idle r i (awaits_on→ x (txn t r) a).0);
       })
     where
       idle : (s : ℕ) → s < base.slots → T (awaits (txn t s)) → ⊥

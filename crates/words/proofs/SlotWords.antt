@@ -13,7 +13,7 @@ use lib.Dec.{T, eqb, ltb, eqb→eq}
 use borrow.Author.Tests.{eqb-false, ltb-true, ltb-false}
 use Rattle.rules.specs.Words.{bit, with_bit, some_below}
 use Rattle.rules.proofs.Tests.{is_false, true_is, false_is, eq_make}
-use Rattle.rules.proofs.Counts.{someBelow→, →someBelow}
+use Rattle.rules.proofs.Counts.{some_below→, →some_below}
 use Rattle.rules.proofs.Bits.{bit_none, bit_below, no_bits, one_bit_at}
 
 -- ---- digits
@@ -67,9 +67,9 @@ pub has_bit : (n w : ℕ) → w < 2 ^ n → w ≢ 0 → (b : ℕ) × (b < n) × 
 has_bit n w h d = go (some_below n (bit w)) refl
   where
     go : (c : Bool) → some_below n (bit w) ≡ c → (b : ℕ) × (b < n) × T (bit w b)
-    go true e = someBelow→ n (bit w) (true_is e)
+    go true e = some_below→ n (bit w) (true_is e)
     go false e =
-        absurd (d (no_bits w (λ b. is_false (bit w b) (λ t. false_is e (→someBelow n (bit w) b (bit_below w b n h t) t)))))
+        absurd (d (no_bits w (λ b. is_false (bit w b) (λ t. false_is e (→some_below n (bit w) b (bit_below w b n h t) t)))))
 
 -- bits 0, 1, .. that are not set are not all
 pub first-within : (n w s : ℕ) → 0 < w → w < 2 ^ n → ((k : ℕ) → k < s → T (bit w k) → ⊥) → s < n

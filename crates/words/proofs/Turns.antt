@@ -10,11 +10,11 @@ use Rattle.rules.specs.Words.{every_below}
 pub use Rattle.rules.proofs.Tests.{iff_eq}
 pub use Rattle.rules.proofs.Counts.{every_more, some_more}
 use Rattle.rules.proofs.Tests.{and_left, and_right, and_both, is_false, false_is, eq_make}
-use Rattle.rules.proofs.Counts.{everyBelow→}
+use Rattle.rules.proofs.Counts.{every_below→}
 
 -- one that fails
 pub every_false : (p : ℕ → Bool) (n k : ℕ) → k < n → p k ≡ false → every_below n p ≡ false
-every_false p n k h e = is_false (every_below n p) (λ t. false_is e (everyBelow→ n p t k h))
+every_false p n k h e = is_false (every_below n p) (λ t. false_is e (every_below→ n p t k h))
 
 -- an or is zero where both are
 pub or_zero : (a b : ℕ) → eqb (bit_or a b) 0 ≡ (eqb b 0 && eqb a 0)

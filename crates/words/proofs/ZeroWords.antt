@@ -10,7 +10,7 @@ use lib.Dec.{T, eqb, ltb, eqb→eq}
 use borrow.Author.Tests.{ltb-true, ltb-false}
 use Rattle.rules.specs.Words.{every_below, every}
 use Rattle.rules.proofs.Tests.{and_left, and_right, and_both, eq_make}
-use Rattle.rules.proofs.Counts.{everyBelow→, →everyBelow}
+use Rattle.rules.proofs.Counts.{every_below→, →every_below}
 use Rattle.rules.proofs.Choice.{zero_each, zero_all}
 use Rattle.words.specs.Zeros.{zero_words}
 use Rattle.words.proofs.Turns.{iff_eq}
@@ -29,29 +29,29 @@ module _ (l : List ℕ) where
       iff_eq (every_below (a + b) (at from)) (every_below a (at from) && every_below b (at (from + a)))
       (λ t.
       and_both (every_below a (at from)) (every_below b (at (from + a)))
-      (→everyBelow a (at from) (λ k h. everyBelow→ (a + b) (at from) t k (omega arith)))
-      (→everyBelow b (at (from + a))
-      (λ k h. at_same (let e : from + (a + k) ≡ from + a + k = omega arith in e) (everyBelow→ (a + b) (at from) t (a + k) (omega arith)))))
-      (λ t. →everyBelow (a + b) (at from) (λ k h. part t k h (ltb k a) refl))
+      (→every_below a (at from) (λ k h. every_below→ (a + b) (at from) t k (omega arith)))
+      (→every_below b (at (from + a))
+      (λ k h. at_same (let e : from + (a + k) ≡ from + a + k = omega arith in e) (every_below→ (a + b) (at from) t (a + k) (omega arith)))))
+      (λ t. →every_below (a + b) (at from) (λ k h. part t k h (ltb k a) refl))
     where
       part : T (every_below a (at from) && every_below b (at (from + a))) → (k : ℕ) → k < a + b → (c : Bool) → ltb k a ≡ c → T (at from k)
-      part t k h true e = everyBelow→ a (at from) (and_left (every_below a (at from)) (every_below b (at (from + a))) t) k (ltb-true k a e)
+      part t k h true e = every_below→ a (at from) (and_left (every_below a (at from)) (every_below b (at (from + a))) t) k (ltb-true k a e)
       part t k h false e =
           let o : a ≤ k = ltb-false k a e in
           at_same (let z : from + a + (k - a) ≡ from + k = omega arith in z)
-          (everyBelow→ b (at (from + a)) (and_right (every_below a (at from)) (every_below b (at (from + a))) t) (k - a) (omega arith))
+          (every_below→ b (at (from + a)) (and_right (every_below a (at from)) (every_below b (at (from + a))) t) (k - a) (omega arith))
 
   -- the words from place k on, as a list
   pub zeros→ : (k n : ℕ) → T (every (λ w. eqb w 0) (drop k l)) → T (zero_words l k n)
   unfolding zero_words
-  zeros→ k n t = →everyBelow n (at k) (λ j h. eq_make (get_or l (k + j) 0) 0 (sym (get_or-drop k l j 0) ∙ zero_each (drop k l) t j))
+  zeros→ k n t = →every_below n (at k) (λ j h. eq_make (get_or l (k + j) 0) 0 (sym (get_or-drop k l j 0) ∙ zero_each (drop k l) t j))
 
   pub →zeros : (k n : ℕ) → length l ≤ k + n → T (zero_words l k n) → T (every (λ w. eqb w 0) (drop k l))
   unfolding zero_words
   →zeros k n h t = zero_all (drop k l) (λ j. get_or-drop k l j 0 ∙ go j (ltb j n) refl)
     where
       go : (j : ℕ) (c : Bool) → ltb j n ≡ c → get_or l (k + j) 0 ≡ 0
-      go j true e = eqb→eq (get_or l (k + j) 0) 0 (everyBelow→ n (at k) t j (ltb-true j n e))
+      go j true e = eqb→eq (get_or l (k + j) 0) 0 (every_below→ n (at k) t j (ltb-true j n e))
       go j false e = let o : n ≤ j = ltb-false j n e in get_or-eq_default l 0 {n = k + j} (omega arith)
 
 -- an array of zeros

@@ -84,7 +84,7 @@ is-query-requires c κs = (searchable (G (who c)) (good (who c)), inside (who c)
 
 returns-3 : tie.Need-returns-3
 returns-3 c =
-    write-query (G (who c.before.before)) (number (who c.before.before)) (word (who c.before.before)) (slot (who c.before.before)) (found (who c.before.before)) (item c.before.before) (is_known c.before.before) _ _ c.before.is-query.ensures c.if1.true
+    write-query (G (who c.before.before)) (number (who c.before.before)) (word (who c.before.before)) (slot (who c.before.before)) (found (who c.before.before)) (item c.before.before) (is_known c.before.before) _ _ c.before.is_query.ensures c.if1.true
 
 awaits-other-requires : tie.Need-awaits-other-requires
 awaits-other-requires c κs =
@@ -92,7 +92,7 @@ awaits-other-requires c κs =
 
 returns-4 : tie.Need-returns-4
 returns-4 c =
-    write-waits (G (who c.before.before.before.before)) (number (who c.before.before.before.before)) (word (who c.before.before.before.before)) (slot (who c.before.before.before.before)) (found (who c.before.before.before.before)) (item c.before.before.before.before) (is_known c.before.before.before.before) _ _ c.before.before.before.is-query.ensures c.before.before.if1.false _ c.before.awaits-other.ensures c.if2.true
+    write-waits (G (who c.before.before.before.before)) (number (who c.before.before.before.before)) (word (who c.before.before.before.before)) (slot (who c.before.before.before.before)) (found (who c.before.before.before.before)) (item c.before.before.before.before) (is_known c.before.before.before.before) _ _ c.before.before.before.is_query.ensures c.before.before.if1.false _ c.before.awaits-other.ensures c.if2.true
 
 writes-further-requires : tie.Need-writes-further-requires
 writes-further-requires c κs = let at = c.before.before.before.before.before.before in ((good (who at)).locks_exact, inside (who at), item-below at)
@@ -102,18 +102,18 @@ writes-past-requires c κs = let at = c.before.before.before.before in (searchab
 
 returns-5 : tie.Need-returns-5
 returns-5 c =
-    write-past (G (who c.before.before.before.before.before.before)) (number (who c.before.before.before.before.before.before)) (word (who c.before.before.before.before.before.before)) (slot (who c.before.before.before.before.before.before)) (found (who c.before.before.before.before.before.before)) (item c.before.before.before.before.before.before) (is_known c.before.before.before.before.before.before) _ _ c.before.before.before.before.before.is-query.ensures c.before.before.before.before.if1.false _ c.before.before.before.awaits-other.ensures c.before.before.if2.false _ c.before.writes-past.ensures c.if3.true
+    write-past (G (who c.before.before.before.before.before.before)) (number (who c.before.before.before.before.before.before)) (word (who c.before.before.before.before.before.before)) (slot (who c.before.before.before.before.before.before)) (found (who c.before.before.before.before.before.before)) (item c.before.before.before.before.before.before) (is_known c.before.before.before.before.before.before) _ _ c.before.before.before.before.before.is_query.ensures c.before.before.before.before.if1.false _ c.before.before.before.awaits-other.ensures c.before.before.if2.false _ c.before.writes-past.ensures c.if3.true
 
 access-requires : tie.Need-access-requires
 access-requires c κs = let at = c.before.before.before.before.before.before.before.before in (good (who at), inside (who at), item-below at, omega arith)
 
 returns-6 : tie.Need-returns-6
 returns-6 c =
-    write_full (G (who c.before.before.before.before.before.before.before.before)) (number (who c.before.before.before.before.before.before.before.before)) (word (who c.before.before.before.before.before.before.before.before)) (slot (who c.before.before.before.before.before.before.before.before)) (found (who c.before.before.before.before.before.before.before.before)) (item c.before.before.before.before.before.before.before.before) (is_known c.before.before.before.before.before.before.before.before) _ _ c.before.before.before.before.before.before.before.is-query.ensures c.before.before.before.before.before.before.if1.false _ c.before.before.before.before.before.awaits-other.ensures c.before.before.before.before.if2.false _ c.before.before.before.writes-past.ensures c.before.before.if3.false _ c.before.writes-further.ensures c.if4.true
+    write_full (G (who c.before.before.before.before.before.before.before.before)) (number (who c.before.before.before.before.before.before.before.before)) (word (who c.before.before.before.before.before.before.before.before)) (slot (who c.before.before.before.before.before.before.before.before)) (found (who c.before.before.before.before.before.before.before.before)) (item c.before.before.before.before.before.before.before.before) (is_known c.before.before.before.before.before.before.before.before) _ _ c.before.before.before.before.before.before.before.is_query.ensures c.before.before.before.before.before.before.if1.false _ c.before.before.before.before.before.awaits-other.ensures c.before.before.before.before.if2.false _ c.before.before.before.writes-past.ensures c.before.before.if3.false _ c.before.writes-further.ensures c.if4.true
 
 returns-7 : tie.Need-returns-7
 returns-7 c =
-    c.access.ensures ∙ write-asks (G (who c.before.before.before.before.before.before.before.before.before)) (number (who c.before.before.before.before.before.before.before.before.before)) (word (who c.before.before.before.before.before.before.before.before.before)) (slot (who c.before.before.before.before.before.before.before.before.before)) (found (who c.before.before.before.before.before.before.before.before.before)) (item c.before.before.before.before.before.before.before.before.before) (is_known c.before.before.before.before.before.before.before.before.before) _ _ c.before.before.before.before.before.before.before.before.is-query.ensures c.before.before.before.before.before.before.before.if1.false _ c.before.before.before.before.before.before.awaits-other.ensures c.before.before.before.before.before.if2.false _ c.before.before.before.before.writes-past.ensures c.before.before.before.if3.false _ c.before.before.writes-further.ensures c.before.if4.false
+    c.access.ensures ∙ write-asks (G (who c.before.before.before.before.before.before.before.before.before)) (number (who c.before.before.before.before.before.before.before.before.before)) (word (who c.before.before.before.before.before.before.before.before.before)) (slot (who c.before.before.before.before.before.before.before.before.before)) (found (who c.before.before.before.before.before.before.before.before.before)) (item c.before.before.before.before.before.before.before.before.before) (is_known c.before.before.before.before.before.before.before.before.before) _ _ c.before.before.before.before.before.before.before.before.is_query.ensures c.before.before.before.before.before.before.before.if1.false _ c.before.before.before.before.before.before.awaits-other.ensures c.before.before.before.before.before.if2.false _ c.before.before.before.before.writes-past.ensures c.before.before.before.if3.false _ c.before.before.writes-further.ensures c.before.if4.false
 
 pub write-by-spec : {M : Type 1} → statement M
 write-by-spec =

@@ -2,7 +2,7 @@
 use Prim.Native.Nat.{ℕ}
 use mathlib.Core.Path.{sym, ◌∙◌, subst}
 use Rattle.waiting.specs.Waiting.{Ahead}
-use Rattle.cells.proofs.Others.{ahead-is, none_ahead}
+use Rattle.cells.proofs.Others.{ahead_is, none_ahead}
 use borrow.Author.Tests.{not-true}
 use borrow.Author.Rules.{rules}
 use Rattle.cells.proofs.another_ahead.Statement.{statement}
@@ -29,7 +29,7 @@ returns-2 c = let a = c.before.before.before.before.before.before.before.args in
     let t = a.txns.now in
     let x = a.item.0 in
     let w = c.before.ahead in
-    ahead-is t a.locks.now a.wanted x a.slot.0 w.result c.before.before.before.before.before.before.before.requires.2
+    ahead_is t a.locks.now a.wanted x a.slot.0 w.result c.before.before.before.before.before.before.before.requires.2
     (subst (λ (p : ℕ). Ahead t a.wanted x p w.result) c.before.before.rank-for.ensures w.ensures)
 
 pub another-ahead-spec : {M : Type 1} → statement M

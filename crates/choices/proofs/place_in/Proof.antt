@@ -10,7 +10,7 @@ use Rattle.rules.proofs.Tests.{true_is, is_true, and_left, and_right}
 use Rattle.rules.specs.Tables.{up_to}
 use Rattle.choices.specs.Pairs.{count_in}
 use Rattle.choices.specs.Looks.{halvings, most_looks}
-use Rattle.choices.proofs.Halved.{Halved, within, few_looks, begin, turned_right, turned_left, done, looked-enough, too_new, old_enough_lem}
+use Rattle.choices.proofs.Halved.{Halved, within, few_looks, begin, turned_right, turned_left, done, looked_enough, too_new, old_enough_lem}
 use Rattle.choices.proofs.place_in.Statement.{statement}
 use Rattle.choices.proofs.place_in.Tie as tie
 
@@ -95,7 +95,7 @@ returns c =
     let l = c.before.loop in
     let s = c.before.before.before in
     done (row s) (up_to s.args.start) s.requires l.lo l.hi l.invariant.0
-    (looked-enough l.lo l.hi l.looks l.invariant.1 c.loop-test.false)
+    (looked_enough l.lo l.hi l.looks l.invariant.1 c.loop-test.false)
 
 pub place-in-spec : {M : Type 1} → statement M
 place-in-spec =

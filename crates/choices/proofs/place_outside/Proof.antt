@@ -10,7 +10,7 @@ use Rattle.rules.proofs.Tests.{true_is, is_true, and_left, and_right}
 use Rattle.rules.specs.Tables.{outside}
 use Rattle.choices.specs.Pairs.{count_in}
 use Rattle.choices.specs.Looks.{halvings, most_looks}
-use Rattle.choices.proofs.Halved.{Halved, within, few_looks, begin, turned_right, turned_left, done, looked-enough, hidden-from, shown_to_lem}
+use Rattle.choices.proofs.Halved.{Halved, within, few_looks, begin, turned_right, turned_left, done, looked_enough, hidden-from, shown_to_lem}
 use Rattle.choices.proofs.place_outside.Statement.{statement}
 use Rattle.choices.proofs.place_outside.Tie as tie
 
@@ -95,7 +95,7 @@ returns c =
     let l = c.before.loop in
     let s = c.before.before.before in
     done (row s) (outside s.args.slot) s.requires.0 l.from l.to l.invariant.0
-    (looked-enough l.from l.to l.looks l.invariant.1 c.loop-test.false)
+    (looked_enough l.from l.to l.looks l.invariant.1 c.loop-test.false)
 
 pub place-outside-spec : {M : Type 1} → statement M
 place-outside-spec =

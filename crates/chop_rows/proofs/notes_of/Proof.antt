@@ -6,7 +6,7 @@ use lib.ListN.{length, take}
 use Rattle.chop_rows.specs.declared.Row.{Row}
 use Rattle.chop_rows.specs.RowPieces.{noted_by}
 use Rattle.chop_rows.specs.Notes.{OneMore}
-use Rattle.chop_rows.proofs.OneMore.{Going, going_on, going-out, going_end}
+use Rattle.chop_rows.proofs.OneMore.{Going, going_on, going_out, going_end}
 use borrow.Author.Rules.{rules}
 use Rattle.chop_rows.proofs.notes_of.Statement.{statement}
 use Rattle.chop_rows.proofs.notes_of.Tie as tie
@@ -31,7 +31,7 @@ returns : tie.Need-returns invariant-loop decreases-loop
 returns c =
     let words = c.before.before.before.before.before.before.before.args.words.now in
     let at = c.before.before.before.before.before.loop in
-    going-out words at.notes c.before.before.note.result at.at at.invariant
+    going_out words at.notes c.before.before.note.result at.at at.invariant
     (subst (λ (r : Row). OneMore r (take at.notes.count at.notes.pieces) c.before.before.note.result) c.before.before.before.row_at.ensures c.before.before.note.ensures) c.before.before.before.before.loop-test.true c.if1.true
 
 add_at : tie.Need-overflow-add-at invariant-loop decreases-loop

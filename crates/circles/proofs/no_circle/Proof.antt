@@ -4,7 +4,7 @@ use Prim.Native.Nat.{◌^◌, ◌<◌}
 use native.Mathlib.Omega.{arith}
 use Rattle.names.specs.Sizes.{base}
 use Rattle.circles.specs.Peel.{Keeps}
-use Rattle.circles.proofs.Peeling.{all_kept, nothing_left, something-left}
+use Rattle.circles.proofs.Peeling.{all_kept, nothing_left, something_left}
 use Rattle.circles.proofs.no_circle.Statement.{statement}
 use Rattle.circles.proofs.no_circle.Tie as tie
 
@@ -31,7 +31,7 @@ returns-2 c =
     let at = c.before.before.before.before.loop in
     let some = c.before.before.before.loop-test.true in
     let stuck = c.before.before.peel-up.ensures.stuck c.if2.true in
-    something-left c.before.before.before.before.before.before.args.waits.now at.left at.invariant.0 some stuck
+    something_left c.before.before.before.before.before.before.args.waits.now at.left at.invariant.0 some stuck
 
 peel-down-requires : tie.Need-peel-down-requires invariant-loop decreases-loop
 peel-down-requires c κs = c.before.before.before.before.before.before.requires.0

@@ -3,7 +3,7 @@ use Prim.Native.Nat.{◌-◌, ◌≤◌}
 use native.Mathlib.Omega.{arith}
 use borrow.Author.Rules.{rules}
 use Rattle.names.specs.Sizes.{base}
-use Rattle.circles.proofs.Peeling.{Sweeping, From, one_down, sweep_begin, sweep-step, sweep_end}
+use Rattle.circles.proofs.Peeling.{Sweeping, From, one_down, sweep_begin, sweep_step, sweep_end}
 use Rattle.circles.proofs.peel_down.Statement.{statement}
 use Rattle.circles.proofs.peel_down.Tie as tie
 
@@ -30,7 +30,7 @@ loop-again c =
     let a = c.before.before.before.before.args in
     let at = c.before.before.loop in
     let i = at.slot in
-    let step = sweep-step a.waits.now a.left (From i) at.rest (i - 1) (From (i - 1)) (one_down i) at.invariant.1 c.peel.ensures in
+    let step = sweep_step a.waits.now a.left (From i) at.rest (i - 1) (From (i - 1)) (one_down i) at.invariant.1 c.peel.ensures in
     (omega arith, step)
 
 returns : tie.Need-returns invariant-loop decreases-loop

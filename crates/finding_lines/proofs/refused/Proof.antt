@@ -3,7 +3,7 @@ use mathlib.Core.Path.{sym, ap, ◌∙◌}
 use native.Mathlib.Omega.{arith}
 use lib.ListN.{length, take}
 use Rattle.numerals.proofs.Decimals.{length-spaced}
-use Rattle.texts.proofs.Written.{wrote-more}
+use Rattle.texts.proofs.Written.{wrote_more}
 use Rattle.finding_lines.specs.Lines.{refused_line}
 use Rattle.finding_lines.proofs.Printed.{map-length}
 use borrow.Author.Rules.{rules}
@@ -49,7 +49,7 @@ returns c =
     let p = c.before.before.before.before.before.before.before.before.before.before.before.before.before.before.before.before.before.requires in
     let one = c.before.before.before.before.before.before.before.before.before.before.before.put-text.ensures in
     let k = c.before.before.before.before.before.before.before.before.before.before.out.given in
-    rw (sym e) (wrote-more (omega (arith, p.1)) one (wrote-more (omega (arith, l, m, p.0.0, p.1, one.index, k)) c.before.before.before.before.before.before.print-words.ensures c.before.before.put.ensures))
+    rw (sym e) (wrote_more (omega (arith, p.1)) one (wrote_more (omega (arith, l, m, p.0.0, p.1, one.index, k)) c.before.before.before.before.before.before.print-words.ensures c.before.before.put.ensures))
 
 pub refused-spec : {M : Type 1} → statement M
 refused-spec =

@@ -2,7 +2,7 @@
 use mathlib.Core.Path.{sym, ap, ◌∙◌}
 use native.Mathlib.Omega.{arith}
 use Rattle.finest.specs.Rows.{said}
-use Rattle.finest.proofs.Writing.{named-is, rows-many, rows-unknown, rows-malformed, rows_cut_lem}
+use Rattle.finest.proofs.Writing.{named_is, rows-many, rows-unknown, rows-malformed, rows_cut_lem}
 use borrow.Author.Rules.{rules}
 use Rattle.finest.proofs.finest.Statement.{statement}
 use Rattle.finest.proofs.finest.Tie as tie
@@ -46,7 +46,7 @@ returns-4 : tie.Need-returns-4
 unfolding said
 returns-4 c =
     let words = c.before.before.before.before.before.before.before.args.words.now in
-    named-is words c.names_of.result c.names_of.ensures
+    named_is words c.names_of.result c.names_of.ensures
     ∙ ap said
     (sym (rows_cut_lem words (omega arith) (sym c.before.before.before.before.some-unknown.ensures ∙ c.before.before.before.if2.false) (sym c.before.before.some-malformed.ensures ∙ c.before.if3.false)))
 

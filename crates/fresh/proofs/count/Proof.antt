@@ -4,7 +4,7 @@ use mathlib.Core.Path.{sym, ◌∙◌}
 use native.Mathlib.Omega.{arith}
 use borrow.Author.Rules.{rules}
 use Rattle.names.specs.Sizes.{base}
-use Rattle.fresh.proofs.Filling.{Counted, none_counted, one_counted, all-counted}
+use Rattle.fresh.proofs.Filling.{Counted, none_counted, one_counted, all_counted}
 use Rattle.fresh.proofs.count.Statement.{statement}
 use Rattle.fresh.proofs.count.Tie as tie
 
@@ -39,7 +39,7 @@ same_length : tie.Need-same-length invariant-loop decreases-loop
 same_length c = c.before.loop.invariant.size ∙ sym c.before.before.requires
 
 returns : tie.Need-returns invariant-loop decreases-loop
-returns c = all-counted _ _ _ c.before.before.requires (omega arith) c.before.loop.invariant
+returns c = all_counted _ _ _ c.before.before.requires (omega arith) c.before.loop.invariant
 
 pub count_spec : {M : Type 1} → statement M
 count_spec =

@@ -8,7 +8,7 @@ use lib.ListN.{length, get_or}
 use Rattle.rules.specs.Words.{bit}
 use Rattle.graph.specs.Sets.{those, meets}
 use Rattle.graph.specs.Near.{grown}
-use Rattle.graph.proofs.Sets.{those-turn}
+use Rattle.graph.proofs.Sets.{those_turn}
 use borrow.Author.Rules.{rules}
 use Rattle.graph.proofs.grown.Statement.{statement}
 use Rattle.graph.proofs.grown.Tie as tie
@@ -53,7 +53,7 @@ unfolding bit meets joining
 loop-again c =
     let a = c.before.before.before.before.before.args in
     let at = c.before.before.before.loop in
-    (omega arith, those-turn (joining a.links.now a.room a.set) at.at at.out _ at.invariant.1 c.including.ensures)
+    (omega arith, those_turn (joining a.links.now a.room a.set) at.at at.out _ at.invariant.1 c.including.ensures)
 
 returns : tie.Need-returns invariant-loop decreases-loop
 unfolding grown joining

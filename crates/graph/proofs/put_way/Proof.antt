@@ -3,7 +3,7 @@ use mathlib.Core.Path.{ap, ap₂, ◌∙◌}
 use native.Mathlib.Omega.{arith}
 use lib.Bits.{bit_and}
 use Rattle.graph.specs.Sets.{lowest}
-use Rattle.graph.proofs.Laying.{Laying, lay_start, lay_step, lay-end}
+use Rattle.graph.proofs.Laying.{Laying, lay_start, lay_step, lay_end}
 use borrow.Author.Rules.{rules}
 use Rattle.graph.proofs.put_way.Statement.{statement}
 use Rattle.graph.proofs.put_way.Tie as tie
@@ -82,7 +82,7 @@ returns : tie.Need-returns invariant-loop decreases-loop
 returns c =
     let a = c.before.before.before.before.args in
     let at = c.before.loop in
-    lay-end a.links.now a.room a.goal a.from a.count a.out.now at.out at.at at.left at.place
+    lay_end a.links.now a.room a.goal a.from a.count a.out.now at.out at.at at.left at.place
     c.before.before.before.before.requires.2 (omega arith) at.invariant
 
 pub put-way-spec : {M : Type 1} → statement M

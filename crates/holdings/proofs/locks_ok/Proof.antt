@@ -7,7 +7,7 @@ use lib.ListN.{get_or}
 use Rattle.names.specs.Sizes.{base}
 use Rattle.names.specs.Layout.{lock_exclusive_at}
 use Rattle.rules.specs.Tables.{lock_row, lock}
-use Rattle.holdings.proofs.Counting.{Counting, counting_begin, counting-none, counting-one, counting_right, counting_end, few}
+use Rattle.holdings.proofs.Counting.{Counting, counting_begin, counting_none, counting_one, counting_right, counting_end, few}
 use Rattle.holdings.proofs.locks_ok.Statement.{statement}
 use Rattle.holdings.proofs.locks_ok.Tie as tie
 
@@ -88,10 +88,10 @@ loop-again c =
     let k = c.before.before.before.before.before.loop-test.true in
     let tested = c.before.lock-ok.ensures in
     ⊎_elim
-    (λ w. counting-one a.updates a.holders l g.counts g.most g.ok g.item k g.invariant tested w.0.taken w.1.taken w.2 w.3 refl)
+    (λ w. counting_one a.updates a.holders l g.counts g.most g.ok g.item k g.invariant tested w.0.taken w.1.taken w.2 w.3 refl)
     (⊎_elim
-    (λ w. counting-none a.updates a.holders l g.counts g.most g.ok g.item k g.invariant tested (λ s j z. let b = w.1.left in omega arith) w.2 w.3 refl)
-    (λ w. counting-none a.updates a.holders l g.counts g.most g.ok g.item k g.invariant tested (λ s j z. let b = w.0.left in omega arith) w.1 w.2 refl))
+    (λ w. counting_none a.updates a.holders l g.counts g.most g.ok g.item k g.invariant tested (λ s j z. let b = w.1.left in omega arith) w.2 w.3 refl)
+    (λ w. counting_none a.updates a.holders l g.counts g.most g.ok g.item k g.invariant tested (λ s j z. let b = w.0.left in omega arith) w.1 w.2 refl))
     c.if1.branch
 
 returns : tie.Need-returns invariant-loop decreases-loop

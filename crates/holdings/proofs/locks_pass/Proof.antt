@@ -9,7 +9,7 @@ use lib.Bits.{bit_or, or_add_and, and_le_l, and_le_r, or_lt}
 use Rattle.names.specs.Sizes.{base}
 use Rattle.shapes.specs.Shape.{updates_in, settled_in}
 use Rattle.holdings.specs.Holding.{locks_good, locks_ok}
-use Rattle.holdings.proofs.Holders.{locks-same, none_held-same}
+use Rattle.holdings.proofs.Holders.{locks-same, none_held_same}
 use Rattle.holdings.proofs.Quotas.{counted_same, counted-few, idle-few}
 use Rattle.holdings.proofs.locks_pass.Statement.{statement}
 use Rattle.holdings.proofs.locks_pass.Tie as tie
@@ -29,7 +29,7 @@ returns c =
     let w = c.before.before.before.before.args.settled in
     let z : bit_or u w ≡ 0 = c.before.if1.true in
     let z₁ : u ≡ 0 = omega (arith, or_add_and u w, and_le_r u w, and_le_l u w) in
-    λ e f. c.none-held.ensures ∙ none_held-same l ∙ ap₂ (λ (u w : ℕ). locks_ok u w l) (sym z₁) (sym z) ∙ passed t l u w e f ∙ idle-few t l (sym (ap₂ bit_or e f) ∙ z)
+    λ e f. c.none-held.ensures ∙ none_held_same l ∙ ap₂ (λ (u w : ℕ). locks_ok u w l) (sym z₁) (sym z) ∙ passed t l u w e f ∙ idle-few t l (sym (ap₂ bit_or e f) ∙ z)
 
 locks-ok-requires : tie.Need-locks-ok-requires
 locks-ok-requires c κs =

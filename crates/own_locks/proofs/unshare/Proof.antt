@@ -7,7 +7,7 @@ use mathlib.Core.Path.{refl, sym, ◌∙◌, subst}
 use native.Mathlib.Omega.{arith}
 use Rattle.names.specs.Sizes.{base}
 use Rattle.rules.specs.Tables.{unshared}
-use Rattle.own_locks.proofs.Releases.{Released, none_released, one-released, all-unshared}
+use Rattle.own_locks.proofs.Releases.{Released, none_released, one_released, all_unshared}
 
 abbrev invariant-loop : tie.invariant-loop
 invariant-loop locks₀ slot x₀ locks x = Released (unshared slot.0) locks₀ locks x
@@ -32,13 +32,13 @@ loop-again c =
     let a = c.before.before.before.before.before.before.before.args in
     let l = c.before.before.before.before.before.loop in
     subst (λ (m : List ℕ). Released (unshared a.slot.0) a.locks.now m (l.x + 1)) (sym c.before.before.unshare-item.ensures)
-    (one-released (unshared a.slot.0) a.locks.now l.locks l.x _ (omega arith) l.invariant refl)
+    (one_released (unshared a.slot.0) a.locks.now l.locks l.x _ (omega arith) l.invariant refl)
 
 same_length : tie.Need-same-length invariant-loop decreases-loop
 same_length c = c.before.loop.invariant.size ∙ sym c.before.before.before.requires.0
 
 returns : tie.Need-returns invariant-loop decreases-loop
-returns c = all-unshared _ _ _ _ c.before.before.before.requires.0 (omega arith) c.before.loop.invariant
+returns c = all_unshared _ _ _ _ c.before.before.before.requires.0 (omega arith) c.before.loop.invariant
 
 pub unshare-spec : {M : Type 1} → statement M
 unshare-spec =

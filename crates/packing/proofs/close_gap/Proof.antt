@@ -3,7 +3,7 @@ use borrow.Author.Rules.{rules}
 use mathlib.Core.Path.{◌∙◌}
 use native.Mathlib.Omega.{arith}
 use lib.ListN.{length-set}
-use Rattle.packing.proofs.Words.{gap-closed}
+use Rattle.packing.proofs.Words.{gap_closed}
 use Rattle.packing.proofs.close_gap.Statement.{statement}
 use Rattle.packing.proofs.close_gap.Tie as tie
 
@@ -86,7 +86,7 @@ returns : tie.Need-returns
 returns c =
     let a = c.before.before.before.before.before.before.before.before.before.before.args in
     let p = c.before.before.before.before.before.before.before.before.before.before.requires in
-    gap-closed a.row.now p.0 a.k p.1 _ _ c.before.before.before.before.before.before.move_up.ensures c.before.before.move-up2.ensures
+    gap_closed a.row.now p.0 a.k p.1 _ _ c.before.before.before.before.before.before.move_up.ensures c.before.before.move-up2.ensures
 
 pub close-gap-spec : {M : Type 1} → statement M
 close-gap-spec =

@@ -8,7 +8,7 @@ use Rattle.names.specs.Sizes.{base}
 use Rattle.rules.specs.Versions.{row_of}
 use Rattle.choices.specs.Pairs.{count_in}
 use Rattle.packing.proofs.Words.{row_same}
-use Rattle.packing.proofs.Test.{newest-stays, inside, behind, all_stay, one-goes}
+use Rattle.packing.proofs.Test.{newest-stays, inside, behind, all_stay, one_goes}
 use Rattle.packing.proofs.forget.Statement.{statement}
 use Rattle.packing.proofs.forget.Tie as tie
 
@@ -103,7 +103,7 @@ returns-3 c =
     let a = at.before.before.before.before.before.args in
     let p = at.before.before.before.before.before.requires in
     c.before.before.close-gap.ensures
-    ∙ ap (row_of base) (sym (one-goes (row at) p.0 a.start a.below a.next p.1 at.before.before.if1.false at.IsPlace-in.result at.IsPlace-in.ensures c.before.before.before.before.if2.false))
+    ∙ ap (row_of base) (sym (one_goes (row at) p.0 a.start a.below a.next p.1 at.before.before.if1.false at.IsPlace-in.result at.IsPlace-in.ensures c.before.before.before.before.if2.false))
 
 pub forget-spec : {M : Type 1} → statement M
 forget-spec =

@@ -11,7 +11,7 @@ use Rattle.names.specs.Sizes.{base}
 use Rattle.rules.specs.Tables.{version_row, masks_at}
 use Rattle.rules.specs.Versions.{versions_in, row_of}
 use Rattle.rules.proofs.Tests.{true_is}
-use Rattle.packing.proofs.Words.{front-instead, front-of-all}
+use Rattle.packing.proofs.Words.{front_instead, front_of_all}
 use Rattle.packing.proofs.Test.{first-stays}
 use Rattle.packing.proofs.put_front.Statement.{statement}
 use Rattle.packing.proofs.put_front.Tie as tie
@@ -77,11 +77,11 @@ returns c =
     ⊎_elim
     (λ w.
     ap (λ (l : List ℕ). set (set (set l 1 a.stamp) 2 a.value) (masks_at base) a.hidden) w.10
-    ∙ front-of-all r p.tidy a.stamp a.value a.hidden _ _ w.3.ensures w.7.ensures (p.room (true_is (sym e ∙ w.0.taken)))
+    ∙ front_of_all r p.tidy a.stamp a.value a.hidden _ _ w.3.ensures w.7.ensures (p.room (true_is (sym e ∙ w.0.taken)))
     ∙ ap (λ (b : Bool). row_of base (record { stamp = a.stamp; value = a.value; hidden = a.hidden } ∷ cond b vs (drop 1 vs))) (sym (sym e ∙ w.0.taken)))
     (λ w.
     ap (λ (l : List ℕ). set (set (set l 1 a.stamp) 2 a.value) (masks_at base) a.hidden) w.1
-    ∙ front-instead r p.tidy a.stamp a.value a.hidden
+    ∙ front_instead r p.tidy a.stamp a.value a.hidden
     ∙ ap (λ (b : Bool). row_of base (record { stamp = a.stamp; value = a.value; hidden = a.hidden } ∷ cond b vs (drop 1 vs))) (sym (sym e ∙ w.0.left)))
     c.if1.branch
 

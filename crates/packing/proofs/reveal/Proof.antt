@@ -12,7 +12,7 @@ use Rattle.rules.specs.Tables.{masks_at, version_row}
 use Rattle.rules.specs.Versions.{row_of}
 use Rattle.choices.specs.Pairs.{count_in}
 use Rattle.packing.proofs.Words.{row_same}
-use Rattle.packing.proofs.Reveals.{read-inside, masks_set, none_hidden, shown-tidy, shown-inside, shown-all, shown-less}
+use Rattle.packing.proofs.Reveals.{read-inside, masks_set, none_hidden, shown-tidy, shown-inside, shown_all, shown-less}
 use Rattle.packing.proofs.reveal.Statement.{statement}
 use Rattle.packing.proofs.reveal.Tie as tie
 
@@ -109,7 +109,7 @@ returns-2 c =
     let a = at.before.before.before.before.before.before.before.before.before.args in
     let p = at.before.before.before.before.before.before.before.before.before.requires in
     let k = at.before.before.before.before.before.place-outside in
-    shown-all a.row.now p.0 a.slot p.2 k.result k.ensures (shown at) at.before.before.show.ensures (place_of at).0 a.starts.now
+    shown_all a.row.now p.0 a.slot p.2 k.result k.ensures (shown at) at.before.before.show.ensures (place_of at).0 a.starts.now
     (ap (λ (b : Bool). b || differ at) (sym c.before.before.before.some-between.ensures) ∙ c.if2.true)
 
 close-gap-requires : tie.Need-close-gap-requires

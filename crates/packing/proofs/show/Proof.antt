@@ -8,7 +8,7 @@ use Rattle.names.specs.Sizes.{base}
 use Rattle.rules.specs.Words.{bit, without_bit}
 use Rattle.rules.specs.Tables.{masks_at}
 use Rattle.packing.specs.Moved.{Shown}
-use Rattle.packing.proofs.Shifts.{show_begin, show-step, power_le, power_is, without_is}
+use Rattle.packing.proofs.Shifts.{show_begin, show_step, power_le, power_is, without_is}
 use Rattle.packing.proofs.show.Statement.{statement}
 use Rattle.packing.proofs.show.Tie as tie
 
@@ -69,7 +69,7 @@ loop-again c =
     let l = c.before.before.loop in
     let s = a.slot in (
       omega arith,
-      show-step a.row.now l.row s l.k (omega arith) l.invariant.1
+      show_step a.row.now l.row s l.k (omega arith) l.invariant.1
           (ap (λ (w : ℕ). mask c.before - w) (power_is s c.before.before.before.requires.2) ∙ sym (without_is (mask c.before) s (still c.before))),
     )
 

@@ -12,7 +12,7 @@ use Rattle.names.specs.Layout.{lock_exclusive_at}
 use Rattle.rules.specs.Words.{row}
 use Rattle.rules.specs.Tables.{version_row, version_words, lock_row}
 use Rattle.packing.specs.Changed.{Frontable}
-use Rattle.rewrites.proofs.Committed.{Committed, none_committed, committed-size, next_frontable, one-committed, all-committed}
+use Rattle.rewrites.proofs.Committed.{Committed, none_committed, committed-size, next_frontable, one_committed, all_committed}
 
 abbrev invariant-loop : tie.invariant-loop
 invariant-loop versions₀ locks hidden below owner stamp i₀ versions i = (i ≤ base.items) × Committed versions₀ locks owner stamp hidden below versions i
@@ -83,7 +83,7 @@ loop-again c =
     let a = c.before.before.before.before.before.before.before.before.before.before.before.args in
     let p = c.before.before.before.before.before.before.before.before.before.before.before.requires in
     let l = c.before.before.before.before.before.before.before.loop in
-    (omega arith, one-committed a.versions.now a.locks.now a.slot.0 a.stamp.0 a.hidden a.below p l.versions l.i l.invariant.1 c.before.before.before.before.before.before.loop-test.true c.before.before.commit-item.ensures)
+    (omega arith, one_committed a.versions.now a.locks.now a.slot.0 a.stamp.0 a.hidden a.below p l.versions l.i l.invariant.1 c.before.before.before.before.before.before.loop-test.true c.before.before.commit-item.ensures)
 
 same_length : tie.Need-same-length invariant-loop decreases-loop
 same_length c = size c.before ∙ sym c.before.before.before.before.before.requires.tidy.size
@@ -92,7 +92,7 @@ returns : tie.Need-returns invariant-loop decreases-loop
 returns c =
     let a = c.before.before.before.before.before.args in
     let l = c.before.loop in
-    all-committed a.versions.now a.locks.now a.slot.0 a.stamp.0 a.hidden a.below c.before.before.before.before.before.requires l.versions l.i l.invariant.1 l.invariant.0 c.loop-test.false
+    all_committed a.versions.now a.locks.now a.slot.0 a.stamp.0 a.hidden a.below c.before.before.before.before.before.requires l.versions l.i l.invariant.1 l.invariant.0 c.loop-test.false
 
 pub commit-all-spec : {M : Type 1} → statement M
 commit-all-spec =

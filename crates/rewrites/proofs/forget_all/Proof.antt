@@ -11,7 +11,7 @@ use Rattle.rules.specs.Words.{row}
 use Rattle.rules.specs.Tables.{version_row, version_words, up_to}
 use Rattle.rules.specs.Versions.{versions_in, place}
 use Rattle.packing.specs.Changed.{TidyRow}
-use Rattle.rewrites.proofs.Forgotten.{Forgotten, none_forgotten, forgotten-size, next-tidy, next-found, one-forgotten, all-forgotten, none_goes}
+use Rattle.rewrites.proofs.Forgotten.{Forgotten, none_forgotten, forgotten-size, next-tidy, next-found, one_forgotten, all_forgotten, none_goes}
 
 abbrev invariant-loop : tie.invariant-loop
 invariant-loop versions₀ start below next i₀ versions i = (i ≤ base.items) × Forgotten versions₀ start below next versions i
@@ -62,7 +62,7 @@ loop-again c =
     let a = c.before.before.before.before.before.before.before.before.args in
     let p = c.before.before.before.before.before.before.before.before.requires in
     let l = c.before.before.before.before.before.loop in
-    (omega arith, one-forgotten a.versions.now a.start.0 a.beside.below a.beside.next p l.versions l.i l.invariant.1 c.before.before.before.before.loop-test.true c.before.before.forget-item.ensures)
+    (omega arith, one_forgotten a.versions.now a.start.0 a.beside.below a.beside.next p l.versions l.i l.invariant.1 c.before.before.before.before.loop-test.true c.before.before.forget-item.ensures)
 
 same_length : tie.Need-same-length invariant-loop decreases-loop
 same_length c = size c.before ∙ sym c.before.before.before.before.requires.tidy.size
@@ -71,7 +71,7 @@ returns-2 : tie.Need-returns-2 invariant-loop decreases-loop
 returns-2 c =
     let a = c.before.before.before.before.args in
     let l = c.before.loop in
-    all-forgotten a.versions.now a.start.0 a.beside.below a.beside.next c.before.before.before.before.requires l.versions l.i l.invariant.1 l.invariant.0 c.loop-test.false
+    all_forgotten a.versions.now a.start.0 a.beside.below a.beside.next c.before.before.before.before.requires l.versions l.i l.invariant.1 l.invariant.0 c.loop-test.false
 
 pub forget-all-spec : {M : Type 1} → statement M
 forget-all-spec =

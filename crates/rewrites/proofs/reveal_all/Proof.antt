@@ -6,7 +6,7 @@ use native.Mathlib.Omega.{arith}
 use lib.ListN.{length}
 use Rattle.names.specs.Sizes.{base}
 use Rattle.rules.specs.Tables.{version_words}
-use Rattle.rewrites.proofs.Shown.{ShownTo, none_shown, shown-size, next-tidy, next-found, one-shown, all_shown}
+use Rattle.rewrites.proofs.Shown.{ShownTo, none_shown, shown-size, next-tidy, next-found, one_shown, all_shown}
 use Rattle.rewrites.proofs.reveal_all.Statement.{statement}
 use Rattle.rewrites.proofs.reveal_all.Tie as tie
 
@@ -49,7 +49,7 @@ loop-again : tie.Need-loop-preserved invariant-loop decreases-loop
 loop-again c =
     let a = c.before.before.before.before.before.before.before.before.args in
     let l = c.before.before.before.before.before.loop in
-    (omega arith, one-shown a.versions.now a.slot.0 a.starts.now c.before.before.before.before.before.before.before.before.requires l.versions l.i l.invariant.1 c.before.before.before.before.loop-test.true c.before.before.reveal-item.ensures)
+    (omega arith, one_shown a.versions.now a.slot.0 a.starts.now c.before.before.before.before.before.before.before.before.requires l.versions l.i l.invariant.1 c.before.before.before.before.loop-test.true c.before.before.reveal-item.ensures)
 
 same_length : tie.Need-same-length invariant-loop decreases-loop
 same_length c = size c.before ∙ sym c.before.before.before.before.requires.tidy.size

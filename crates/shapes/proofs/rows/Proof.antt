@@ -11,7 +11,7 @@ use Rattle.rules.specs.Tested.{tops_most}
 use mathlib.Core.Bool.{◌&&◌}
 use Rattle.shapes.specs.Shape.{row_good, rows_good, updates_in, waiting_in, settled_in, later_in, or_below, waits, txn_of}
 use Rattle.shapes.proofs.Seeing.{free-same, update_same, settled_same, relaxed-same, query-same}
-use Rattle.shapes.proofs.Passed.{Passed, passed_begin, passed-free, passed-query, passed-settled, passed-relaxed, passed-still, passed-waits}
+use Rattle.shapes.proofs.Passed.{Passed, passed_begin, passed-free, passed-query, passed-settled, passed-relaxed, passed_still, passed-waits}
 use Rattle.shapes.proofs.rows.Statement.{statement}
 use Rattle.shapes.proofs.rows.Tie as tie
 
@@ -81,7 +81,7 @@ loop-again c =
     (⊎_elim
     (λ w. passed-waits t h l r is w.6 (w.3.ensures ∙ update_same t r w.0.left w.2.taken) refl w.0.left w.2.taken w.5.taken w.7 w.8 w.9 w.10)
     (⊎_elim
-    (λ w. passed-still t h l r is w.6 (w.3.ensures ∙ update_same t r w.0.left w.2.taken) refl w.0.left w.2.taken w.5.left w.7 w.8 w.9 w.10)
+    (λ w. passed_still t h l r is w.6 (w.3.ensures ∙ update_same t r w.0.left w.2.taken) refl w.0.left w.2.taken w.5.left w.7 w.8 w.9 w.10)
     (⊎_elim
     (λ w. passed-settled t h l r is w.6 (w.5.ensures ∙ settled_same t r w.0.left w.4.taken) refl w.0.left w.4.taken w.7 w.8 w.9 w.10)
     (⊎_elim

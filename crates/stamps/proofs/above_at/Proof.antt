@@ -12,7 +12,7 @@ use Rattle.names.specs.Layout.{lock_row, lock_exclusive_at}
 use Rattle.rules.specs.Words.{bit}
 use Rattle.rules.specs.Tables.{tables, txn, live_settled, lock}
 use Rattle.rules.proofs.Tests.{true_is, false_is}
-use Rattle.stamps.proofs.Stamps.{settled-bit, newest-stamp, above_none, above-one}
+use Rattle.stamps.proofs.Stamps.{settled-bit, newest-stamp, above_none, above_one}
 use Rattle.stamps.proofs.above_at.Statement.{statement}
 use Rattle.stamps.proofs.above_at.Tie as tie
 
@@ -91,7 +91,7 @@ returns-4 c =
     let slot = get_or a.locks.now (lock_row * a.item + lock_exclusive_at) 0 - 1 in
     let on : live_settled (txn a.txns.now slot) ≡ true = sym (settled-bit a.txns.now a.settled slot pre.0 (omega arith)) ∙ eq-eqb _ _ c.before.before.if3.false in
     ap (λ (m : ℕ). ltb m (txn a.txns.now slot).start) (newest-stamp a.versions.now a.item (pre.1.some a.item pre.2))
-    ∙ above-one (tables a.txns.now a.locks.now a.versions.now) a.item slot (omega arith) (true_is on) (omega arith)
+    ∙ above_one (tables a.txns.now a.locks.now a.versions.now) a.item slot (omega arith) (true_is on) (omega arith)
 
 pub above-at-spec : {M : Type 1} → statement M
 above-at-spec =

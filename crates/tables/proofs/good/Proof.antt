@@ -21,7 +21,7 @@ use Rattle.holdings.proofs.Holders.{updates-lt, settled-lt}
 use Rattle.stamps.proofs.Stamps.{none_stamped}
 use Rattle.tables.proofs.Reading.{awaiting, readable}
 use Rattle.waiting.proofs.Rounds.{none_awaits, none_ranked, none_circles}
-use Rattle.tables.proofs.Whole.{Parts, versions_test, holders_test, fails, decides, versions-are, each_has, sets-are}
+use Rattle.tables.proofs.Whole.{Parts, versions_test, holders_test, fails, decides, versions-are, each_has, sets_are}
 use Rattle.tables.proofs.good.Statement.{statement}
 use Rattle.tables.proofs.good.Tie as tie
 
@@ -153,7 +153,7 @@ sets-here :
     (c : tie.Else9)
     → sets_test base (txns (rows-there c)) (locks (rows-there c)) (versions c)
     ≡ (sets_good base (txns (rows-there c)) && holders_test (txns (rows-there c)) (locks (rows-there c)) (versions c))
-sets-here c = sets-are (txns (rows-there c)) (locks (rows-there c)) (versions c) (rows-still c) (versions-passed c)
+sets-here c = sets_are (txns (rows-there c)) (locks (rows-there c)) (versions c) (rows-still c) (versions-passed c)
 
 returns-9 : tie.Need-returns-9
 returns-9 c =

@@ -5,7 +5,7 @@ use native.Mathlib.Omega.{arith}
 use lib.ListN.{length, take}
 use lib.Seq.{take_all, length-take-le}
 use Rattle.texts.specs.Written.{Wrote}
-use Rattle.texts.proofs.Written.{wrote_nothing, text_next, wrote-more}
+use Rattle.texts.proofs.Written.{wrote_nothing, text_next, wrote_more}
 use borrow.Author.Rules.{rules}
 use Rattle.texts.proofs.put_text.Statement.{statement}
 use Rattle.texts.proofs.put_text.Tie as tie
@@ -39,7 +39,7 @@ loop-again c =
     let l = c.before.before.before.before.before.before.loop in
     let a = c.before.before.before.before.before.before.before.before.before.args in
     let t = c.before.before.before.before.before.loop-test.true in
-    (omega (arith, t), c.before.out.given ∙ l.invariant.1, rw (sym (text_next a.text.now l.k t)) (wrote-more (omega (arith, c.before.before.before.before.before.before.before.before.before.requires, length-take-le l.k a.text.now l.invariant.0)) l.invariant.2 c.before.before.put.ensures))
+    (omega (arith, t), c.before.out.given ∙ l.invariant.1, rw (sym (text_next a.text.now l.k t)) (wrote_more (omega (arith, c.before.before.before.before.before.before.before.before.before.requires, length-take-le l.k a.text.now l.invariant.0)) l.invariant.2 c.before.before.put.ensures))
 
 same_length : tie.Need-same-length invariant-loop decreases-loop
 same_length c = c.before.loop.invariant.1

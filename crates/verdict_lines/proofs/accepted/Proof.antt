@@ -1,7 +1,7 @@
 -- The word in three parts.
 use borrow.Author.Rules.{rules}
 use native.Mathlib.Omega.{arith}
-use Rattle.texts.proofs.Written.{wrote-more}
+use Rattle.texts.proofs.Written.{wrote_more}
 use Rattle.verdict_lines.proofs.accepted.Statement.{statement}
 use Rattle.verdict_lines.proofs.accepted.Tie as tie
 
@@ -23,7 +23,7 @@ returns c =
     let two = c.before.before.before.before.before.before.three2.ensures in
     let k = c.before.before.before.before.before.before.before.before.before.before.three.auto.1.1.1.0 in
     let p = c.before.before.before.before.before.before.before.before.before.before.before.before.before.requires in
-    wrote-more (omega (arith, p)) one (wrote-more (omega (arith, p, one.index, k)) two c.before.before.three3.ensures)
+    wrote_more (omega (arith, p)) one (wrote_more (omega (arith, p, one.index, k)) two c.before.before.three3.ensures)
 
 pub accepted-spec : {M : Type 1} → statement M
 accepted-spec = tie.close (tie.spec three-requires three-requires-2 three-requires-3 same_length returns)

@@ -1,7 +1,7 @@
 -- Three bytes, one after the other.
 use borrow.Author.Rules.{rules}
 use native.Mathlib.Omega.{arith}
-use Rattle.texts.proofs.Written.{wrote-more}
+use Rattle.texts.proofs.Written.{wrote_more}
 use Rattle.verdict_lines.proofs.three.Statement.{statement}
 use Rattle.verdict_lines.proofs.three.Tie as tie
 
@@ -23,7 +23,7 @@ returns c =
     let two = c.before.before.before.before.before.before.put2.ensures in
     let k = c.before.before.before.before.before.before.before.before.before.before.put.auto.0 in
     let p = c.before.before.before.before.before.before.before.before.before.before.before.before.before.requires in
-    wrote-more (omega (arith, p)) one (wrote-more (omega (arith, p, one.index, k)) two c.before.before.put3.ensures)
+    wrote_more (omega (arith, p)) one (wrote_more (omega (arith, p, one.index, k)) two c.before.before.put3.ensures)
 
 pub three-spec : {M : Type 1} → statement M
 three-spec = tie.close (tie.spec put-requires put-requires-2 put-requires-3 same_length returns)

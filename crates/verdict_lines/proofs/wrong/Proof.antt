@@ -2,7 +2,7 @@
 use borrow.Author.Rules.{rules}
 use native.Mathlib.Omega.{arith}
 use Rattle.numerals.proofs.Decimals.{length-decimal}
-use Rattle.texts.proofs.Written.{wrote-more}
+use Rattle.texts.proofs.Written.{wrote_more}
 use Rattle.verdict_lines.proofs.wrong.Statement.{statement}
 use Rattle.verdict_lines.proofs.wrong.Tie as tie
 
@@ -33,9 +33,9 @@ returns c =
     let k = c.before.before.before.before.before.before.before.before.before.before.before.before.before.before.put.auto.0 in
     let two = c.before.before.before.before.before.before.before.before.before.before.put2.ensures in
     let m = c.before.before.before.before.before.before.before.before.before.before.put2.auto.0 in
-    wrote-more (omega (arith, p)) one
-    (wrote-more (omega (arith, p, one.index, k)) two
-    (wrote-more (omega (arith, n, p, one.index, k, two.index, m)) c.before.before.before.before.before.before.decimal.ensures c.before.before.put3.ensures))
+    wrote_more (omega (arith, p)) one
+    (wrote_more (omega (arith, p, one.index, k)) two
+    (wrote_more (omega (arith, n, p, one.index, k, two.index, m)) c.before.before.before.before.before.before.decimal.ensures c.before.before.put3.ensures))
 
 pub wrong-spec : {M : Type 1} → statement M
 wrong-spec = tie.close (tie.spec put-requires put-requires-2 decimal-requires put-requires-3 same_length returns)

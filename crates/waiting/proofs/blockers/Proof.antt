@@ -4,7 +4,7 @@ use mathlib.Core.Path.{◌≡◌, sym, ap, subst}
 use Rattle.names.specs.Sizes.{base}
 use Rattle.rules.specs.Tables.{Lock}
 use Rattle.waiting.specs.Waiting.{Holders}
-use Rattle.waiting.proofs.Blocking.{blockers-of}
+use Rattle.waiting.proofs.Blocking.{blockers_of}
 use Rattle.waiting.proofs.Linking.{shared-small, exclusive-small}
 use borrow.Author.Rules.{rules}
 use Rattle.waiting.proofs.blockers.Statement.{statement}
@@ -30,7 +30,7 @@ returns : tie.Need-returns
 returns c = let a = c.before.before.before.before.before.before.args in
     let h = c.before.before.before.lock-at in
     let v = c.before.before.holders in
-    blockers-of a.txns.now a.locks.now a.wanted a.item.0 a.rank a.slot.0 v.result c.before.ahead.result c.before.before.before.before.before.before.requires.2
+    blockers_of a.txns.now a.locks.now a.wanted a.item.0 a.rank a.slot.0 v.result c.before.ahead.result c.before.before.before.before.before.before.requires.2
     (subst (λ (o : Lock). Holders o a.wanted v.result) h.ensures (v.ensures h.result.working))
     c.before.ahead.ensures
 

@@ -8,7 +8,7 @@ use Rattle.names.specs.Sizes.{base}
 use Rattle.names.specs.Layout.{txn_item_at}
 use Rattle.rules.specs.Tables.{txn_at, txn, Lock, lock}
 use Rattle.waiting.specs.Waiting.{awaiter_ok}
-use Rattle.waiting.proofs.Linking.{Linking, linking_begin, linking_still, linking-waits, linking_end, linking_right, awaiter_same}
+use Rattle.waiting.proofs.Linking.{Linking, linking_begin, linking_still, linking_waits, linking_end, linking_right, awaiter_same}
 use Rattle.waiting.proofs.waits.Statement.{statement}
 use Rattle.waiting.proofs.waits.Tie as tie
 
@@ -90,7 +90,7 @@ loop-again c = let t = c.before.before.before.before.before.before.args.txns.now
     let r = txn t s in
     ⊎_elim
     (λ w.
-    linking-waits t l g.links g.ok s k g.invariant w.0.taken
+    linking_waits t l g.links g.ok s k g.invariant w.0.taken
     (w.4.ensures ∙ ap (λ (h : Lock). awaiter_ok h.shared h.exclusive r.awaited_lock s) w.3.ensures
     ∙ awaiter_same s r (lock l r.awaited_item) w.0.taken (c.before.before.before.before.before.before.requires.lock_listed s k))
     w.5.ensures w.6 w.7)

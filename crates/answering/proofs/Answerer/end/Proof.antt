@@ -7,8 +7,8 @@ use borrow.Author.Tests.{not-true, not-false}
 use Rattle.number_lines.specs.Lines.{held_by}
 use Rattle.cases.specs.Cases.{most_numbers}
 use Rattle.answering.specs.Life.{state_of}
-use Rattle.number_lines.proofs.Printed.{wrote-within}
-use Rattle.answering.proofs.Keeping.{last-answered, none_answered}
+use Rattle.number_lines.proofs.Printed.{wrote_within}
+use Rattle.answering.proofs.Keeping.{last_answered, none_answered}
 use borrow.Author.Rules.{rules}
 use Rattle.answering.proofs.Answerer.end.Statement.{statement}
 use Rattle.answering.proofs.Answerer.end.Tie as tie
@@ -45,7 +45,7 @@ returns-2 c =
     let size : length s.words ≡ most_numbers = search rules in
     let t = sym ((seen c).before.any.ensures s.words (omega arith)) ∙ not-false _ (seen c).if1.false in
     let w = c.before.before.before.answer-line.ensures in
-    (wrote-within w c.before.out.given (omega arith), last-answered (held_by s.words s.scan) t w)
+    (wrote_within w c.before.out.given (omega arith), last_answered (held_by s.words s.scan) t w)
 
 pub end-spec : {M : Type 1} → statement M
 end-spec =

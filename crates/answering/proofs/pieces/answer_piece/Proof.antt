@@ -7,7 +7,7 @@ use Rattle.number_lines.specs.Lines.{held_by}
 use Rattle.cases.specs.Cases.{most_numbers}
 use Rattle.answering.specs.Life.{room_for}
 use Rattle.answering.proofs.Lengths.{held-most}
-use Rattle.answering.proofs.Answering.{Going, going-first, room-left, going_on, going-past, end_used, end_left, end_wrote}
+use Rattle.answering.proofs.Answering.{Going, going_first, room-left, going_on, going_past, end_used, end_left, end_wrote}
 use borrow.Author.Rules.{rules}
 use Rattle.answering.proofs.pieces.answer_piece.Statement.{statement}
 use Rattle.answering.proofs.pieces.answer_piece.Tie as tie
@@ -22,7 +22,7 @@ loop-holds : tie.Need-loop-init invariant-loop decreases-loop
 loop-holds c =
     let a = c.before.before.before.args in
     let all = c.before.before.before.requires.0 in
-    (going-first _ _ _ (omega (arith, held-most a.words.now a.scan)), all)
+    (going_first _ _ _ (omega (arith, held-most a.words.now a.scan)), all)
 
 next-requires : tie.Need-next-requires invariant-loop decreases-loop
 next-requires c κs = search rules
@@ -62,7 +62,7 @@ loop-again-2 c =
     let turn = c.before.before.before.before.before.before in
     let i = turn.before.loop.invariant in
     let next = c.before.before.before.before.next in
-    (going-past (asked turn) i.0 next.result i.1 next.ensures c.if1.false, c.before.before.before.words.given ∙ i.1)
+    (going_past (asked turn) i.0 next.result i.1 next.ensures c.if1.false, c.before.before.before.words.given ∙ i.1)
 
 same_length : tie.Need-same-length invariant-loop decreases-loop
 same_length c = c.before.loop.invariant.1 ∙ sym c.before.before.before.before.before.requires.0

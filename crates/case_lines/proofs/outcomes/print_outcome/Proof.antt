@@ -4,7 +4,7 @@ use mathlib.Core.List.{[], ◌∷◌}
 use lib.ListN.{length}
 use borrow.Author.Rules.{rules}
 use Rattle.numerals.proofs.Decimals.{length-decimal, length-spaced}
-use Rattle.texts.proofs.Written.{wrote-more}
+use Rattle.texts.proofs.Written.{wrote_more}
 use Rattle.case_lines.specs.Answers.{outcome_line}
 use Rattle.case_lines.proofs.outcomes.print_outcome.Statement.{statement}
 use Rattle.case_lines.proofs.outcomes.print_outcome.Tie as tie
@@ -49,8 +49,8 @@ returns c =
     let d = code w in
     let s = start d in
     let a = s.args in
-    wrote-more (omega (arith, s.pre, length-decimal a.answer.code)) d.decimal.ensures
-    (wrote-more (omega (arith, s.pre, length-decimal a.answer.code, length-spaced (a.answer.value ∷ a.answer.number ∷ a.answer.looked ∷ length a.txns.now ∷ length a.locks.now ∷ length a.versions.now ∷ []), d.decimal.ensures.index, d.decimal.kept.1.0)) w.print-words.ensures t.print-tables.ensures)
+    wrote_more (omega (arith, s.pre, length-decimal a.answer.code)) d.decimal.ensures
+    (wrote_more (omega (arith, s.pre, length-decimal a.answer.code, length-spaced (a.answer.value ∷ a.answer.number ∷ a.answer.looked ∷ length a.txns.now ∷ length a.locks.now ∷ length a.versions.now ∷ []), d.decimal.ensures.index, d.decimal.kept.1.0)) w.print-words.ensures t.print-tables.ensures)
 
 pub print-outcome-spec : {M : Type 1} → statement M
 print-outcome-spec =

@@ -2,7 +2,7 @@
 use native.Mathlib.Omega.{arith}
 use borrow.Author.Rules.{rules}
 use Rattle.numerals.proofs.Decimals.{length-spaced}
-use Rattle.texts.proofs.Written.{wrote-more}
+use Rattle.texts.proofs.Written.{wrote_more}
 use Rattle.case_lines.specs.Answers.{tables_line}
 use Rattle.case_lines.proofs.outcomes.print_tables.Statement.{statement}
 use Rattle.case_lines.proofs.outcomes.print_tables.Tie as tie
@@ -58,9 +58,9 @@ returns c =
     let t = length-spaced s.args.txns.now in
     let l = length-spaced s.args.locks.now in
     let v = length-spaced s.args.versions.now in
-    wrote-more (omega (arith, s.pre, t)) one.print-words.ensures
-    (wrote-more (omega (arith, s.pre, t, l, one.print-words.ensures.index, one.print-words.kept.1.0)) two.print-words2.ensures
-    (wrote-more (omega (arith, s.pre, t, l, v, one.print-words.ensures.index, one.print-words.kept.1.0, two.print-words2.ensures.index, two.print-words2.kept.1.0)) three.print-words3.ensures end.put.ensures))
+    wrote_more (omega (arith, s.pre, t)) one.print-words.ensures
+    (wrote_more (omega (arith, s.pre, t, l, one.print-words.ensures.index, one.print-words.kept.1.0)) two.print-words2.ensures
+    (wrote_more (omega (arith, s.pre, t, l, v, one.print-words.ensures.index, one.print-words.kept.1.0, two.print-words2.ensures.index, two.print-words2.kept.1.0)) three.print-words3.ensures end.put.ensures))
 
 pub print-tables-spec : {M : Type 1} → statement M
 print-tables-spec =

@@ -6,7 +6,7 @@ use native.Mathlib.Omega.{arith}
 use lib.ListN.{length}
 use lib.Bits.{bit_or}
 use Rattle.graph.specs.Sets.{those}
-use Rattle.graph.proofs.Sets.{those-turn}
+use Rattle.graph.proofs.Sets.{those_turn}
 use Rattle.chop.specs.Pieces.{pieces_of, conflict}
 use Rattle.chop.specs.Judgement.{conflicts_of}
 use Rattle.chop.proofs.InRows.{length-pieces}
@@ -42,7 +42,7 @@ loop-again c =
     let at = c.before.before.before.loop in
     let tested = conflict (pieces_of a.words.now) a.b in
     let e = c.including.ensures ∙ ap (λ (y : Bool). cond y (bit_or at.out (2 ^ at.at)) at.out) c.before.are-conflicting.ensures in
-    (omega arith, those-turn tested at.at at.out _ at.invariant.1 e)
+    (omega arith, those_turn tested at.at at.out _ at.invariant.1 e)
 
 returns : tie.Need-returns invariant-loop decreases-loop
 unfolding conflicts_of

@@ -9,7 +9,7 @@ use Rattle.rules.specs.Words.{tabulate_from}
 use Rattle.chop.specs.Pieces.{most, pieces_of}
 use Rattle.chop.specs.Judgement.{siblings_of, conflicts_of, links_of}
 use Rattle.chop.proofs.InRows.{length-pieces}
-use Rattle.chop.proofs.Linking.{tabulate-turn}
+use Rattle.chop.proofs.Linking.{tabulate_turn}
 use borrow.Author.Rules.{rules}
 use Rattle.chop.proofs.links.links_of.Statement.{statement}
 use Rattle.chop.proofs.links.links_of.Tie as tie
@@ -52,7 +52,7 @@ loop-again c =
     let words = c.before.before.before.before.before.args.words.now in
     let at = c.before.before.before.loop in
     let e = ap₂ bit_or c.before.siblings-of.ensures c.conflicts-of.ensures in
-    (omega arith, length-set at.out at.at _ ∙ at.invariant.1, tabulate-turn (link_word words) at.at _ at.out (omega arith) at.invariant.2 e)
+    (omega arith, length-set at.out at.at _ ∙ at.invariant.1, tabulate_turn (link_word words) at.at _ at.out (omega arith) at.invariant.2 e)
 
 returns : tie.Need-returns invariant-loop decreases-loop
 unfolding links_of link_word

@@ -5,7 +5,7 @@ use mathlib.Core.Bool.{not}
 use native.Mathlib.Omega.{arith}
 use lib.Dec.{eqb}
 use Rattle.graph.specs.Sets.{those}
-use Rattle.graph.proofs.Sets.{those-turn}
+use Rattle.graph.proofs.Sets.{those_turn}
 use Rattle.chop.specs.Judgement.{others}
 use borrow.Author.Rules.{rules}
 use Rattle.chop.proofs.links.others.Statement.{statement}
@@ -34,7 +34,7 @@ loop-again : tie.Need-loop-preserved invariant-loop decreases-loop
 loop-again c =
     let b = c.before.before.before.args.b in
     let at = c.before.before.loop in
-    (omega arith, those-turn (λ a. not (eqb a b)) at.at at.out _ at.invariant.1 c.including.ensures)
+    (omega arith, those_turn (λ a. not (eqb a b)) at.at at.out _ at.invariant.1 c.including.ensures)
 
 returns : tie.Need-returns invariant-loop decreases-loop
 unfolding others

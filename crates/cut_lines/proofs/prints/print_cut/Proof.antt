@@ -4,7 +4,7 @@ use mathlib.Core.Path.{◌≡◌, refl, sym, ◌∙◌}
 use native.Mathlib.Omega.{arith}
 use lib.ListN.{length}
 use Rattle.texts.specs.Written.{Wrote}
-use Rattle.texts.proofs.Written.{wrote_nothing, wrote-more}
+use Rattle.texts.proofs.Written.{wrote_nothing, wrote_more}
 use Rattle.finest.specs.Choppings.{passing, leads}
 use Rattle.finest.specs.Rows.{operations_in}
 use Rattle.cut_lines.specs.Text.{lines_at}
@@ -45,7 +45,7 @@ loop-again c =
     let t = c.before.before.before.before.loop-test.true in
     let p = c.before.before.before.before.before.before.before.before.before.before.requires in
     let n = c.before.before.put_first.ensures in
-    (omega (arith, t), c.before.out.given ∙ l.invariant.1, rw (sym (lines_next (name_in a.names.now) (operations_in a.words.now) a.cut.now l.i)) (wrote-more (omega (arith, l.invariant.2.index, l.invariant.3, t, p.0.few, p.2)) l.invariant.2 n.0), omega (arith, n.1, l.invariant.3))
+    (omega (arith, t), c.before.out.given ∙ l.invariant.1, rw (sym (lines_next (name_in a.names.now) (operations_in a.words.now) a.cut.now l.i)) (wrote_more (omega (arith, l.invariant.2.index, l.invariant.3, t, p.0.few, p.2)) l.invariant.2 n.0), omega (arith, n.1, l.invariant.3))
 
 same_length : tie.Need-same-length invariant-loop decreases-loop
 same_length c = c.before.loop.invariant.1

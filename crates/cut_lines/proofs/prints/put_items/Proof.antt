@@ -4,7 +4,7 @@ use mathlib.Core.Path.{◌≡◌, ap₂}
 use mathlib.Core.Bool.{true, false}
 use mathlib.Core.List.{◌++◌}
 use native.Mathlib.Omega.{arith}
-use Rattle.texts.proofs.Written.{wrote-more}
+use Rattle.texts.proofs.Written.{wrote_more}
 use Rattle.line_words.specs.Words.{reads, writes}
 use Rattle.finest.specs.Choppings.{touches, piece_by}
 use Rattle.finest.specs.Rows.{operations_in}
@@ -42,7 +42,7 @@ returns c =
     let two = c.before.before.put-part2.ensures in
     let e : part_text reads (items_in c.before.before.before.before.before.before.before.before.before.before.before.items_of.result) ++ part_text writes (items_in c.before.before.before.before.before.before.before.before.before.before.items-of2.result) ≡ part_text reads (items_in (touches (operations_in a.words.now) a.cut.now false a.i)) ++ part_text writes (items_in (touches (operations_in a.words.now) a.cut.now true a.i))
     = ap₂ (λ (x y : ℕ). part_text reads (items_in x) ++ part_text writes (items_in y)) c.before.before.before.before.before.before.before.before.before.before.before.items_of.ensures c.before.before.before.before.before.before.before.before.before.before.items-of2.ensures in
-    (rw e at (wrote-more (omega (arith, one.0.index, one.1, c.before.before.before.before.before.before.before.before.before.before.before.before.before.before.before.requires.2)) one.0 two.0), omega (arith, one.1, two.1))
+    (rw e at (wrote_more (omega (arith, one.0.index, one.1, c.before.before.before.before.before.before.before.before.before.before.before.before.before.before.before.requires.2)) one.0 two.0), omega (arith, one.1, two.1))
 
 pub put-items-spec : {M : Type 1} → statement M
 put-items-spec =

@@ -2,7 +2,7 @@
 use mathlib.Core.Path.{sym}
 use native.Mathlib.Omega.{arith}
 use borrow.Author.Tests.{not-true, not-false}
-use Rattle.texts.proofs.Written.{wrote_nothing, wrote-more}
+use Rattle.texts.proofs.Written.{wrote_nothing, wrote_more}
 use Rattle.number_lines.proofs.Printed.{spaced_one}
 use Rattle.cut_lines.proofs.Printing.{two_digits}
 use borrow.Author.Rules.{rules}
@@ -27,7 +27,7 @@ returns-2 c =
     let d = two_digits a.number c.before.before.before.before.before.before.before.before.before.before.requires.0 in
     let one = c.before.before.before.before.before.before.put.ensures in
     rw (not-false c.before.before.before.before.before.before.before.before.before.before.args.yes c.before.before.before.before.before.before.before.before.if1.false, sym (spaced_one a.number))
-    (wrote-more (omega (arith, c.before.before.before.before.before.before.before.before.before.before.requires.1)) one c.before.before.decimal.ensures, omega (arith, d, one.index, c.before.before.decimal.ensures.index))
+    (wrote_more (omega (arith, c.before.before.before.before.before.before.before.before.before.before.requires.1)) one c.before.before.decimal.ensures, omega (arith, d, one.index, c.before.before.decimal.ensures.index))
 
 pub put-number-spec : {M : Type 1} → statement M
 put-number-spec = tie.close (tie.spec returns put-requires decimal-requires same_length returns-2)

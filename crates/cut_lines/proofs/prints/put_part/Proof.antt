@@ -2,7 +2,7 @@
 use Prim.Native.Nat.{◌^◌, ◌<◌}
 use mathlib.Core.Path.{sym}
 use native.Mathlib.Omega.{arith}
-use Rattle.texts.proofs.Written.{wrote_nothing, wrote-more}
+use Rattle.texts.proofs.Written.{wrote_nothing, wrote_more}
 use Rattle.cut_lines.proofs.Printing.{part_none, part_some}
 use borrow.Author.Rules.{rules}
 use Rattle.cut_lines.proofs.prints.put_part.Statement.{statement}
@@ -33,7 +33,7 @@ returns-2 c =
     let two = c.before.before.before.before.before.before.put-text.ensures in
     let three = c.before.before.put-set.ensures in
     let l : a.set < 2 ^ 64 = omega (arith, c.before.before.before.before.before.before.before.before.before.before.before.before.before.before.before.ranges.set) in
-    (rw (sym (part_some a.word.now a.set l c.before.before.before.before.before.before.before.before.before.before.before.before.if1.false)) (wrote-more (omega (arith, p)) one (wrote-more (omega (arith, p, one.index, c.before.before.before.before.before.before.before.before.before.out.given)) two three.0)), omega (arith, one.index, two.index, three.1))
+    (rw (sym (part_some a.word.now a.set l c.before.before.before.before.before.before.before.before.before.before.before.before.if1.false)) (wrote_more (omega (arith, p)) one (wrote_more (omega (arith, p, one.index, c.before.before.before.before.before.before.before.before.before.out.given)) two three.0)), omega (arith, one.index, two.index, three.1))
 
 pub put-part-spec : {M : Type 1} → statement M
 put-part-spec =

@@ -1,7 +1,7 @@
 -- The name, the items, and the places.
 use Prim.Native.Nat.{◌-◌}
 use native.Mathlib.Omega.{arith}
-use Rattle.texts.proofs.Written.{wrote-more}
+use Rattle.texts.proofs.Written.{wrote_more}
 use Rattle.told_lines.proofs.Names.{row-part}
 use Rattle.cut_lines.specs.Text.{piece_line, line_at}
 use Rattle.cut_lines.specs.Given.{name_in}
@@ -47,7 +47,7 @@ returns c =
     let three = c.before.before.put-places.ensures in
     let w = row_fits a.names.now a.i in
     let e = row-part a.names.now a.i in (
-      rw e at (wrote-more (omega (arith, one.0.index, one.1, w, p.3)) one.0 (wrote-more (omega (arith, two.0.index, two.1, one.1, w, p.3, c.before.before.before.before.before.before.before.before.before.out.given)) two.0 three.0)),
+      rw e at (wrote_more (omega (arith, one.0.index, one.1, w, p.3)) one.0 (wrote_more (omega (arith, two.0.index, two.1, one.1, w, p.3, c.before.before.before.before.before.before.before.before.before.out.given)) two.0 three.0)),
       omega (arith, one.1, two.1, three.1, w),
     )
 

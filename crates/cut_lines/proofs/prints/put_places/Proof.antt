@@ -1,7 +1,7 @@
 -- ` #`, the places, and the end of the line.
 use mathlib.Core.Path.{sym}
 use native.Mathlib.Omega.{arith}
-use Rattle.texts.proofs.Written.{wrote-more}
+use Rattle.texts.proofs.Written.{wrote_more}
 use Rattle.cut_lines.specs.Text.{places_text}
 use Rattle.cut_lines.proofs.Printing.{places-are}
 use borrow.Author.Rules.{rules}
@@ -35,7 +35,7 @@ returns c =
     let two = c.before.before.before.before.before.before.put-set.ensures in
     let three = c.before.before.put.ensures in (
       rw (sym (places-are a.words.now a.cut.now a.i c.before.before.before.before.before.before.before.before.before.before.before.before.before.members-of.ensures))
-          (wrote-more (omega (arith, p.2)) one (wrote-more (omega (arith, two.0.index, two.1, one.index, p.2, p.0.few, c.before.before.before.before.before.before.before.before.before.out.given)) two.0 three)),
+          (wrote_more (omega (arith, p.2)) one (wrote_more (omega (arith, two.0.index, two.1, one.index, p.2, p.0.few, c.before.before.before.before.before.before.before.before.before.out.given)) two.0 three)),
       omega (arith, one.index, two.1, three.index, p.0.few),
     )
 

@@ -6,7 +6,7 @@ use native.Mathlib.Omega.{arith}
 use lib.ListN.{length}
 use Rattle.rules.specs.Words.{bit}
 use Rattle.texts.specs.Written.{Wrote}
-use Rattle.texts.proofs.Written.{wrote_nothing, wrote-more}
+use Rattle.texts.proofs.Written.{wrote_nothing, wrote_more}
 use Rattle.numerals.specs.Print.{spaced}
 use Rattle.finest.specs.Choppings.{passing}
 use Rattle.cut_lines.specs.Given.{raised}
@@ -55,7 +55,7 @@ loop-again c =
     let t = c.before.before.before.before.loop-test.true in
     let p = c.before.before.before.before.before.before.before.requires in
     let n = c.before.before.put-number.ensures in
-    (omega (arith, t), c.before.out.given ∙ l.invariant.1, rw (sym (set_next (bit a.set) a.more l.x)) (wrote-more (omega (arith, l.invariant.2.index, l.invariant.3, p.2, t)) l.invariant.2 n.0), omega (arith, n.1, l.invariant.3))
+    (omega (arith, t), c.before.out.given ∙ l.invariant.1, rw (sym (set_next (bit a.set) a.more l.x)) (wrote_more (omega (arith, l.invariant.2.index, l.invariant.3, p.2, t)) l.invariant.2 n.0), omega (arith, n.1, l.invariant.3))
 
 same_length : tie.Need-same-length invariant-loop decreases-loop
 same_length c = c.before.loop.invariant.1

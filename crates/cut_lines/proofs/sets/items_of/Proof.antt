@@ -5,7 +5,7 @@ use mathlib.Core.Bool.{Bool, cond}
 use native.Mathlib.Omega.{arith}
 use lib.Bits.{bit_or}
 use Rattle.graph.specs.Sets.{those}
-use Rattle.graph.proofs.Sets.{those-turn}
+use Rattle.graph.proofs.Sets.{those_turn}
 use Rattle.finest.specs.Choppings.{touched, touches}
 use Rattle.finest.specs.Rows.{operations_in}
 use borrow.Author.Rules.{rules}
@@ -39,7 +39,7 @@ loop-again c =
     let a = c.before.before.before.before.before.before.args in
     let l = c.before.before.before.loop in
     let e = c.including.ensures ∙ ap (λ (y : Bool). cond y (bit_or l.out (2 ^ l.at)) l.out) c.before.touched.ensures in
-    (omega arith, those-turn (touched (operations_in a.words.now) a.cut.now a.writing a.i) l.at l.out _ l.invariant.1 e)
+    (omega arith, those_turn (touched (operations_in a.words.now) a.cut.now a.writing a.i) l.at l.out _ l.invariant.1 e)
 
 returns : tie.Need-returns invariant-loop decreases-loop
 unfolding touches

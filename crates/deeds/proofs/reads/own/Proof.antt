@@ -1,7 +1,7 @@
 -- The own working value.
 use mathlib.Core.Path.{ap}
 use Rattle.rules.specs.Tables.{Lock}
-use Rattle.deeds.proofs.Deeds.{own-done}
+use Rattle.deeds.proofs.Deeds.{own_done}
 use borrow.Author.Rules.{rules}
 use Rattle.deeds.proofs.reads.own.Statement.{statement}
 use Rattle.deeds.proofs.reads.own.Tie as tie
@@ -20,7 +20,7 @@ same_length c = search rules
 
 returns : tie.Need-returns
 returns c =
-    λ v. own-done c.before.before.before.before.before.before.before.before.args.txns.now c.before.before.before.before.before.before.before.before.args.locks.now v _ _ c.before.before.before.before.clear.ensures (ap (λ (h : Lock). h.working) c.before.lock-at.ensures) c.found.ensures
+    λ v. own_done c.before.before.before.before.before.before.before.before.args.txns.now c.before.before.before.before.before.before.before.before.args.locks.now v _ _ c.before.before.before.before.clear.ensures (ap (λ (h : Lock). h.working) c.before.lock-at.ensures) c.found.ensures
 
 pub own-spec : {M : Type 1} → statement M
 own-spec =

@@ -1,5 +1,5 @@
 -- The version that is read; what a relaxed query has read is noted, and a query's read is counted.
-use Rattle.deeds.proofs.Deeds.{version-done}
+use Rattle.deeds.proofs.Deeds.{version_done}
 use borrow.Author.Rules.{rules}
 use Rattle.deeds.proofs.reads.version.Statement.{statement}
 use Rattle.deeds.proofs.reads.version.Tie as tie
@@ -23,7 +23,7 @@ returns : tie.Need-returns
 returns c =
     let a = c.before.before.before.before.before.before.before.before.before.before.before.before.before.before.args in
     let chosen = c.before.before.before.before.before.before.before.before.before.choose.ensures in
-    version-done a.txns.now a.locks.now a.versions.now _ _ chosen.0 chosen.1 c.before.before.before.before.before.before.before.note_read.ensures c.before.before.before.count.ensures c.found.ensures
+    version_done a.txns.now a.locks.now a.versions.now _ _ chosen.0 chosen.1 c.before.before.before.before.before.before.before.note_read.ensures c.before.before.before.count.ensures c.found.ensures
 
 pub version-spec : {M : Type 1} → statement M
 version-spec =

@@ -3,7 +3,7 @@ use mathlib.Core.Path.{ap, ◌∙◌}
 use mathlib.Core.List.{List}
 use Prim.Native.Nat.{ℕ}
 use Rattle.rules.specs.Tables.{set_txn, no_txn}
-use Rattle.endings.proofs.Endings.{aborts-done}
+use Rattle.endings.proofs.Endings.{aborts_done}
 use borrow.Author.Rules.{rules}
 use Rattle.endings.proofs.aborts.aborts.Statement.{statement}
 use Rattle.endings.proofs.aborts.aborts.Tie as tie
@@ -29,7 +29,7 @@ same-length-2 c = search rules
 returns : tie.Need-returns
 returns c = let a = c.before.before.before.before.before.before.before.before.before.before.before.before.before.before.before.args in
     let gone = c.before.before.before.before.before.before.before.leave.ensures ∙ ap (λ (u : List ℕ). set_txn u a.slot.0 no_txn) c.before.before.before.before.before.before.before.before.before.before.before.close_up.ensures in
-    λ v. aborts-done a.txns.now a.locks.now v a.slot gone c.before.before.before.release.ensures c.granted.ensures
+    λ v. aborts_done a.txns.now a.locks.now v a.slot gone c.before.before.before.release.ensures c.granted.ensures
 
 pub aborts-spec : {M : Type 1} → statement M
 aborts-spec =

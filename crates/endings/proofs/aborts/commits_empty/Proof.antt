@@ -1,5 +1,5 @@
 -- The clock is read first; then everything goes as at an abort.
-use Rattle.endings.proofs.Endings.{empty-done}
+use Rattle.endings.proofs.Endings.{empty_done}
 use borrow.Author.Rules.{rules}
 use Rattle.endings.proofs.aborts.commits_empty.Statement.{statement}
 use Rattle.endings.proofs.aborts.commits_empty.Tie as tie
@@ -22,7 +22,7 @@ same-length-2 c = search rules
 returns : tie.Need-returns
 returns c =
     let a = c.before.before.before.before.before.before.before.before.before.before.before.before.args in
-    λ v. empty-done a.txns.now a.locks.now v a.slot c.before.before.before.before.before.before.before.before.clock.ensures (c.before.before.before.before.before.aborts.ensures v) c.numbered.ensures
+    λ v. empty_done a.txns.now a.locks.now v a.slot c.before.before.before.before.before.before.before.before.clock.ensures (c.before.before.before.before.before.aborts.ensures v) c.numbered.ensures
 
 pub commits-empty-spec : {M : Type 1} → statement M
 commits-empty-spec =

@@ -103,7 +103,7 @@ joins :
 unfolding hidden_now holds
 joins c x k h i b =
     subst (λ (n : ℕ). T (bit n i)) (sym (hidden-is c))
-    (c.before.before.before.before.before.before.before.before.before.before.before.before.before.before.before.before.before.before.requires.0.sets_good.holdsHidden x (slot c) i k (or_right (holds_shared (lock (G c).locks x) (slot c)) _ h) b)
+    (c.before.before.before.before.before.before.before.before.before.before.before.before.before.before.before.before.before.before.requires.0.sets_good.holds_hidden x (slot c) i k (or_right (holds_shared (lock (G c).locks x) (slot c)) _ h) b)
 
 clock-requires : tie.Need-clock-requires
 clock-requires c κs = search rules

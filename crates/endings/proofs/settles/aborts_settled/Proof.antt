@@ -1,6 +1,6 @@
 -- It leaves as whoever reads by a start, and its locks go.
 use Rattle.rules.proofs.RowKinds.{settled-starts}
-use Rattle.endings.proofs.Endings.{settled-aborts-done}
+use Rattle.endings.proofs.Endings.{settled_aborts_done}
 use borrow.Author.Rules.{rules}
 use Rattle.endings.proofs.settles.aborts_settled.Statement.{statement}
 use Rattle.endings.proofs.settles.aborts_settled.Tie as tie
@@ -27,7 +27,7 @@ returns : tie.Need-returns
 returns c =
     let a = c.before.before.before.before.before.before.before.before.before.before.before.before.before.before.before.args in
     let g = c.before.before.before.before.before.before.before.before.before.leaves.ensures in
-    settled-aborts-done a.txns.now a.locks.now a.versions.now _ g.txns c.before.before.before.release.ensures g.versions c.granted.ensures
+    settled_aborts_done a.txns.now a.locks.now a.versions.now _ g.txns c.before.before.before.release.ensures g.versions c.granted.ensures
 
 pub aborts-settled-spec : {M : Type 1} → statement M
 aborts-settled-spec =

@@ -1,7 +1,7 @@
 -- The clock is read, the row is written with its stamp, the shared locks go.
 use Prim.Native.Nat.{ℕ, ◌+◌}
 use mathlib.Core.Path.{ap}
-use Rattle.endings.proofs.Endings.{settles-done}
+use Rattle.endings.proofs.Endings.{settles_done}
 use borrow.Author.Rules.{rules}
 use Rattle.endings.proofs.settles.settles.Statement.{statement}
 use Rattle.endings.proofs.settles.settles.Tie as tie
@@ -30,7 +30,7 @@ same-length-2 c = search rules
 returns : tie.Need-returns
 returns c =
     let a = c.before.before.before.before.before.before.before.before.before.before.before.before.before.before.args in
-    λ v. settles-done a.txns.now a.locks.now v _ (ap (λ (m : ℕ). m + 1) c.before.before.before.before.before.before.before.before.before.before.clock.ensures) c.before.before.before.before.before.before.before.settle.ensures c.before.before.before.unshare.ensures c.numbered.ensures
+    λ v. settles_done a.txns.now a.locks.now v _ (ap (λ (m : ℕ). m + 1) c.before.before.before.before.before.before.before.before.before.before.clock.ensures) c.before.before.before.before.before.before.before.settle.ensures c.before.before.before.unshare.ensures c.numbered.ensures
 
 pub settles-spec : {M : Type 1} → statement M
 settles-spec =

@@ -1,5 +1,5 @@
 -- `finest::links::conflicting` meets its contract.
-use Rattle.finest.proofs.InRows.{conflict-test}
+use Rattle.finest.proofs.InRows.{conflict_test}
 use borrow.Author.Rules.{rules}
 use Rattle.finest.proofs.links.conflicting.Statement.{statement}
 use Rattle.finest.proofs.links.conflicting.Tie as tie
@@ -73,7 +73,7 @@ shared-slice-read-written-2 c = search rules
 returns : tie.Need-returns
 returns c =
     let s = c.before.before.before.before.before.before in
-    conflict-test s.args.words.now s.args.i s.args.j s.requires.0 s.requires.1
+    conflict_test s.args.words.now s.args.i s.args.j s.requires.0 s.requires.1
 
 pub conflicting-spec : {M : Type 1} → statement M
 conflicting-spec =

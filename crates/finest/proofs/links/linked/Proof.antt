@@ -5,7 +5,7 @@ use mathlib.Core.Bool.{Bool, ◌&&◌, ◌||◌, not}
 use lib.ListN.{get_or}
 use lib.Dec.{eqb}
 use Rattle.rules.specs.Words.{bit}
-use Rattle.finest.proofs.InRows.{link-test}
+use Rattle.finest.proofs.InRows.{link_test}
 use borrow.Author.Rules.{rules}
 use Rattle.finest.proofs.links.linked.Statement.{statement}
 use Rattle.finest.proofs.links.linked.Tie as tie
@@ -55,7 +55,7 @@ returns c =
     let j = s.args.j in
     let same = eqb (get_or words (i * 4) 0) (get_or words (j * 4) 0) in
     ap (λ (b : Bool). b || (same && (not (eqb (get_or words (i * 4) 0) s.args.t) || (eqb i j || (same && (bit s.args.undo i && bit s.args.undo j)))))) c.before.before.before.conflicting.ensures
-    ∙ link-test words i j s.requires.0 s.requires.1 s.args.undo s.args.t s.requires.3
+    ∙ link_test words i j s.requires.0 s.requires.1 s.args.undo s.args.t s.requires.3
 
 pub linked-spec : {M : Type 1} → statement M
 linked-spec =

@@ -6,7 +6,7 @@ use native.Mathlib.Omega.{arith}
 use lib.ListN.{length}
 use lib.Bits.{bit_or}
 use Rattle.graph.specs.Sets.{those}
-use Rattle.graph.proofs.Sets.{those-turn}
+use Rattle.graph.proofs.Sets.{those_turn}
 use Rattle.finest.specs.Finest.{linked_for}
 use Rattle.finest.specs.Rows.{operations_in}
 use borrow.Author.Rules.{rules}
@@ -40,7 +40,7 @@ loop-again c =
     let a = c.before.before.before.before.before.args in
     let at = c.before.before.before.loop in
     let e = c.including.ensures ∙ ap (λ (y : Bool). cond y (bit_or at.out (2 ^ at.at)) at.out) c.before.linked.ensures in
-    (omega arith, those-turn (linked_for (operations_in a.words.now) a.t a.i) at.at at.out _ at.invariant.1 e)
+    (omega arith, those_turn (linked_for (operations_in a.words.now) a.t a.i) at.at at.out _ at.invariant.1 e)
 
 returns : tie.Need-returns invariant-loop decreases-loop
 returns c =

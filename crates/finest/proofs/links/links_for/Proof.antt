@@ -6,7 +6,7 @@ use native.Mathlib.Omega.{arith}
 use lib.ListN.{length, take, length-set}
 use Rattle.rules.specs.Words.{tabulate_from}
 use Rattle.graph.specs.Sets.{those}
-use Rattle.chop.proofs.Linking.{tabulate-turn}
+use Rattle.chop.proofs.Linking.{tabulate_turn}
 use Rattle.finest.specs.Operations.{most}
 use Rattle.finest.specs.Finest.{linked_for, links_for}
 use Rattle.finest.specs.Rows.{operations_in}
@@ -51,7 +51,7 @@ loop-again c =
     let a = c.before.before.before.before.args in
     let words = a.words.now in
     let at = c.before.before.loop in
-    (omega arith, length-set at.out at.at _ ∙ at.invariant.1, tabulate-turn (link_word words a.t (length words / 4)) at.at _ at.out (omega arith) at.invariant.2 c.links_at.ensures)
+    (omega arith, length-set at.out at.at _ ∙ at.invariant.1, tabulate_turn (link_word words a.t (length words / 4)) at.at _ at.out (omega arith) at.invariant.2 c.links_at.ensures)
 
 returns : tie.Need-returns invariant-loop decreases-loop
 unfolding links_for link_word

@@ -9,7 +9,7 @@ use Rattle.rules.specs.Words.{some_below}
 use Rattle.rules.proofs.Counts.{some_more}
 use Rattle.finest.specs.Operations.{operation, same_program, may_undo}
 use Rattle.finest.specs.Rows.{operations_in}
-use Rattle.finest.proofs.InRows.{length-operations, undo-test}
+use Rattle.finest.proofs.InRows.{length-operations, undo_test}
 use borrow.Author.Rules.{rules}
 use Rattle.finest.proofs.links.may_undo.Statement.{statement}
 use Rattle.finest.proofs.links.may_undo.Tie as tie
@@ -66,7 +66,7 @@ loop-again c =
     let words = s.args.words.now in
     let at = c.before.before.before.before.loop in
     let p : ℕ → Bool = (λ j. leb s.args.i j && (same_program (operations_in words) s.args.i j && (operation (operations_in words) j).marked)) in
-    (omega arith, ap₂ ◌||◌ (undo-test words s.args.i at.at s.requires (omega arith)) at.invariant.1 ∙ sym (some_more p at.at))
+    (omega arith, ap₂ ◌||◌ (undo_test words s.args.i at.at s.requires (omega arith)) at.invariant.1 ∙ sym (some_more p at.at))
 
 returns : tie.Need-returns invariant-loop decreases-loop
 unfolding may_undo

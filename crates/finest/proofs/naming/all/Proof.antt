@@ -4,7 +4,7 @@ use mathlib.Core.Path.{◌≡◌, refl, ap, ◌∙◌}
 use mathlib.Core.Bool.{true}
 use native.Mathlib.Omega.{arith}
 use Rattle.graph.specs.Sets.{those}
-use Rattle.graph.proofs.Sets.{those-turn}
+use Rattle.graph.proofs.Sets.{those_turn}
 use Rattle.finest.specs.Finest.{all}
 use borrow.Author.Rules.{rules}
 use Rattle.finest.proofs.naming.all.Statement.{statement}
@@ -32,7 +32,7 @@ loop-less c = search rules
 loop-again : tie.Need-loop-preserved invariant-loop decreases-loop
 loop-again c =
     let at = c.before.before.loop in
-    (omega arith, those-turn (λ i. true) at.at at.out _ at.invariant.1 c.including.ensures)
+    (omega arith, those_turn (λ i. true) at.at at.out _ at.invariant.1 c.including.ensures)
 
 returns : tie.Need-returns invariant-loop decreases-loop
 unfolding all

@@ -6,7 +6,7 @@ use native.Mathlib.Omega.{arith}
 use lib.ListN.{length, take, drop, replicate, length-set}
 use Rattle.rules.specs.Words.{tabulate_from}
 use Rattle.graph.specs.Sets.{lowest}
-use Rattle.chop.proofs.Linking.{tabulate-turn}
+use Rattle.chop.proofs.Linking.{tabulate_turn}
 use Rattle.finest.specs.Operations.{most}
 use Rattle.finest.specs.Finest.{piece_at, finest_cut}
 use Rattle.finest.specs.Rows.{operations_in}
@@ -54,7 +54,7 @@ unfolding name
 loop-again c =
     let words = c.before.before.before.before.before.args.words.now in
     let at = c.before.before.loop in
-    (omega arith, length-set at.out at.at _ ∙ at.invariant.1, tabulate-turn (name words) at.at _ at.out (omega arith) at.invariant.2 c.name_of.ensures, zeros_turn at.at _ at.out at.invariant.3)
+    (omega arith, length-set at.out at.at _ ∙ at.invariant.1, tabulate_turn (name words) at.at _ at.out (omega arith) at.invariant.2 c.name_of.ensures, zeros_turn at.at _ at.out at.invariant.3)
 
 returns : tie.Need-returns invariant-loop decreases-loop
 unfolding finest_cut name

@@ -6,7 +6,7 @@ use native.Mathlib.Omega.{arith}
 use lib.ListN.{length}
 use lib.Bits.{bit_or}
 use Rattle.graph.specs.Sets.{those}
-use Rattle.graph.proofs.Sets.{those-turn}
+use Rattle.graph.proofs.Sets.{those_turn}
 use Rattle.finest.specs.Operations.{same_program}
 use Rattle.finest.specs.Rows.{operations_in}
 use Rattle.finest.proofs.InRows.{same_test}
@@ -59,7 +59,7 @@ loop-again c =
     let e =
     c.including.ensures
     ∙ ap (λ (y : Bool). cond y (bit_or at.out (2 ^ at.at)) at.out) (same_test words s.args.i at.at s.requires.0 (omega arith)) in
-    (omega arith, those-turn (same_program (operations_in words) s.args.i) at.at at.out _ at.invariant.1 e)
+    (omega arith, those_turn (same_program (operations_in words) s.args.i) at.at at.out _ at.invariant.1 e)
 
 returns : tie.Need-returns invariant-loop decreases-loop
 returns c =

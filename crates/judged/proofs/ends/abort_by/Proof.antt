@@ -45,7 +45,7 @@ is-query-requires c κs = (c.before.before.before.before.before.requires, caller
 returns-2 : tie.Need-returns-2
 returns-2 c =
     let at = c.before.before in
-    abort-ends (txns at) (number at) (slot at) (found at) _ c.before.is-query.ensures c.if1.true
+    abort-ends (txns at) (number at) (slot at) (found at) _ c.before.is_query.ensures c.if1.true
 
 kind-requires : tie.Need-kind-requires
 kind-requires c κs = let at = c.before.before in (at.before.before.before.before.before.requires.size, caller-inside (txns at) (number at) (slot at) (found at))
@@ -53,12 +53,12 @@ kind-requires c κs = let at = c.before.before in (at.before.before.before.befor
 returns-3 : tie.Need-returns-3
 returns-3 c =
     let at = c.before.before.before.before in
-    abort-settled (txns at) (number at) (slot at) (found at) _ c.before.before.before.is-query.ensures c.before.before.if1.false _ c.before.kind.ensures c.if2.true
+    abort-settled (txns at) (number at) (slot at) (found at) _ c.before.before.before.is_query.ensures c.before.before.if1.false _ c.before.kind.ensures c.if2.true
 
 returns-4 : tie.Need-returns-4
 returns-4 c =
     let at = c.before.before.before.before in
-    abort_aborts (txns at) (number at) (slot at) (found at) _ c.before.before.before.is-query.ensures c.before.before.if1.false _ c.before.kind.ensures c.if2.false
+    abort_aborts (txns at) (number at) (slot at) (found at) _ c.before.before.before.is_query.ensures c.before.before.if1.false _ c.before.kind.ensures c.if2.false
 
 pub abort-by-spec : {M : Type 1} → statement M
 abort-by-spec =

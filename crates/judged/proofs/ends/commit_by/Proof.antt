@@ -56,7 +56,7 @@ is-query-requires c κs = let at = c.before.before in (at.before.before.before.b
 returns-3 : tie.Need-returns-3
 returns-3 c =
     let at = c.before.before.before.before in
-    commit-ends (txns at) (number at) (locks at) (slot at) (found at) _ c.before.before.before.awaited-lock.ensures c.before.before.if1.false _ c.before.is-query.ensures c.if2.true
+    commit-ends (txns at) (number at) (locks at) (slot at) (found at) _ c.before.before.before.awaited-lock.ensures c.before.before.if1.false _ c.before.is_query.ensures c.if2.true
 
 kind-requires : tie.Need-kind-requires
 kind-requires c κs = let at = c.before.before.before.before in (at.before.before.before.before.before.before.requires.0.size, caller-inside (txns at) (number at) (slot at) (found at))
@@ -64,7 +64,7 @@ kind-requires c κs = let at = c.before.before.before.before in (at.before.befor
 returns-4 : tie.Need-returns-4
 returns-4 c =
     let at = c.before.before.before.before.before.before in
-    commit-settled (txns at) (number at) (locks at) (slot at) (found at) _ c.before.before.before.before.before.awaited-lock.ensures c.before.before.before.before.if1.false _ c.before.before.before.is-query.ensures c.before.before.if2.false _ c.before.kind.ensures c.if3.true
+    commit-settled (txns at) (number at) (locks at) (slot at) (found at) _ c.before.before.before.before.before.awaited-lock.ensures c.before.before.before.before.if1.false _ c.before.before.before.is_query.ensures c.before.before.if2.false _ c.before.kind.ensures c.if3.true
 
 commit-update-requires : tie.Need-commit-update-requires
 commit-update-requires c κs =
@@ -75,7 +75,7 @@ commit-update-requires c κs =
 returns-5 : tie.Need-returns-5
 returns-5 c =
     let at = c.before.before.before.before.before.before.before in
-    c.commit-update.ensures ∙ commit-updates (txns at) (number at) (locks at) (slot at) (found at) _ c.before.before.before.before.before.before.awaited-lock.ensures c.before.before.before.before.before.if1.false _ c.before.before.before.before.is-query.ensures c.before.before.before.if2.false _ c.before.before.kind.ensures c.before.if3.false
+    c.commit-update.ensures ∙ commit-updates (txns at) (number at) (locks at) (slot at) (found at) _ c.before.before.before.before.before.before.awaited-lock.ensures c.before.before.before.before.before.if1.false _ c.before.before.before.before.is_query.ensures c.before.before.before.if2.false _ c.before.before.kind.ensures c.before.if3.false
 
 pub commit-by-spec : {M : Type 1} → statement M
 commit-by-spec =

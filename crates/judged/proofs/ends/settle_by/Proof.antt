@@ -46,7 +46,7 @@ is-query-requires c κs = (c.before.before.before.before.before.requires, caller
 returns-2 : tie.Need-returns-2
 returns-2 c =
     let at = c.before.before in
-    settle-query (txns at) (number at) (slot at) (found at) _ c.before.is-query.ensures c.if1.true
+    settle-query (txns at) (number at) (slot at) (found at) _ c.before.is_query.ensures c.if1.true
 
 kind-requires : tie.Need-kind-requires
 kind-requires c κs = let at = c.before.before in (at.before.before.before.before.before.requires.size, caller-inside (txns at) (number at) (slot at) (found at))
@@ -54,7 +54,7 @@ kind-requires c κs = let at = c.before.before in (at.before.before.before.befor
 returns-3 : tie.Need-returns-3
 returns-3 c =
     let at = c.before.before.before.before in
-    settle-past (txns at) (number at) (slot at) (found at) _ c.before.before.before.is-query.ensures c.before.before.if1.false _ c.before.kind.ensures c.if2.true
+    settle-past (txns at) (number at) (slot at) (found at) _ c.before.before.before.is_query.ensures c.before.before.if1.false _ c.before.kind.ensures c.if2.true
 
 awaited-lock-requires : tie.Need-awaited-lock-requires
 awaited-lock-requires c κs = let at = c.before.before.before.before in (at.before.before.before.before.before.requires.size, caller-inside (txns at) (number at) (slot at) (found at))
@@ -67,7 +67,7 @@ returns-4 : tie.Need-returns-4
 returns-4 c =
     let b = c.before.before in
     let at = who b in
-    settle-waits (txns at) (number at) (slot at) (found at) _ b.before.before.before.is-query.ensures b.before.before.if1.false _ b.before.kind.ensures b.if2.false _ c.before.awaited-lock.ensures c.if3.true
+    settle-waits (txns at) (number at) (slot at) (found at) _ b.before.before.before.is_query.ensures b.before.before.if1.false _ b.before.kind.ensures b.if2.false _ c.before.awaited-lock.ensures c.if3.true
 
 clock-requires : tie.Need-clock-requires
 clock-requires c κs = search rules
@@ -85,7 +85,7 @@ returns-5 : tie.Need-returns-5
 returns-5 c =
     let b = c.before.before.before.before.before.before in
     let at = who b in
-    settle_spent (txns at) (number at) (slot at) (found at) _ b.before.before.before.is-query.ensures b.before.before.if1.false _ b.before.kind.ensures b.if2.false _ c.before.before.before.before.before.awaited-lock.ensures c.before.before.before.before.if3.false _ c.before.before.before.clock.ensures at.before.before.before.before.before.pre (sym c.before.before.next.ensures ∙ c.enum-told3.given.1)
+    settle_spent (txns at) (number at) (slot at) (found at) _ b.before.before.before.is_query.ensures b.before.before.if1.false _ b.before.kind.ensures b.if2.false _ c.before.before.before.before.before.awaited-lock.ensures c.before.before.before.before.if3.false _ c.before.before.before.clock.ensures at.before.before.before.before.before.pre (sym c.before.before.next.ensures ∙ c.enum-told3.given.1)
 
 some-relaxed-requires : tie.Need-some-relaxed-requires
 some-relaxed-requires c κs = (who c.before.before.before.before.before.before).before.before.before.before.before.requires.size
@@ -95,14 +95,14 @@ returns-6 c =
     let d = c.before.before in
     let b = d.before.before.before.before.before.before in
     let at = who b in
-    settle-apart (txns at) (number at) (slot at) (found at) _ b.before.before.before.is-query.ensures b.before.before.if1.false _ b.before.kind.ensures b.if2.false _ d.before.before.before.before.before.awaited-lock.ensures d.before.before.before.before.if3.false _ d.before.before.before.clock.ensures _ (sym d.before.before.next.ensures ∙ d.enum-told2.given.1) _ c.before.some_relaxed_lem.ensures c.if4.true
+    settle-apart (txns at) (number at) (slot at) (found at) _ b.before.before.before.is_query.ensures b.before.before.if1.false _ b.before.kind.ensures b.if2.false _ d.before.before.before.before.before.awaited-lock.ensures d.before.before.before.before.if3.false _ d.before.before.before.clock.ensures _ (sym d.before.before.next.ensures ∙ d.enum-told2.given.1) _ c.before.some_relaxed_lem.ensures c.if4.true
 
 returns-7 : tie.Need-returns-7
 returns-7 c =
     let d = c.before.before in
     let b = d.before.before.before.before.before.before in
     let at = who b in
-    settle_settles (txns at) (number at) (slot at) (found at) _ b.before.before.before.is-query.ensures b.before.before.if1.false _ b.before.kind.ensures b.if2.false _ d.before.before.before.before.before.awaited-lock.ensures d.before.before.before.before.if3.false _ d.before.before.before.clock.ensures _ (sym d.before.before.next.ensures ∙ d.enum-told2.given.1) _ c.before.some_relaxed_lem.ensures c.if4.false
+    settle_settles (txns at) (number at) (slot at) (found at) _ b.before.before.before.is_query.ensures b.before.before.if1.false _ b.before.kind.ensures b.if2.false _ d.before.before.before.before.before.awaited-lock.ensures d.before.before.before.before.if3.false _ d.before.before.before.clock.ensures _ (sym d.before.before.next.ensures ∙ d.enum-told2.given.1) _ c.before.some_relaxed_lem.ensures c.if4.false
 
 pub settle-by-spec : {M : Type 1} → statement M
 settle-by-spec =

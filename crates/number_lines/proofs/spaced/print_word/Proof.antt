@@ -2,7 +2,7 @@
 use borrow.Author.Rules.{rules}
 use native.Mathlib.Omega.{arith}
 use Rattle.numerals.proofs.Decimals.{length-decimal}
-use Rattle.texts.proofs.Written.{wrote-more}
+use Rattle.texts.proofs.Written.{wrote_more}
 use Rattle.number_lines.proofs.Printed.{spaced_one}
 use Rattle.number_lines.proofs.spaced.print_word.Statement.{statement}
 use Rattle.number_lines.proofs.spaced.print_word.Tie as tie
@@ -17,7 +17,7 @@ same_length : tie.Need-same-length
 same_length c = search rules
 
 returns : tie.Need-returns
-returns c = rw (← spaced_one c.before.before.before.before.before.before.before.before.before.args.word) (wrote-more (omega (arith, c.before.before.before.before.before.before.before.before.before.requires)) c.before.before.before.before.before.before.put.ensures c.before.before.decimal.ensures)
+returns c = rw (← spaced_one c.before.before.before.before.before.before.before.before.before.args.word) (wrote_more (omega (arith, c.before.before.before.before.before.before.before.before.before.requires)) c.before.before.before.before.before.before.put.ensures c.before.before.decimal.ensures)
 
 pub print-word-spec : {M : Type 1} → statement M
 print-word-spec = tie.close (tie.spec put-requires decimal-requires same_length returns)

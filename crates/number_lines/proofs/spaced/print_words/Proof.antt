@@ -8,7 +8,7 @@ use lib.Seq.{take_all}
 use Rattle.numerals.specs.Print.{spaced}
 use Rattle.texts.specs.Written.{Wrote}
 use Rattle.numerals.proofs.Decimals.{length-spaced}
-use Rattle.texts.proofs.Written.{wrote-more}
+use Rattle.texts.proofs.Written.{wrote_more}
 use Rattle.number_lines.proofs.Printed.{spaced-next, wrote_none}
 use Rattle.number_lines.proofs.spaced.print_words.Statement.{statement}
 use Rattle.number_lines.proofs.spaced.print_words.Tie as tie
@@ -44,7 +44,7 @@ loop-again : tie.Need-loop-preserved invariant-loop decreases-loop
 loop-again c =
     let ws = c.before.before.before.before.before.before.before.before.before.args.words.now in
     let l = c.before.before.before.before.before.before.loop in
-    (omega (arith, c.before.before.before.before.before.loop-test.true), c.before.out.given ∙ l.invariant.1, rw (← spaced-next ws l.i c.before.before.before.before.before.loop-test.true) (wrote-more (omega (arith, c.before.before.before.before.before.before.before.before.before.requires, c.before.before.before.before.before.loop-test.true, length-spaced (take l.i ws), length-take l.i ws)) l.invariant.2 c.before.before.print-word.ensures))
+    (omega (arith, c.before.before.before.before.before.loop-test.true), c.before.out.given ∙ l.invariant.1, rw (← spaced-next ws l.i c.before.before.before.before.before.loop-test.true) (wrote_more (omega (arith, c.before.before.before.before.before.before.before.before.before.requires, c.before.before.before.before.before.loop-test.true, length-spaced (take l.i ws), length-take l.i ws)) l.invariant.2 c.before.before.print-word.ensures))
 
 same_length : tie.Need-same-length invariant-loop decreases-loop
 same_length c = c.before.loop.invariant.1

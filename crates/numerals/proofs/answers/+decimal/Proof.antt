@@ -4,7 +4,7 @@ use mathlib.Core.Path.{◌∙◌}
 use native.Mathlib.Omega.{arith}
 use Rattle.numerals.specs.Numbers.{greatest}
 use Rattle.numerals.proofs.Decimals.{decimal-low, decimal_high, length-low, length_high}
-use Rattle.texts.proofs.Written.{wrote-more}
+use Rattle.texts.proofs.Written.{wrote_more}
 use Prim.Native.Nat.{ℕ, ◌<◌}
 use borrow.Fn.Kinds.{In}
 use borrow.Fn.PlainCycle.{Measures, is, falls, and}
@@ -127,7 +127,7 @@ decimal-returns-2 t c =
     let g : a.n ≤ greatest = omega arith in
     let h = decimal_high a.n c.before.before.before.before.before.before.before.before.before.if1.false g in
     let l = length_high a.n c.before.before.before.before.before.before.before.before.before.if1.false g in
-    rw (h, ← c.before.before.before.glyph2.ensures) (wrote-more (omega (arith, l, c.before.before.before.before.before.before.before.before.before.before.before.requires.1)) c.before.before.before.before.before.before.before.decimal.ensures c.before.before.put2.ensures)
+    rw (h, ← c.before.before.before.glyph2.ensures) (wrote_more (omega (arith, l, c.before.before.before.before.before.before.before.before.before.before.before.requires.1)) c.before.before.before.before.before.before.before.decimal.ensures c.before.before.put2.ensures)
 
 pub +decimal-spec : {M : Type 1} → statement M
 +decimal-spec = close μ-decimal λ t. decimal-lts.spec (

@@ -3,7 +3,7 @@ use borrow.Author.Rules.{rules}
 use native.Mathlib.Omega.{arith}
 use Rattle.numerals.specs.Print.{followed}
 use Rattle.numerals.proofs.Decimals.{length-followed}
-use Rattle.texts.proofs.Written.{wrote-more}
+use Rattle.texts.proofs.Written.{wrote_more}
 use Rattle.numerals.proofs.answers.followed.Statement.{statement}
 use Rattle.numerals.proofs.answers.followed.Tie as tie
 
@@ -24,7 +24,7 @@ returns : tie.Need-returns
 unfolding followed
 returns c =
     let a = c.before.before.before.before.before.before.before.before.before.args in
-    wrote-more (omega (arith, length-followed a.n a.byte, c.before.before.before.before.before.before.before.before.before.requires)) c.before.before.before.before.before.before.decimal.ensures c.before.before.put.ensures
+    wrote_more (omega (arith, length-followed a.n a.byte, c.before.before.before.before.before.before.before.before.before.requires)) c.before.before.before.before.before.before.decimal.ensures c.before.before.put.ensures
 
 pub followed-spec : {M : Type 1} → statement M
 followed-spec = tie.close (tie.spec decimal-requires put-requires same_length returns)

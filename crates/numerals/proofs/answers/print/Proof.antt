@@ -3,7 +3,7 @@ use borrow.Author.Rules.{rules}
 use native.Mathlib.Omega.{arith}
 use Rattle.numerals.specs.Print.{answer_line}
 use Rattle.numerals.proofs.Decimals.{followed-short}
-use Rattle.texts.proofs.Written.{wrote-more}
+use Rattle.texts.proofs.Written.{wrote_more}
 use Rattle.numerals.proofs.answers.print.Statement.{statement}
 use Rattle.numerals.proofs.answers.print.Tie as tie
 
@@ -39,9 +39,9 @@ returns c =
     let three = c.before.before.before.before.before.before.followed3.ensures in
     let k = c.before.before.before.before.before.before.before.before.before.before.before.before.before.before.followed.auto.1.1.0 in
     let m = c.before.before.before.before.before.before.before.before.before.before.followed2.auto.1.1.0 in
-    wrote-more (omega (arith, c.before.before.before.before.before.before.before.before.before.before.before.before.before.before.before.before.before.requires, followed-short a.code 32)) one
-    (wrote-more (omega (arith, c.before.before.before.before.before.before.before.before.before.before.before.before.before.before.before.before.before.requires, followed-short a.code 32, followed-short a.value 32, one.index, k)) two
-    (wrote-more (omega (arith, c.before.before.before.before.before.before.before.before.before.before.before.before.before.before.before.before.before.requires, followed-short a.code 32, followed-short a.value 32, followed-short a.number 32, one.index, k, two.index, m)) three
+    wrote_more (omega (arith, c.before.before.before.before.before.before.before.before.before.before.before.before.before.before.before.before.before.requires, followed-short a.code 32)) one
+    (wrote_more (omega (arith, c.before.before.before.before.before.before.before.before.before.before.before.before.before.before.before.before.before.requires, followed-short a.code 32, followed-short a.value 32, one.index, k)) two
+    (wrote_more (omega (arith, c.before.before.before.before.before.before.before.before.before.before.before.before.before.before.before.before.before.requires, followed-short a.code 32, followed-short a.value 32, followed-short a.number 32, one.index, k, two.index, m)) three
     c.before.before.followed4.ensures))
 
 pub print-spec : {M : Type 1} → statement M

@@ -1,7 +1,7 @@
 -- `print_bad` writes the four bytes, one after the other.
 use borrow.Author.Rules.{rules}
 use native.Mathlib.Omega.{arith}
-use Rattle.texts.proofs.Written.{wrote-more}
+use Rattle.texts.proofs.Written.{wrote_more}
 use Rattle.numerals.proofs.answers.print_bad.Statement.{statement}
 use Rattle.numerals.proofs.answers.print_bad.Tie as tie
 
@@ -27,9 +27,9 @@ returns c =
     let three = c.before.before.before.before.before.before.put3.ensures in
     let k = c.before.before.before.before.before.before.before.before.before.before.before.before.before.before.put.auto.0 in
     let m = c.before.before.before.before.before.before.before.before.before.before.put2.auto.0 in
-    wrote-more (omega (arith, c.before.before.before.before.before.before.before.before.before.before.before.before.before.before.before.before.before.requires)) one
-    (wrote-more (omega (arith, c.before.before.before.before.before.before.before.before.before.before.before.before.before.before.before.before.before.requires, one.index, k)) two
-    (wrote-more (omega (arith, c.before.before.before.before.before.before.before.before.before.before.before.before.before.before.before.before.before.requires, one.index, k, two.index, m)) three
+    wrote_more (omega (arith, c.before.before.before.before.before.before.before.before.before.before.before.before.before.before.before.before.before.requires)) one
+    (wrote_more (omega (arith, c.before.before.before.before.before.before.before.before.before.before.before.before.before.before.before.before.before.requires, one.index, k)) two
+    (wrote_more (omega (arith, c.before.before.before.before.before.before.before.before.before.before.before.before.before.before.before.before.before.requires, one.index, k, two.index, m)) three
     c.before.before.put4.ensures))
 
 pub print-bad-spec : {M : Type 1} → statement M

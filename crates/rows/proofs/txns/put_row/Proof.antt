@@ -6,7 +6,7 @@ use native.Mathlib.Omega.{arith}
 use lib.ListN.{length, set, length-set}
 use Rattle.names.specs.Layout.{txn_kind_at, txn_start_at}
 use Rattle.rules.specs.Tables.{txn_at, set_txn, no_txn}
-use Rattle.rules.proofs.Views.{length-set_txn, setTxn-new}
+use Rattle.rules.proofs.Views.{length-set_txn, set_txn_new}
 use borrow.Author.Rules.{rules}
 use Rattle.rows.proofs.txns.put_row.Statement.{statement}
 use Rattle.rows.proofs.txns.put_row.Tie as tie
@@ -61,7 +61,7 @@ returns : tie.Need-returns
 returns c =
     let a = (start c).args in
     ap (λ (u : List ℕ). set (set (set u (txn_at a.slot.0) a.number.0) (txn_at a.slot.0 + txn_kind_at) a.kind) (txn_at a.slot.0 + txn_start_at) a.start.0) (cleared c)
-    ∙ sym (setTxn-new a.txns.now a.slot.0 a.number.0 a.kind a.start.0)
+    ∙ sym (set_txn_new a.txns.now a.slot.0 a.number.0 a.kind a.start.0)
 
 pub put-row-spec : {M : Type 1} → statement M
 put-row-spec =

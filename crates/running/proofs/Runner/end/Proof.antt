@@ -5,7 +5,7 @@ use borrow.Author.Tests.{not-true, not-false}
 use Rattle.rules.specs.Tables.{Tables, tables}
 use Rattle.lines.specs.Lines.{Held, held_by}
 use Rattle.running.specs.Life.{state_of}
-use Rattle.running.proofs.Keeping.{last-used, last_replied, none_replied}
+use Rattle.running.proofs.Keeping.{last_used, last_replied, none_replied}
 use borrow.Author.Rules.{rules}
 use Rattle.running.proofs.Runner.end.Statement.{statement}
 use Rattle.running.proofs.Runner.end.Tie as tie
@@ -52,7 +52,7 @@ returns-2 c =
     let t = sym (seen c).before.begun.ensures ∙ not-false _ (seen c).if1.false in
     let q = c.before.before.before.before.before.before.before.before.before.before.read_as.ensures in
     let w = c.before.before.before.before.before.respond.ensures.0 in
-    (last-used h G t q w start.pre, last_replied h G t q w)
+    (last_used h G t q w start.pre, last_replied h G t q w)
 
 pub end-spec : {M : Type 1} → statement M
 end-spec =

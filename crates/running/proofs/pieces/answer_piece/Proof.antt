@@ -7,7 +7,7 @@ use Rattle.rules.specs.Tables.{tables}
 use Rattle.lines.specs.Lines.{held_by}
 use Rattle.running.specs.Replies.{longest_reply}
 use Rattle.running.specs.Life.{state}
-use Rattle.running.proofs.Answering.{Going, going-first, room-left, going_on, going-past, end_used, end_after, end_wrote}
+use Rattle.running.proofs.Answering.{Going, going_first, room-left, going_on, going_past, end_used, end_after, end_wrote}
 use borrow.Author.Rules.{rules}
 use Rattle.running.proofs.pieces.answer_piece.Statement.{statement}
 use Rattle.running.proofs.pieces.answer_piece.Tie as tie
@@ -21,7 +21,7 @@ abbrev decreases-loop : tie.decreases-loop
 decreases-loop piece txns₀ locks₀ versions₀ out₀ held₀ used₀ at₀ txns locks versions out held used at = length piece - at
 
 loop-holds : tie.Need-loop-init invariant-loop decreases-loop
-loop-holds c = (going-first _ _ _, refl, refl, refl)
+loop-holds c = (going_first _ _ _, refl, refl, refl)
 
 next-requires : tie.Need-next-requires invariant-loop decreases-loop
 next-requires c κs = search rules
@@ -65,7 +65,7 @@ loop-again-2 c =
     let turn = c.before.before.before in
     let i = turn.before.loop.invariant in
     let next = c.before.before.next in
-    (going-past (asked turn) i.0 next.result next.ensures c.if1.false, i.1, i.2, i.3)
+    (going_past (asked turn) i.0 next.result next.ensures c.if1.false, i.1, i.2, i.3)
 
 same_length : tie.Need-same-length invariant-loop decreases-loop
 same_length c = c.before.loop.invariant.1

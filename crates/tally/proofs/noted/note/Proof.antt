@@ -2,7 +2,7 @@
 use Rattle.std.proofs.Common.{◌≡◌, ℕ, true, false, List, sym, ◌∙◌, leb→le, rules, eq-eqb, ne_eqb}
 use Rattle.names.specs.Sizes.{base}
 use Rattle.rules.proofs.Tests.{true_is}
-use Rattle.rules.proofs.Counts.{everyBelow→}
+use Rattle.rules.proofs.Counts.{every_below→}
 use Rattle.ranks.specs.Lines.{RanksSmall}
 use Rattle.tally.specs.Noted.{rank_small, ranks_small, waited}
 use Rattle.tally.proofs.noted.note.Statement.{statement}
@@ -10,7 +10,7 @@ use Rattle.tally.proofs.noted.note.Tie as tie
 
 small : (t : List ℕ) → ranks_small t ≡ true → RanksSmall t
 unfolding ranks_small rank_small
-small t h = record { at = λ s i. leb→le _ _ (everyBelow→ base.slots (rank_small t) (true_is h) s i) }
+small t h = record { at = λ s i. leb→le _ _ (every_below→ base.slots (rank_small t) (true_is h) s i) }
 
 ranks-small-requires : tie.Need-ranks-small-requires
 ranks-small-requires c κs = search rules

@@ -6,7 +6,7 @@ use native.Mathlib.Omega.{arith}
 use lib.ListN.{length, take, drop}
 use lib.Seq.{length-take-le}
 use Rattle.texts.specs.Written.{Wrote}
-use Rattle.texts.proofs.Written.{wrote_nothing, text_next, wrote-more}
+use Rattle.texts.proofs.Written.{wrote_nothing, text_next, wrote_more}
 use Rattle.told_lines.specs.Names.{unpadded}
 use Rattle.told_lines.proofs.Names.{unpadded_zero, unpadded-next, unpadded_end}
 use borrow.Author.Rules.{rules}
@@ -52,7 +52,7 @@ loop-again c =
     let l = c.before.before.before.before.before.before.before.loop in
     let n = c.before.before.before.before.before.before.before.before.before.before.args.name.now in
     let t = c.before.before.before.before.before.before.loop-test.true in
-    (omega (arith, t), c.before.out.given ∙ l.invariant.1, rw (sym (text_next n l.k t)) (wrote-more (omega (arith, c.before.before.before.before.before.before.before.before.before.before.requires, length-take-le l.k n l.invariant.0)) l.invariant.2 c.before.before.put.ensures), unpadded-next n l.k t c.before.before.before.before.if1.false l.invariant.3)
+    (omega (arith, t), c.before.out.given ∙ l.invariant.1, rw (sym (text_next n l.k t)) (wrote_more (omega (arith, c.before.before.before.before.before.before.before.before.before.before.requires, length-take-le l.k n l.invariant.0)) l.invariant.2 c.before.before.put.ensures), unpadded-next n l.k t c.before.before.before.before.if1.false l.invariant.3)
 
 same-length-2 : tie.Need-same-length-2 invariant-loop decreases-loop
 same-length-2 c = c.before.loop.invariant.1

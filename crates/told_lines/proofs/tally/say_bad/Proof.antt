@@ -1,7 +1,7 @@
 -- The words, the number, and the end of the line.
 use native.Mathlib.Omega.{arith}
 use Rattle.numerals.proofs.Decimals.{length-decimal}
-use Rattle.texts.proofs.Written.{wrote-more}
+use Rattle.texts.proofs.Written.{wrote_more}
 use Rattle.told_lines.specs.Lines.{bad_text}
 use borrow.Author.Rules.{rules}
 use Rattle.told_lines.proofs.tally.say_bad.Statement.{statement}
@@ -33,7 +33,7 @@ returns c =
     let p = c.before.before.before.before.before.before.before.before.before.before.before.before.before.before.requires in
     let one = c.before.before.before.before.before.before.before.before.before.before.put-text.ensures in
     let k = c.before.before.before.before.before.before.before.before.before.out.given in
-    wrote-more (omega (arith, p)) one (wrote-more (omega (arith, n, p, one.index, k)) c.before.before.before.before.before.before.decimal.ensures c.before.before.put.ensures)
+    wrote_more (omega (arith, p)) one (wrote_more (omega (arith, n, p, one.index, k)) c.before.before.before.before.before.before.decimal.ensures c.before.before.put.ensures)
 
 pub say-bad-spec : {M : Type 1} → statement M
 say-bad-spec =

@@ -2,7 +2,7 @@
 use mathlib.Core.Path.{sym, ◌∙◌}
 use native.Mathlib.Omega.{arith}
 use Rattle.number_lines.specs.Lines.{held_by}
-use Rattle.number_lines.proofs.Scanned.{digit-below, digit_above, digit_large, digit-more}
+use Rattle.number_lines.proofs.Scanned.{digit_below, digit_above, digit_large, digit-more}
 use borrow.Author.Rules.{rules}
 use Rattle.number_lines.proofs.scan.Scan.digit.Statement.{statement}
 use Rattle.number_lines.proofs.scan.Scan.digit.Tie as tie
@@ -11,7 +11,7 @@ spoil-requires : tie.Need-spoil-requires
 spoil-requires c κs = search rules
 
 returns : tie.Need-returns
-returns c = λ words. c.spoil.ensures words ∙ sym (digit-below c.before.before.args.byte c.before.if1.true (held_by words c.before.before.args.self))
+returns c = λ words. c.spoil.ensures words ∙ sym (digit_below c.before.before.args.byte c.before.if1.true (held_by words c.before.before.args.self))
 
 spoil-requires-2 : tie.Need-spoil-requires-2
 spoil-requires-2 c κs = search rules
