@@ -4,6 +4,8 @@
 // So tables that no run of calls leads to, damaged ones among them, can be held against a second
 // keeper. All that it does is proved in `answering`. Here the bytes that are read are handed over, piece
 // by piece and in their order, and what is put out is written.
+#![tactic(auto)]
+
 ghost use Rattle.std.specs.Prelude.{◌≡◌, length};
 ghost use Rattle.answering.specs.Life.{room_for};
 

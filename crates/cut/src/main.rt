@@ -4,6 +4,8 @@
 // All that it does is proved in `cutting`. Here the bytes that are read are handed over, piece by
 // piece and in their order, and what is put out is written. Input that cannot be read to its end is
 // not judged: that is said on standard error, and then standard output stays empty.
+#![tactic(auto)]
+
 ghost use Rattle.std.specs.Prelude.{◌≡◌, length};
 ghost use Rattle.finding_lines.specs.Lines.{longest_line};
 

@@ -5,7 +5,7 @@ use libc::{SEEK_END, SEEK_SET, STDERR_FILENO};
 const FARTHEST: u64 = 9223372036854775808;
 
 // The size of a file.
-#[derive(Drop)]
+#[derive(Clone, Copy)]
 pub(crate) enum Size {
     Known(u64),
     Unknown,

@@ -4,6 +4,8 @@
 // The file is opened twice, one place at the calls and one at the answers, and both are read in
 // pieces of whole records, so that its size does not matter. What cannot be read is told on standard
 // error, and then standard output stays empty.
+#![tactic(auto)]
+
 mod file;
 mod handing;
 

@@ -1,6 +1,8 @@
 // Input cut into lines, chunk by chunk.
 //
 // What a line says is for those above: here a line is its bytes, or too long to be kept.
+#![tactic(auto)]
+
 ghost use Rattle.std.specs.Prelude.{◌≡◌, []};
 ghost use Rattle.lines.specs.Lines.{short, more, begun, held_by, Goes};
 

@@ -2,6 +2,8 @@
 //
 // A line may have any length, so it is not kept: `Line` knows how far its words have come, and what
 // they have said of the operation.
+#![tactic(auto)]
+
 mod stages;
 
 ghost use Rattle.std.specs.Prelude.{◌≡◌, List, [], ◌∷◌, ◌++◌, ℕ};
@@ -22,7 +24,7 @@ pub struct Line {
 }
 
 // What a line says, once it is ended: the operation is in what is noted.
-#[derive(Drop)]
+#[derive(Clone, Copy)]
 pub enum Told {
     Comment,
     Operation,

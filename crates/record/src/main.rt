@@ -7,6 +7,8 @@
 // (`recorder`): here bytes are handed over and written as they are put out. Until all is written
 // the first count is the greatest word, so that an unfinished journal is judged short. Whatever
 // fails is said on standard error, and then nothing is written to standard output.
+#![tactic(auto)]
+
 ghost use Rattle.std.specs.Prelude.{◌≡◌, true, length};
 ghost use Rattle.recorder.specs.Second.{left};
 

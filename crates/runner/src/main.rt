@@ -3,6 +3,8 @@
 //
 // All that it does is proved in `running`. Here the bytes that are read are handed over, piece by
 // piece and in their order, and what is put out is written.
+#![tactic(auto)]
+
 ghost use Rattle.std.specs.Prelude.{◌≡◌, ◌*◌, length};
 ghost use Rattle.running.specs.Replies.{longest_reply};
 

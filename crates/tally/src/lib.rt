@@ -2,6 +2,8 @@
 // tables that differ.
 //
 // Every function is proved against a definition of specs/.
+#![tactic(auto)]
+
 mod noted;
 mod score;
 mod tally;

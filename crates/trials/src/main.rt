@@ -4,6 +4,8 @@
 // A line for each step says what was expected and what was found, and ends in DIFFERS where the two
 // are not the same; the last line counts. What is expected is written in the texts of the trials,
 // from document 01 and not from what the keeper answers.
+#![tactic(auto)]
+
 mod bad_heads;
 mod bad_items;
 mod bad_reads;

@@ -35,7 +35,7 @@ pub const LOCKS: u8 = b'l';
 pub const VERSIONS: u8 = b'v';
 
 // How many words of each table are lent.
-#[derive(Drop)]
+#[derive(Clone, Copy)]
 pub struct Lent {
     pub txns: usize,
     pub locks: usize,
