@@ -42,7 +42,7 @@ pub struct Fields {
 }
 
 // What four words say.
-#[derive(Drop)]
+#[derive(Clone, Copy)]
 pub enum CallOf {
     Known(Call),
     Unknown,

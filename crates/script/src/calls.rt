@@ -14,7 +14,7 @@ use names::Call;
 use numerals::{Taken, number};
 
 // What a line says.
-#[derive(Drop)]
+#[derive(Clone, Copy)]
 pub enum Parsed {
     Call(Call),
     Bad,
