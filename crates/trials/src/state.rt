@@ -51,7 +51,7 @@ pub struct Tables {
 }
 
 // What a call answered, and what it left.
-#[derive(Clone, Copy)]
+#[derive(Drop)]
 pub struct Called {
     pub answer: Answer,
     pub tables: Tables,

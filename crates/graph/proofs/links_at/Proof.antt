@@ -1,0 +1,21 @@
+-- `graph::links_at` meets its contract.
+use mathlib.Core.Path.{sym}
+use lib.ListN.{get_or-eq_default}
+use borrow.Author.Rules.{rules}
+use Rattle.graph.proofs.links_at.Statement.{statement}
+use Rattle.graph.proofs.links_at.Tie as tie
+
+mul-result : tie.Need-overflow-mul-result
+mul-result c = search rules
+
+shared-slice-read-result : tie.Need-shared-slice-read-result
+shared-slice-read-result c = search rules
+
+returns : tie.Need-returns
+returns c = search rules
+
+returns-2 : tie.Need-returns-2
+returns-2 c = sym (get_or-eq_default c.before.args.links.now 0 {n = c.before.args.at} c.if1.false)
+
+pub links-at-spec : {M : Type 1} → statement M
+links-at-spec = tie.close (tie.spec mul-result shared-slice-read-result returns returns-2)
