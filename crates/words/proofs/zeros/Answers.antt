@@ -1,15 +1,30 @@
-use Rattle.std.proofs.Common.{rules, ◌≡◌, ◌+◌, ◌≤◌, length, ℕ, ◌-◌, ◌*◌, ◌<◌, ◌/◌, ◌%◌, Bool, true, false, nat_eq, nat_lt, List, [], ◌∷◌, ◌++◌, slice_index_or, slice_set, bit_and, bit_or, Fits, w8, w32, w64, Bor, MutBor}
+use mathlib.Core.Path.{◌≡◌, refl, sym, ap, ◌∙◌}
+use mathlib.Core.Bool.{Bool, ◌&&◌}
+use Prim.Native.Nat.{ℕ, ◌+◌}
+use native.Mathlib.Omega.{arith}
+use lib.ListN.{get_or}
+use lib.Dec.{eqb}
+use Rattle.rules.specs.Words.{every_below}
 use Rattle.words.specs.Zeros.{zero_words}
+use Rattle.words.proofs.Turns.{every_more, or_zero}
 use Rattle.words.proofs.zeros.Goals as goal
 
--- src/lib.rt:12:5
 pub loop-k-init : goal.loop-k-init
-loop-k-init c = ?
+unfolding every_below
+loop-k-init c = (omega arith, refl)
 
--- src/lib.rt:12:5
 pub loop-k-preserved : goal.loop-k-preserved
-loop-k-preserved c = ?
+loop-k-preserved c =
+    let a = c.args in
+    let k = c.loop-k.k in
+    let w = get_or a.words.now (a.from + k) 0 in (
+      omega arith,
+      or_zero c.loop-k.acc w ∙ ap (λ (b : Bool). eqb w 0 && b) c.loop-k.invariant.1 ∙ sym (every_more _ _),
+    )
 
--- src/lib.rt:6:1
 pub returns : goal.returns
-returns c = ?
+unfolding zero_words
+returns c =
+    let a = c.args in
+    let e : c.loop-k.k ≡ a.n = omega arith in
+    c.loop-k.invariant.1 ∙ ap (λ (n : ℕ). every_below n (λ (j : ℕ). eqb (get_or a.words.now (a.from + j) 0) 0)) e
