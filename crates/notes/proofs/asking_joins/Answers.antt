@@ -1,6 +1,4 @@
 -- To write is to join the sets of those that have read.
-use borrow.Author.Rules.{rules}
-use mathlib.Core.Path.{◌∙◌, sym}
 use borrow.Author.Tests.{eq-eqb, ne_eqb}
 use Rattle.rules.specs.Step.{asking_joins}
 use Rattle.rules.specs.Tables.{exclusive_lock}

@@ -1,12 +1,10 @@
-use borrow.Author.Rules.{rules}
-use Prim.Native.Nat.{ℕ, ◌+◌, ◌-◌, ◌≤◌}
+use Prim.Native.Nat.{ℕ, ◌+◌}
 use mathlib.Core.Path.{◌≡◌, refl, ap, ◌∙◌}
 use mathlib.Core.List.{List}
 use native.Mathlib.Omega.{arith}
 use lib.ListN.{length, set}
 use Rattle.names.specs.Sizes.{base}
 use Rattle.names.specs.Layout.{txn_later_for_at}
-use Rattle.rules.specs.Words.{without_bit}
 use Rattle.rules.specs.Tables.{Txn, txn_at, txn, reworded}
 use Rattle.rules.specs.Step.{forgotten}
 use Rattle.rules.proofs.Views.{length-reworded}

@@ -1,16 +1,10 @@
 -- The sets of the rows passed are rewritten, the others are as they were.
-use Prim.Native.Nat.{ℕ, ◌+◌, ◌-◌, ◌≤◌}
-use mathlib.Core.Path.{◌≡◌, refl, ap, ◌∙◌}
-use mathlib.Core.List.{List}
-use native.Mathlib.Omega.{arith}
-use lib.ListN.{length, set}
+use Prim.Native.Nat.{ℕ, ◌-◌, ◌≤◌}
+use mathlib.Core.Path.{◌≡◌}
 use Rattle.names.specs.Sizes.{base}
 use Rattle.names.specs.Layout.{txn_later_for_at}
 use Rattle.rules.specs.Words.{without_bit}
-use Rattle.rules.specs.Tables.{Txn, txn_at, txn, reworded}
-use Rattle.rules.specs.Step.{forgotten}
-use Rattle.rules.proofs.Views.{length-reworded}
-use Rattle.rows.proofs.Rewords.{reworded-more}
+use Rattle.rules.specs.Tables.{Txn, reworded}
 use Rattle.notes.proofs.forget.Given as goal
 
 -- the sets without that of slot q

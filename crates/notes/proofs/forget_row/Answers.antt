@@ -1,7 +1,6 @@
 -- The slot's digit goes.
-use borrow.Author.Rules.{rules}
 use Prim.Native.Nat.{ℕ, ◌+◌}
-use mathlib.Core.Path.{◌≡◌, ap, ◌∙◌}
+use mathlib.Core.Path.{ap, ◌∙◌}
 use lib.ListN.{set}
 use Rattle.names.specs.Layout.{txn_later_for_at}
 use Rattle.rules.specs.Words.{without_bit}

@@ -1,5 +1,4 @@
 -- One bit of the word.
-use borrow.Author.Rules.{rules}
 use mathlib.Core.Path.{ap}
 use Prim.Native.Nat.{ℕ}
 use Rattle.rules.specs.Words.{bit}

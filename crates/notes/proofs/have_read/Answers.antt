@@ -1,12 +1,10 @@
-use borrow.Author.Rules.{rules}
-use Prim.Native.Nat.{ℕ, ◌-◌, ◌≤◌}
+use Prim.Native.Nat.{ℕ}
 use mathlib.Core.Path.{◌≡◌, refl, sym, ap, ◌∙◌}
 use mathlib.Core.Bool.{Bool}
-use mathlib.Core.List.{List}
 use native.Mathlib.Omega.{arith}
 use Rattle.names.specs.Sizes.{base}
-use Rattle.rules.specs.Words.{bit, slots_that}
-use Rattle.rules.specs.Tables.{txn, have_read}
+use Rattle.rules.specs.Words.{slots_that}
+use Rattle.rules.specs.Tables.{have_read}
 use Rattle.notes.proofs.Words.{one_in, one_out}
 use Rattle.notes.proofs.have_read.Invariants.{passes}
 use Rattle.notes.proofs.have_read.Goals as goal

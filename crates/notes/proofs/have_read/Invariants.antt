@@ -1,14 +1,11 @@
 -- Slot by slot, those that have read the item.
 use Prim.Native.Nat.{ℕ, ◌-◌, ◌≤◌}
-use mathlib.Core.Path.{◌≡◌, refl, sym, ap, ◌∙◌}
-use mathlib.Core.Logic.{⊎_elim}
+use mathlib.Core.Path.{◌≡◌}
 use mathlib.Core.Bool.{Bool}
 use mathlib.Core.List.{List}
-use native.Mathlib.Omega.{arith}
 use Rattle.names.specs.Sizes.{base}
 use Rattle.rules.specs.Words.{bit, slots_that}
-use Rattle.rules.specs.Tables.{txn, have_read}
-use Rattle.notes.proofs.Words.{one_in, one_out}
+use Rattle.rules.specs.Tables.{txn}
 use Rattle.notes.proofs.have_read.Given as goal
 
 -- slot s has read the item x

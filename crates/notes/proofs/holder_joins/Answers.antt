@@ -1,9 +1,8 @@
 -- The holder joins, if there is one.
-use borrow.Author.Rules.{rules}
-use Prim.Native.Nat.{ℕ, suc, ◌-◌, ◌^◌}
-use mathlib.Core.Path.{◌≡◌, sym, ap, ◌∙◌}
+use Prim.Native.Nat.{◌-◌}
+use mathlib.Core.Path.{ap, ◌∙◌}
 use native.Mathlib.Omega.{arith}
-use Rattle.rules.specs.Step.{joined, holder_joins}
+use Rattle.rules.specs.Step.{joined}
 use Rattle.words.proofs.SlotWords.{shifted}
 use Rattle.notes.proofs.Words.{holder_some, holder_none}
 use Rattle.notes.proofs.holder_joins.Goals as goal

@@ -1,5 +1,4 @@
 -- The sets are added to those that the slot is in.
-use borrow.Author.Rules.{rules}
 use Prim.Native.Nat.{ℕ}
 use mathlib.Core.Path.{ap, ◌∙◌}
 use lib.Bits.{bit_or}

@@ -1,14 +1,11 @@
 -- Slot by slot, the relaxed queries.
 use Prim.Native.Nat.{ℕ, ◌-◌, ◌≤◌}
-use mathlib.Core.Path.{◌≡◌, refl, sym, ap, ◌∙◌}
-use mathlib.Core.Logic.{⊎_elim}
+use mathlib.Core.Path.{◌≡◌}
 use mathlib.Core.Bool.{Bool}
 use mathlib.Core.List.{List}
-use native.Mathlib.Omega.{arith}
 use Rattle.names.specs.Sizes.{base}
 use Rattle.rules.specs.Words.{slots_that}
-use Rattle.rules.specs.Tables.{txn, live_relaxed, relaxed_in}
-use Rattle.notes.proofs.Words.{one_in, one_out}
+use Rattle.rules.specs.Tables.{txn, live_relaxed}
 use Rattle.notes.proofs.relaxed_in.Given as goal
 
 -- slot s has a relaxed query

@@ -1,13 +1,9 @@
-use borrow.Author.Rules.{rules}
-use Prim.Native.Nat.{ℕ, ◌-◌, ◌≤◌}
+use Prim.Native.Nat.{ℕ}
 use mathlib.Core.Path.{◌≡◌, refl, sym, ap, ap₂, ◌∙◌}
-use mathlib.Core.Bool.{Bool, ◌&&◌, ◌||◌}
-use mathlib.Core.List.{List}
+use mathlib.Core.Bool.{◌||◌}
 use native.Mathlib.Omega.{arith}
-use lib.Dec.{eqb}
 use Rattle.names.specs.Sizes.{base}
 use Rattle.rules.specs.Words.{some_below}
-use Rattle.rules.specs.Tables.{txn, live}
 use Rattle.words.proofs.Turns.{some_more}
 use Rattle.notes.specs.Kinds.{some_as}
 use Rattle.notes.proofs.some_as.Invariants.{passes}

@@ -1,15 +1,12 @@
 -- Slot by slot, one of the kind is looked for.
 use Prim.Native.Nat.{ℕ, ◌-◌, ◌≤◌}
-use mathlib.Core.Path.{◌≡◌, refl, sym, ap, ap₂, ◌∙◌}
-use mathlib.Core.Bool.{Bool, ◌&&◌, ◌||◌}
+use mathlib.Core.Path.{◌≡◌}
+use mathlib.Core.Bool.{Bool, ◌&&◌}
 use mathlib.Core.List.{List}
-use native.Mathlib.Omega.{arith}
 use lib.Dec.{eqb}
 use Rattle.names.specs.Sizes.{base}
 use Rattle.rules.specs.Words.{some_below}
 use Rattle.rules.specs.Tables.{txn, live}
-use Rattle.words.proofs.Turns.{some_more}
-use Rattle.notes.specs.Kinds.{some_as}
 use Rattle.notes.proofs.some_as.Given as goal
 
 -- slot s has one of the kind k

@@ -1,5 +1,4 @@
 -- The kind is that one.
-use borrow.Author.Rules.{rules}
 use Rattle.rules.specs.Tables.{live_relaxed, some_relaxed}
 use Rattle.notes.specs.Kinds.{some_as}
 use Rattle.notes.proofs.some_relaxed.Goals as goal

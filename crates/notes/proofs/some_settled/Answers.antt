@@ -1,5 +1,4 @@
 -- The kind is that one.
-use borrow.Author.Rules.{rules}
 use Rattle.rules.specs.Tables.{live_settled, some_settled}
 use Rattle.notes.specs.Kinds.{some_as}
 use Rattle.notes.proofs.some_settled.Goals as goal

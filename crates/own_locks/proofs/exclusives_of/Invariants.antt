@@ -1,17 +1,12 @@
 -- Item by item, those that the slot holds exclusively are counted.
-use Prim.Native.Nat.{ℕ, ◌+◌, ◌≤◌, ◌-◌}
-use mathlib.Core.Path.{◌≡◌, refl, sym, ap, ◌∙◌}
-use mathlib.Core.Logic.{⊎_elim}
+use Prim.Native.Nat.{ℕ, ◌≤◌, ◌-◌}
+use mathlib.Core.Path.{◌≡◌}
 use mathlib.Core.Bool.{Bool}
 use mathlib.Core.List.{List}
-use native.Mathlib.Omega.{arith}
-use native.Mathlib.Numerals.{add-one}
 use lib.Dec.{eqb}
-use borrow.Author.Tests.{eq-eqb, ne_eqb}
 use Rattle.names.specs.Sizes.{base}
 use Rattle.rules.specs.Words.{count_below}
-use Rattle.rules.specs.Tables.{Lock, lock, holds_exclusive, exclusives_of}
-use Rattle.rules.proofs.Counts.{count_yes, count_no, count-le}
+use Rattle.rules.specs.Tables.{lock}
 use Rattle.own_locks.proofs.exclusives_of.Given as goal
 
 -- item x is held by whom the word names

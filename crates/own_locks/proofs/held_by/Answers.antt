@@ -1,5 +1,4 @@
 -- A slot holds a lock that it shares or has exclusively.
-use borrow.Author.Rules.{rules}
 use Prim.Native.Nat.{ℕ}
 use mathlib.Core.Bool.{◌||◌}
 use mathlib.Core.Path.{ap}

@@ -1,5 +1,4 @@
 -- A lock that the slot holds is written without it; one that it does not hold is as it would be written.
-use borrow.Author.Rules.{rules}
 use mathlib.Core.Path.{◌≡◌, sym, ap, ◌∙◌}
 use mathlib.Core.Bool.{false}
 use Rattle.rules.specs.Tables.{Lock, lock, set_lock, holds, released}

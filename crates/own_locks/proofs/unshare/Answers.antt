@@ -1,9 +1,7 @@
-use borrow.Author.Rules.{rules}
-use Prim.Native.Nat.{ℕ, ◌+◌, ◌-◌}
+use Prim.Native.Nat.{ℕ, ◌+◌}
 use mathlib.Core.List.{List}
 use mathlib.Core.Path.{refl, sym, ◌∙◌, subst}
 use native.Mathlib.Omega.{arith}
-use Rattle.names.specs.Sizes.{base}
 use Rattle.rules.specs.Tables.{unshared}
 use Rattle.own_locks.proofs.Releases.{Released, none_released, one_released, all_unshared}
 use Rattle.own_locks.proofs.unshare.Goals as goal

@@ -1,11 +1,8 @@
 -- The locks of the items passed are no longer shared.
-use Prim.Native.Nat.{ℕ, ◌+◌, ◌-◌}
-use mathlib.Core.List.{List}
-use mathlib.Core.Path.{refl, sym, ◌∙◌, subst}
-use native.Mathlib.Omega.{arith}
+use Prim.Native.Nat.{◌-◌}
 use Rattle.names.specs.Sizes.{base}
 use Rattle.rules.specs.Tables.{unshared}
-use Rattle.own_locks.proofs.Releases.{Released, none_released, one_released, all_unshared}
+use Rattle.own_locks.proofs.Releases.{Released}
 use Rattle.own_locks.proofs.unshare.Given as goal
 
 abbrev pub invariant-loop-x : goal.invariant-loop-x

@@ -1,5 +1,4 @@
 -- The lock is written as it is without the slot that shares it.
-use borrow.Author.Rules.{rules}
 use mathlib.Core.Path.{ap, ◌∙◌}
 use Rattle.rules.specs.Tables.{set_lock, unshared}
 use Rattle.own_locks.proofs.unshare_item.Goals as goal

@@ -1,5 +1,4 @@
 -- The slot's digit goes.
-use borrow.Author.Rules.{rules}
 use Rattle.rows.proofs.Bits.{digit-le, digit_shifted, cleared_is}
 use Rattle.own_locks.proofs.unshared.Goals as goal
 

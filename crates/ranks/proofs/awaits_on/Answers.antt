@@ -1,5 +1,4 @@
 -- Two words of a row say whether it waits on the item.
-use borrow.Author.Rules.{rules}
 use Prim.Native.Nat.{ℕ}
 use mathlib.Core.Path.{ap₂}
 use mathlib.Core.Bool.{◌&&◌, not}

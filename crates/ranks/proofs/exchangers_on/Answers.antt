@@ -1,13 +1,11 @@
-use borrow.Author.Rules.{rules}
-use Prim.Native.Nat.{ℕ, ◌+◌, ◌≤◌, ◌-◌}
+use Prim.Native.Nat.{ℕ, ◌+◌}
 use mathlib.Core.Path.{◌≡◌, refl, sym, ap, ap₂, ◌∙◌}
-use mathlib.Core.Bool.{Bool, ◌&&◌}
-use mathlib.Core.List.{List}
+use mathlib.Core.Bool.{◌&&◌}
 use native.Mathlib.Omega.{arith}
 use Rattle.names.specs.Sizes.{base}
 use Rattle.rules.specs.Words.{count_below}
-use Rattle.rules.specs.Tables.{txn, Lock, lock, holds_shared}
-use Rattle.rules.specs.Waits.{awaits_on, exchangers_on}
+use Rattle.rules.specs.Tables.{Lock, holds_shared}
+use Rattle.rules.specs.Waits.{exchangers_on}
 use Rattle.rules.proofs.Counts.{count_yes, count_no, count-le}
 use Rattle.ranks.proofs.exchangers_on.Invariants.{exchanger}
 use Rattle.ranks.proofs.exchangers_on.Goals as goal

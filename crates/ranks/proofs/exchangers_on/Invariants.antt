@@ -1,15 +1,12 @@
 -- Slot by slot, those who wait on the item and share it are counted.
-use Prim.Native.Nat.{ℕ, ◌+◌, ◌≤◌, ◌-◌}
-use mathlib.Core.Path.{◌≡◌, refl, sym, ap, ap₂, ◌∙◌}
-use mathlib.Core.Logic.{⊎_elim}
+use Prim.Native.Nat.{ℕ, ◌≤◌, ◌-◌}
+use mathlib.Core.Path.{◌≡◌}
 use mathlib.Core.Bool.{Bool, ◌&&◌}
 use mathlib.Core.List.{List}
-use native.Mathlib.Omega.{arith}
 use Rattle.names.specs.Sizes.{base}
 use Rattle.rules.specs.Words.{count_below}
-use Rattle.rules.specs.Tables.{txn, Lock, lock, holds_shared}
-use Rattle.rules.specs.Waits.{awaits_on, exchangers_on}
-use Rattle.rules.proofs.Counts.{count_yes, count_no, count-le}
+use Rattle.rules.specs.Tables.{txn, lock, holds_shared}
+use Rattle.rules.specs.Waits.{awaits_on}
 use Rattle.ranks.proofs.exchangers_on.Given as goal
 
 -- slot b waits on item x and shares it

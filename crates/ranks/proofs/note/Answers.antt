@@ -1,10 +1,8 @@
 -- Who comes into the line stands at its rank, with room made for it; who stands there already is noted.
-use borrow.Author.Rules.{rules}
 use Prim.Native.Nat.{ℕ}
 use mathlib.Core.Path.{◌≡◌, refl, sym, ap, ◌∙◌}
 use mathlib.Core.Bool.{true, false}
 use mathlib.Core.List.{List}
-use borrow.Author.Tests.{not-true, not-false}
 use Rattle.names.specs.Sizes.{base}
 use Rattle.rules.specs.Tables.{txn, set_awaited, reranked}
 use Rattle.rules.specs.Waits.{awaits_on, rank_for, raised, noted}

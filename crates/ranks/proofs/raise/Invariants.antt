@@ -1,15 +1,9 @@
 -- The ranks of the rows passed are rewritten, the others are as they were.
-use Prim.Native.Nat.{ℕ, ◌+◌, ◌-◌, ◌≤◌}
-use mathlib.Core.Path.{◌≡◌, refl, sym, ap, ◌∙◌, subst}
-use mathlib.Core.List.{List}
-use native.Mathlib.Omega.{arith}
-use lib.ListN.{length, set}
+use Prim.Native.Nat.{◌-◌, ◌≤◌}
+use mathlib.Core.Path.{◌≡◌}
 use Rattle.names.specs.Sizes.{base}
-use Rattle.names.specs.Layout.{txn_rank_at}
-use Rattle.rules.specs.Tables.{Txn, txn_at, txn, reworded, reranked}
+use Rattle.rules.specs.Tables.{reranked}
 use Rattle.rules.specs.Waits.{raised}
-use Rattle.rules.proofs.Views.{length-reworded, txn-reworded-out}
-use Rattle.rows.proofs.Rewords.{reworded-more}
 use Rattle.ranks.proofs.raise.Given as goal
 
 abbrev pub invariant-loop-slot : goal.invariant-loop-slot

@@ -1,11 +1,8 @@
 -- By cases: it waits there already, it shares the item, or neither.
-use borrow.Author.Rules.{rules}
 use Prim.Native.Nat.{ℕ, ◌+◌}
-use mathlib.Core.Path.{◌≡◌, sym, ap, ◌∙◌}
-use mathlib.Core.Bool.{false}
+use mathlib.Core.Path.{sym, ap, ◌∙◌}
 use native.Mathlib.Omega.{arith}
-use Rattle.rules.specs.Tables.{txn, Lock, lock, holds_shared}
-use Rattle.rules.specs.Waits.{awaits_on}
+use Rattle.rules.specs.Tables.{Lock, holds_shared}
 use Rattle.ranks.proofs.Ranks.{rank_there, rank-exchange, rank-behind, exchangers_most, waiters_most}
 use Rattle.ranks.proofs.rank_for.Goals as goal
 

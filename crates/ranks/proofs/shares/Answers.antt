@@ -1,5 +1,4 @@
 -- A bit of the word of the shared holders.
-use borrow.Author.Rules.{rules}
 use mathlib.Core.Path.{refl}
 use Rattle.rules.specs.Words.{bit}
 use Rattle.rules.specs.Tables.{holds_shared}

@@ -1,13 +1,9 @@
-use borrow.Author.Rules.{rules}
-use Prim.Native.Nat.{ℕ, ◌-◌, ◌≤◌}
+use Prim.Native.Nat.{ℕ}
 use mathlib.Core.Path.{◌≡◌, refl, sym, ap, ap₂, ◌∙◌}
-use mathlib.Core.Bool.{Bool, ◌||◌}
-use mathlib.Core.List.{List}
+use mathlib.Core.Bool.{◌||◌}
 use native.Mathlib.Omega.{arith}
 use Rattle.names.specs.Sizes.{base}
 use Rattle.rules.specs.Words.{some_below}
-use Rattle.rules.specs.Tables.{txn}
-use Rattle.rules.specs.Waits.{awaits_on}
 use Rattle.words.proofs.Turns.{some_more}
 use Rattle.ranks.specs.Lines.{somebody_on}
 use Rattle.ranks.proofs.somebody_on.Invariants.{waiter}

@@ -1,15 +1,12 @@
 -- Slot by slot, one that waits on the item is looked for.
 use Prim.Native.Nat.{ℕ, ◌-◌, ◌≤◌}
-use mathlib.Core.Path.{◌≡◌, refl, sym, ap, ap₂, ◌∙◌}
-use mathlib.Core.Bool.{Bool, ◌||◌}
+use mathlib.Core.Path.{◌≡◌}
+use mathlib.Core.Bool.{Bool}
 use mathlib.Core.List.{List}
-use native.Mathlib.Omega.{arith}
 use Rattle.names.specs.Sizes.{base}
 use Rattle.rules.specs.Words.{some_below}
 use Rattle.rules.specs.Tables.{txn}
 use Rattle.rules.specs.Waits.{awaits_on}
-use Rattle.words.proofs.Turns.{some_more}
-use Rattle.ranks.specs.Lines.{somebody_on}
 use Rattle.ranks.proofs.somebody_on.Given as goal
 
 -- slot b waits on item x

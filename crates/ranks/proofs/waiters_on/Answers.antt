@@ -1,13 +1,9 @@
-use borrow.Author.Rules.{rules}
-use Prim.Native.Nat.{ℕ, ◌+◌, ◌≤◌, ◌-◌}
+use Prim.Native.Nat.{ℕ, ◌+◌}
 use mathlib.Core.Path.{◌≡◌, refl, sym, ap, ◌∙◌}
-use mathlib.Core.Bool.{Bool}
-use mathlib.Core.List.{List}
 use native.Mathlib.Omega.{arith}
 use Rattle.names.specs.Sizes.{base}
 use Rattle.rules.specs.Words.{count_below}
-use Rattle.rules.specs.Tables.{txn}
-use Rattle.rules.specs.Waits.{awaits_on, waiters_on}
+use Rattle.rules.specs.Waits.{waiters_on}
 use Rattle.rules.proofs.Counts.{count_yes, count_no, count-le}
 use Rattle.ranks.proofs.waiters_on.Invariants.{waiter}
 use Rattle.ranks.proofs.waiters_on.Goals as goal

@@ -1,15 +1,12 @@
 -- Slot by slot, those who wait on the item are counted.
-use Prim.Native.Nat.{ℕ, ◌+◌, ◌≤◌, ◌-◌}
-use mathlib.Core.Path.{◌≡◌, refl, sym, ap, ◌∙◌}
-use mathlib.Core.Logic.{⊎_elim}
+use Prim.Native.Nat.{ℕ, ◌≤◌, ◌-◌}
+use mathlib.Core.Path.{◌≡◌}
 use mathlib.Core.Bool.{Bool}
 use mathlib.Core.List.{List}
-use native.Mathlib.Omega.{arith}
 use Rattle.names.specs.Sizes.{base}
 use Rattle.rules.specs.Words.{count_below}
 use Rattle.rules.specs.Tables.{txn}
-use Rattle.rules.specs.Waits.{awaits_on, waiters_on}
-use Rattle.rules.proofs.Counts.{count_yes, count_no, count-le}
+use Rattle.rules.specs.Waits.{awaits_on}
 use Rattle.ranks.proofs.waiters_on.Given as goal
 
 -- slot b waits on item x
