@@ -1,4 +1,5 @@
 -- What is held exclusively is no further item; any other is one where the quota is spent.
+use borrow.Author.Rules.{rules}
 use Prim.Native.Nat.{ℕ, suc, ◌+◌}
 use mathlib.Core.Path.{◌≡◌, sym, ap, ◌∙◌}
 use mathlib.Core.Logic.{◌≢◌}
@@ -11,9 +12,7 @@ use Rattle.rules.specs.Tables.{Lock, lock, holds_exclusive, exclusives_of}
 use Rattle.rules.specs.Step.{writes_further}
 use Rattle.rules.proofs.Tests.{and_also, eq_make, not_make, false_is}
 use Rattle.rules.proofs.Quotas.{held_not_further}
-use borrow.Author.Rules.{rules}
-use Rattle.callers.proofs.writes_further.Statement.{statement}
-use Rattle.callers.proofs.writes_further.Tie as tie
+use Rattle.callers.proofs.writes_further.Goals as goal
 
 -- the word of the exclusive holder says whether slot s is it
 own : (h : Lock) (w s : ℕ) → w ≡ h.exclusive → w ≡ s + 1 → T (holds_exclusive h s)
@@ -24,31 +23,18 @@ another : (h : Lock) (w s : ℕ) → w ≡ h.exclusive → w ≢ s + 1 → holds
 unfolding holds_exclusive
 another h w s e d = ne_eqb h.exclusive (suc s) (λ f. d (e ∙ f ∙ sym (add-one s)))
 
-lock-at-requires : tie.Need-lock-at-requires
-lock-at-requires c κs = search rules
+pub returns-then-row-s : goal.returns-then-row-s
+returns-then-row-s c =
+    let a = c.args in
+    let e = ap (λ (h : Lock). h.exclusive) c.lock_at-row.ensures in
+    sym (held_not_further base a.locks.now a.slot.0 a.item.0 (own (lock a.locks.now a.item.0) _ a.slot.0 e c.if-row-s.true))
 
-add-if1 : tie.Need-overflow-add-if1
-add-if1 c = search rules
-
-returns : tie.Need-returns
-returns c =
-    let a = c.before.before.before.before.args in
-    let e = ap (λ (h : Lock). h.exclusive) c.before.before.lock-at.ensures in
-    sym (held_not_further base a.locks.now a.slot.0 a.item.0 (own (lock a.locks.now a.item.0) _ a.slot.0 e c.if1.true))
-
-exclusives-of-requires : tie.Need-exclusives-of-requires
-exclusives-of-requires c κs = search rules
-
-returns-2 : tie.Need-returns-2
+pub returns : goal.returns
 unfolding writes_further
-returns-2 c =
-    let a = c.before.before.before.before.before.args in
+returns c =
+    let a = c.args in
     let l = a.locks.now in
-    let e = ap (λ (h : Lock). h.exclusive) c.before.before.before.lock-at.ensures in
-    let other : holds_exclusive (lock l a.item.0) a.slot.0 ≡ false = another (lock l a.item.0) _ a.slot.0 e c.before.if1.false in
-    ap (λ (n : ℕ). eqb n base.quota) c.exclusives-of.ensures
+    let e = ap (λ (h : Lock). h.exclusive) c.lock_at-row.ensures in
+    let other : holds_exclusive (lock l a.item.0) a.slot.0 ≡ false = another (lock l a.item.0) _ a.slot.0 e c.if-row-s.false in
+    ap (λ (n : ℕ). eqb n base.quota) c.exclusives_of.ensures
     ∙ and_also (eqb (exclusives_of base l a.slot.0) base.quota) _ (not_make (holds_exclusive (lock l a.item.0) a.slot.0) (false_is other))
-
-pub writes-further-spec : {M : Type 1} → statement M
-writes-further-spec =
-    tie.close (tie.spec lock-at-requires add-if1 returns exclusives-of-requires returns-2)
