@@ -27,7 +27,7 @@ pub const OF_ITEMS: u8 = b'i';
 pub const OF_NO_ROW: u8 = b'n';
 
 // Which rows are damaged, which of them, and the slot from which a text counts slots.
-#[derive(Drop)]
+#[derive(Clone, Copy)]
 pub struct Rows {
     pub of: u8,
     pub row: u64,

@@ -35,14 +35,14 @@ pub const LOCKS: u8 = b'l';
 pub const VERSIONS: u8 = b'v';
 
 // How many words of each table are lent.
-#[derive(Drop)]
+#[derive(Clone, Copy)]
 pub struct Lent {
     pub txns: usize,
     pub locks: usize,
     pub versions: usize,
 }
 
-#[derive(Drop)]
+#[derive(Clone, Copy)]
 pub struct Tables {
     pub txns: [u64; TXN_ROOM],
     pub locks: [u64; LOCK_ROOM],
