@@ -46,9 +46,17 @@ fn trials(rt: &HostRuntime, tally: Tally) -> Tally {
 fn damages(rt: &HostRuntime, tally: Tally) -> Tally {
     let mut t = bad_slots::slots(rt, bad_heads::heads(rt, tally));
     t = quota::held(rt, 31, quota::held(rt, 15, quota::held(rt, 0, t)));
-    t = bad_settled::settled(rt, 31, bad_settled::settled(rt, 15, bad_settled::settled(rt, 0, t)));
+    t = bad_settled::settled(
+        rt,
+        31,
+        bad_settled::settled(rt, 15, bad_settled::settled(rt, 0, t)),
+    );
     t = bad_reads::reads(rt, 31, bad_reads::reads(rt, 15, bad_reads::reads(rt, 0, t)));
-    t = bad_relaxed::relaxed(rt, 31, bad_relaxed::relaxed(rt, 15, bad_relaxed::relaxed(rt, 0, t)));
+    t = bad_relaxed::relaxed(
+        rt,
+        31,
+        bad_relaxed::relaxed(rt, 15, bad_relaxed::relaxed(rt, 0, t)),
+    );
     bad_items::items(rt, t)
 }
 

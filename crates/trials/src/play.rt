@@ -34,7 +34,7 @@ const GOOD: u8 = b'g';
 // No rows are damaged: the text is one of trials.
 pub const TRIALS: u8 = 0;
 
-#[derive(Drop)]
+#[derive(Clone, Copy)]
 pub struct Stage {
     pub tables: Tables,
     pub tally: Tally,

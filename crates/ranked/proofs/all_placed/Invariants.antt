@@ -1,0 +1,16 @@
+-- Slot by slot, each is placed.
+use Prim.Native.Nat.{ℕ, ◌-◌, ◌≤◌}
+use mathlib.Core.Path.{◌≡◌, refl, sym, ap, ap₂, ◌∙◌}
+use mathlib.Core.Bool.{◌&&◌}
+use native.Mathlib.Omega.{arith}
+use Rattle.names.specs.Sizes.{base}
+use Rattle.rules.specs.Words.{every_below}
+use Rattle.words.proofs.Turns.{every_more}
+use Rattle.ranked.specs.Marks.{placed}
+use Rattle.ranked.proofs.all_placed.Given as goal
+
+abbrev pub invariant-loop-slot : goal.invariant-loop-slot
+invariant-loop-slot l = (l.slot ≤ base.slots) × (l.ok ≡ every_below l.slot (placed l.txns l.locks l.marks))
+
+abbrev pub decreases-loop-slot : goal.decreases-loop-slot
+decreases-loop-slot l = base.slots - l.slot
