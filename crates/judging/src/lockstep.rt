@@ -12,7 +12,7 @@ use judge::Judge;
 use names::{LOCK_WORDS, TXN_WORDS, VERSION_WORDS};
 
 // How many records of each kind are still asked for, and what the judge keeps.
-#[derive(Drop)]
+#[derive(Clone, Copy)]
 pub struct Judging {
     counts: Counts,
     left: u64,
