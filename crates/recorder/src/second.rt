@@ -38,7 +38,7 @@ fn count_line(count: u64, out: &mut [u8]) -> usize
 }
 
 // How many calls there are, how many of them are still asked for, and the tables.
-#[derive(Drop)]
+#[derive(Clone, Copy)]
 pub struct Answering {
     count: u64,
     left: u64,
