@@ -1,6 +1,6 @@
 -- How long an answer is: a call leaves the lengths of its tables, so an answer has as many numbers as its case.
 use Prim.Native.Nat.{ℕ, ◌+◌, ◌-◌, ◌*◌, ◌<◌, ◌≤◌}
-use mathlib.Core.Path.{◌≡◌, refl, sym, ap, subst, ◌∙◌}
+use mathlib.Core.Path.{◌≡◌, refl, sym, subst, ◌∙◌}
 use mathlib.Core.Bool.{Bool, true, false, cond, ◌&&◌}
 use mathlib.Core.List.{List, [], ◌∷◌, ◌++◌}
 use native.Mathlib.Omega.{arith}
@@ -16,7 +16,7 @@ use Rattle.rules.proofs.Equal.{good→Good}
 use Rattle.rules.proofs.Steps.{step-bad}
 use Rattle.rules.proofs.Keeps.{keeps}
 use Rattle.numerals.specs.Numbers.{digit, greatest}
-use Rattle.numerals.specs.Print.{decimal, spaced, bad_line}
+use Rattle.numerals.specs.Print.{bad_line}
 use Rattle.numerals.proofs.Decimals.{length-decimal, length-spaced}
 use Rattle.number_lines.specs.Lines.{Held, reads, spoilt, digit_after, ends, after, held_by}
 use Rattle.number_lines.specs.declared.scan.Scan.{Scan}

@@ -1,0 +1,9 @@
+-- The last number is ended, and the line answered.
+use Rattle.number_lines.specs.Lines.{held_by}
+use Rattle.answering.proofs.Answering.{answered}
+use Rattle.answering.proofs.pieces.answer_line.Goals as goal
+
+pub returns : goal.returns
+returns c =
+    let a = c.args in
+    answered (held_by a.words.now a.scan) c.requires.0 c.ended-line.ensures c.respond.ensures
