@@ -1,6 +1,6 @@
 // Words of a lent table: read, set and compared, at any place whatever.
 ghost use Rattle.std.specs.Prelude.{◌≡◌, ◌+◌, ◌≤◌, length, set, slice_index, slice_set};
-ghost use Rattle.tally.specs.Counts.{differing as words·differing};
+ghost use Rattle.tally.specs.Counts.{differing};
 
 // A word, or 0 beyond the end.
 pub fn word(words: &[u64], at: usize) -> u64
@@ -20,7 +20,7 @@ pub fn put(words: &mut [u64], at: usize, value: u64)
 
 // How many words differ from those that another table has in their place.
 pub fn differing(words: &[u64], others: &[u64]) -> usize
-    ensures value { result ≡ words·differing words.now others.now }
+    ensures value { result ≡ differing words.now others.now }
     ensures upper_bound { result ≤ length words.now }
 {
     let mut n: usize = 0;
@@ -43,7 +43,7 @@ pub fn changed<'a>(
     other_locks: &'a [u64],
     other_versions: &'a [u64],
 ) -> usize
-    ensures { result ≡ words·differing txns.now other_txns.now + words·differing locks.now other_locks.now + words·differing versions.now other_versions.now }
+    ensures { result ≡ differing txns.now other_txns.now + differing locks.now other_locks.now + differing versions.now other_versions.now }
 {
     let t = differing(txns, other_txns);
     let l = differing(locks, other_locks);
