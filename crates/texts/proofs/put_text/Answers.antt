@@ -1,4 +1,4 @@
-use mathlib.Core.Path.{◌≡◌, refl, sym, ◌∙◌}
+use mathlib.Core.Path.{◌≡◌, refl, sym}
 use native.Mathlib.Omega.{arith}
 use lib.ListN.{take}
 use lib.Seq.{take_all, length-take-le}
@@ -19,7 +19,7 @@ loop-k-preserved c =
     let l = c.loop-k in
     let a = c.args in
     let t = c.loop-k-test.true in
-    (omega (arith, t), c.out-1.given ∙ l.invariant.1, rw (sym (text_next a.text.now l.k t)) (wrote_more (omega (arith, c.requires, length-take-le l.k a.text.now l.invariant.0)) l.invariant.2 c.put-end.ensures))
+    (omega (arith, t), omega arith, rw (sym (text_next a.text.now l.k t)) (wrote_more (omega (arith, c.requires, length-take-le l.k a.text.now l.invariant.0)) l.invariant.2 c.put-end.ensures))
 
 pub shape_of-out : goal.shape_of-out
 shape_of-out c = c.loop-k.invariant.1
