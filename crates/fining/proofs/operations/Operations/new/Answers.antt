@@ -5,12 +5,8 @@ use Rattle.rules.specs.Words.{every, some}
 use Rattle.line_words.specs.Held.{counted}
 use Rattle.fining.specs.Programs.{numbered_from}
 use Rattle.fining.specs.Life.{row_words}
-use Rattle.fining.proofs.operations.Operations.new.Statement.{statement}
-use Rattle.fining.proofs.operations.Operations.new.Tie as tie
+use Rattle.fining.proofs.operations.Operations.new.Goals as goal
 
-returns : tie.Need-returns
+pub returns : goal.returns
 unfolding counted every some numbered_from row_words
 returns c = record { count = refl; unknown = refl; holding = λ _. record { names = record { plain = refl; rows = λ i h. absurd (omega arith) }; rows = refl } }
-
-pub new_spec : {M : Type 1} → statement M
-new_spec = tie.close (tie.spec returns)
