@@ -1,12 +1,9 @@
 -- Item by item.
-use Prim.Native.Nat.{ℕ, ◌-◌, ◌≤◌}
-use mathlib.Core.Path.{◌≡◌, refl, sym, ap, ap₂, ◌∙◌}
-use mathlib.Core.Bool.{Bool, ◌&&◌}
-use native.Mathlib.Omega.{arith}
+use Prim.Native.Nat.{◌-◌, ◌≤◌}
+use mathlib.Core.Path.{◌≡◌}
 use Rattle.names.specs.Sizes.{base}
 use Rattle.rules.specs.Words.{every_below}
-use Rattle.words.proofs.Turns.{every_more}
-use Rattle.sets.specs.Joined.{joined_at, all_joined}
+use Rattle.sets.specs.Joined.{joined_at}
 use Rattle.sets.proofs.all_joined.Given as goal
 
 abbrev pub invariant-loop-item : goal.invariant-loop-item

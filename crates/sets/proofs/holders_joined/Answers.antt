@@ -1,7 +1,6 @@
 -- Nobody holds the item, or each slot is looked at.
-use borrow.Author.Rules.{rules}
 use Prim.Native.Nat.{ℕ}
-use mathlib.Core.Path.{◌≡◌, sym, ap, ap₂, ◌∙◌, subst}
+use mathlib.Core.Path.{◌≡◌, ap₂, ◌∙◌, subst}
 use lib.Bits.{bit_or}
 use Rattle.names.specs.Sizes.{base}
 use Rattle.rules.specs.Words.{every_below}

@@ -1,5 +1,4 @@
 -- The words of the rows decide, but where a relaxed query lives.
-use borrow.Author.Rules.{rules}
 use mathlib.Core.Path.{◌∙◌}
 use Rattle.sets.proofs.Testing.{sets_out, sets_none, sets_beside, sets_joined}
 use Rattle.sets.proofs.sets_pass.Goals as goal

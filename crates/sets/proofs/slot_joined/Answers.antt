@@ -1,5 +1,4 @@
 -- One slot's words.
-use borrow.Author.Rules.{rules}
 use Rattle.rows.specs.Founds.{lock_of}
 use Rattle.sets.proofs.Testing.{slot-joined}
 use Rattle.sets.proofs.slot_joined.Goals as goal

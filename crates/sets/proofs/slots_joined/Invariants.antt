@@ -1,11 +1,8 @@
 -- Slot by slot.
-use Prim.Native.Nat.{ℕ, ◌-◌, ◌≤◌}
-use mathlib.Core.Path.{◌≡◌, refl, sym, ap, ap₂, ◌∙◌}
-use mathlib.Core.Bool.{Bool, ◌&&◌}
-use native.Mathlib.Omega.{arith}
+use Prim.Native.Nat.{◌-◌, ◌≤◌}
+use mathlib.Core.Path.{◌≡◌}
 use Rattle.names.specs.Sizes.{base}
 use Rattle.rules.specs.Words.{every_below}
-use Rattle.words.proofs.Turns.{every_more}
 use Rattle.rows.specs.Founds.{lock_of}
 use Rattle.sets.specs.Joined.{slot_joined}
 use Rattle.sets.proofs.slots_joined.Given as goal

@@ -1,9 +1,8 @@
 -- The wait of the transaction that is found is noted, and none where nobody is found or the item is none.
-use borrow.Author.Rules.{rules}
-use Rattle.std.proofs.Common.{ℕ, List, sym, ap, ◌∙◌, rules, le-ltb, lt-ltb}
+use Rattle.std.proofs.Common.{ℕ, sym, ap, ◌∙◌, le-ltb, lt-ltb}
 use Rattle.names.specs.Sizes.{base}
 use Rattle.rules.specs.Tables.{slot_of}
-use Rattle.callers.proofs.Founds.{FoundSlot, found-slot, found_nobody, slot-most}
+use Rattle.callers.proofs.Founds.{found-slot, found_nobody, slot-most}
 use Rattle.tally.specs.Noted.{awaited_by, awaited}
 use Rattle.tally.proofs.noted.awaits.Goals as goal
 
@@ -15,16 +14,16 @@ returns-in_default c =
 
 pub awaits_by-requires : goal.awaits_by-requires
 awaits_by-requires c =
-    let p = c.requires in
-    let slot = found-slot (slot_of base c.args.txns.now c.args.number) _ (sym c.slot_of-found.ensures ∙ c.in-At.is) in
-    (p.0, p.1, slot.inside (slot-most c.args.txns.now c.args.number), c.if-item-lt-ITEMS.true, p.2)
+    let p = c.requires in let a = c.args in
+    let at = found-slot (slot_of base a.txns.now a.number) _ (sym c.slot_of-found.ensures ∙ c.in-At.is) in
+    (p.0, p.1, at.inside (slot-most a.txns.now a.number), c.if-item-lt-ITEMS.true, p.2)
 
 pub returns-then-item-lt-ITEMS : goal.returns-then-item-lt-ITEMS
 unfolding awaited
 returns-then-item-lt-ITEMS c =
     let a = c.args in
-    let slot = found-slot (slot_of base c.args.txns.now c.args.number) _ (sym c.slot_of-found.ensures ∙ c.in-At.is) in
-    rw (slot.some, lt-ltb _ _ c.if-item-lt-ITEMS.true) (c.awaits_by.ensures ∙ ap (λ (s : ℕ). awaited_by a.txns.now a.locks.now s a.lock a.item) slot.is)
+    let at = found-slot (slot_of base a.txns.now a.number) _ (sym c.slot_of-found.ensures ∙ c.in-At.is) in
+    rw (at.some, lt-ltb _ _ c.if-item-lt-ITEMS.true) (c.awaits_by.ensures ∙ ap (λ (s : ℕ). awaited_by a.txns.now a.locks.now s a.lock a.item) at.is)
 
 pub returns-else-item-lt-ITEMS : goal.returns-else-item-lt-ITEMS
 unfolding awaited

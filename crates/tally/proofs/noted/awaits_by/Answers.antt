@@ -1,6 +1,5 @@
 -- An update's wait is noted, a reader's is not.
-use borrow.Author.Rules.{rules}
-use Rattle.std.proofs.Common.{ℕ, List, sym, ◌∙◌, ap₂, rules, eq-eqb, ne_eqb}
+use Rattle.std.proofs.Common.{ℕ, List, sym, ◌∙◌, ap₂, eq-eqb, ne_eqb}
 use Rattle.rules.specs.Step.{joined}
 use Rattle.tally.specs.Noted.{awaited_by}
 use Rattle.tally.proofs.noted.awaits_by.Goals as goal

@@ -1,6 +1,5 @@
 -- Words of the right lengths whose ranks are small are noted in, others stay as they are.
-use borrow.Author.Rules.{rules}
-use Rattle.std.proofs.Common.{◌≡◌, ℕ, true, false, List, sym, ◌∙◌, leb→le, rules, eq-eqb, ne_eqb}
+use Rattle.std.proofs.Common.{◌≡◌, ℕ, true, false, List, sym, ◌∙◌, leb→le, eq-eqb, ne_eqb}
 use Rattle.names.specs.Sizes.{base}
 use Rattle.rules.proofs.Tests.{true_is}
 use Rattle.rules.proofs.Counts.{every_below→}
@@ -18,7 +17,8 @@ note_in-requires c = (c.if-txns-eq-TXN_WORDS.true, c.if-locks-eq-LOCK_WORDS.true
 pub returns-then-ranks_small : goal.returns-then-ranks_small
 unfolding waited
 returns-then-ranks_small c =
-    rw (eq-eqb _ _ c.if-txns-eq-TXN_WORDS.true, eq-eqb _ _ c.if-locks-eq-LOCK_WORDS.true, sym c.ranks_small.ensures ∙ c.if-ranks_small.true) c.note_in.ensures
+    let known : ranks_small c.args.txns.now ≡ true = sym c.ranks_small.ensures ∙ c.if-ranks_small.true in
+    rw (eq-eqb _ _ c.if-txns-eq-TXN_WORDS.true, eq-eqb _ _ c.if-locks-eq-LOCK_WORDS.true, known) c.note_in.ensures
 
 pub returns-else-ranks_small : goal.returns-else-ranks_small
 unfolding waited

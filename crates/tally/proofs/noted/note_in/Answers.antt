@@ -1,26 +1,16 @@
 -- Each call's own words.
-use borrow.Author.Rules.{rules}
-use Rattle.std.proofs.Common.{◌≡◌, sym, ap, ◌∙◌, rules}
-use Rattle.rules.specs.Tables.{shared_lock, exclusive_lock}
+use Rattle.std.proofs.Common.{sym, ap, ◌∙◌}
 use Rattle.rules.specs.Answers.{Call}
-use Rattle.tally.specs.Noted.{awaited, waited_in}
+use Rattle.tally.specs.Noted.{waited_in}
 use Rattle.tally.proofs.noted.note_in.Goals as goal
 
 pub returns-in-Read : goal.returns-in-Read
 unfolding waited_in
-returns-in-Read c =
-    let a = c.args in
-    let w = c.in-Read in
-    let e : c.awaits.new.txns ≡ awaited a.txns.now a.locks.now w.number shared_lock w.item = c.awaits.ensures in
-    e ∙ ap (λ (m : Call). waited_in m a.txns.now a.locks.now) (sym w.is)
+returns-in-Read c = c.awaits.ensures ∙ ap (λ (m : Call). waited_in m c.args.txns.now c.args.locks.now) (sym c.in-Read.is)
 
 pub returns-in-Write : goal.returns-in-Write
 unfolding waited_in
-returns-in-Write c =
-    let a = c.args in
-    let w = c.in-Write in
-    let e : c.awaits-in-Write.new.txns ≡ awaited a.txns.now a.locks.now w.number exclusive_lock w.item = c.awaits-in-Write.ensures in
-    e ∙ ap (λ (m : Call). waited_in m a.txns.now a.locks.now) (sym w.is)
+returns-in-Write c = c.awaits-in-Write.ensures ∙ ap (λ (m : Call). waited_in m c.args.txns.now c.args.locks.now) (sym c.in-Write.is)
 
 pub returns-in-BeginUpdate : goal.returns-in-BeginUpdate
 unfolding waited_in

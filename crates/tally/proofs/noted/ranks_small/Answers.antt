@@ -1,5 +1,4 @@
-use borrow.Author.Rules.{rules}
-use Rattle.std.proofs.Common.{◌≡◌, ℕ, ◌-◌, ◌≤◌, ◌&&◌, leb, sym, refl, ap, ◌∙◌, ap₂, arith, rules}
+use Rattle.std.proofs.Common.{◌≡◌, ℕ, ◌&&◌, leb, sym, refl, ap, ◌∙◌, ap₂, arith}
 use Rattle.names.specs.Sizes.{base}
 use Rattle.rules.specs.Words.{every_below}
 use Rattle.rules.proofs.Counts.{every_more}

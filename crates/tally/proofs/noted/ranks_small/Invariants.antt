@@ -1,9 +1,8 @@
 -- Slot by slot, no rank is above the number of slots.
-use Rattle.std.proofs.Common.{◌≡◌, ℕ, ◌-◌, ◌≤◌, ◌&&◌, leb, sym, refl, ap, ◌∙◌, ap₂, arith, rules}
+use Rattle.std.proofs.Common.{◌≡◌, ◌-◌, ◌≤◌}
 use Rattle.names.specs.Sizes.{base}
 use Rattle.rules.specs.Words.{every_below}
-use Rattle.rules.proofs.Counts.{every_more}
-use Rattle.tally.specs.Noted.{rank_small, ranks_small}
+use Rattle.tally.specs.Noted.{rank_small}
 use Rattle.tally.proofs.noted.ranks_small.Given as goal
 
 abbrev pub invariant-loop-slot : goal.invariant-loop-slot

@@ -1,6 +1,5 @@
 -- By whether the call answered as it must.
-use borrow.Author.Rules.{rules}
-use Rattle.std.proofs.Common.{◌≡◌, cond, ◌∙◌, ⊎_elim, rules}
+use Rattle.std.proofs.Common.{◌≡◌, cond, ◌∙◌}
 use Rattle.tally.specs.Counts.{more}
 use Rattle.tally.proofs.score.Score.plus.Goals as goal
 use Rattle.tally.proofs.score.Score.plus.Goals.{then-ok, else-ok}

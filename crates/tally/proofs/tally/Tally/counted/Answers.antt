@@ -1,6 +1,5 @@
 -- By whether the step was right.
-use borrow.Author.Rules.{rules}
-use Rattle.std.proofs.Common.{◌≡◌, cond, sym, refl, ap, ◌∙◌, ⊎_elim, rules}
+use Rattle.std.proofs.Common.{◌≡◌, cond, ◌∙◌}
 use Rattle.tally.specs.Counts.{more}
 use Rattle.tally.proofs.tally.Tally.counted.Goals as goal
 use Rattle.tally.proofs.tally.Tally.counted.Goals.{then-ok, else-ok}
