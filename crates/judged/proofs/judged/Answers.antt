@@ -1,5 +1,4 @@
 -- Each call by its own tests.
-use borrow.Author.Rules.{rules}
 use mathlib.Core.Path.{sym, ap, ◌∙◌}
 use Prim.Native.Nat.{ℕ}
 use Rattle.names.specs.Sizes.{base}

@@ -1,5 +1,4 @@
 -- The free slot, whether a number is left, and whether one who begins must be kept apart.
-use borrow.Author.Rules.{rules}
 use mathlib.Core.Path.{◌≡◌, sym, ◌∙◌}
 use Prim.Native.Nat.{ℕ}
 use mathlib.Core.List.{List}

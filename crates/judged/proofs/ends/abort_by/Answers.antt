@@ -1,5 +1,4 @@
 -- Who aborts: nobody, a query, one past its writing or an update.
-use borrow.Author.Rules.{rules}
 use mathlib.Core.Path.{◌≡◌, sym, ◌∙◌}
 use Prim.Native.Nat.{ℕ}
 use mathlib.Core.List.{List}

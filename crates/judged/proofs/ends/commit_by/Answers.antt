@@ -1,5 +1,4 @@
 -- Who commits: nobody, one who waits, a query, one past its writing, or an update that still writes.
-use borrow.Author.Rules.{rules}
 use mathlib.Core.Path.{◌≡◌, sym, ◌∙◌}
 use Prim.Native.Nat.{ℕ}
 use mathlib.Core.List.{List}

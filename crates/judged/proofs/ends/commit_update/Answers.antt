@@ -1,7 +1,5 @@
 -- An update with nothing held exclusively, or with a stamp left or none.
-use borrow.Author.Rules.{rules}
-use mathlib.Core.Path.{◌≡◌, sym, ◌∙◌}
-use borrow.Author.Tests.{not-true, not-false}
+use mathlib.Core.Path.{sym, ◌∙◌}
 use Rattle.judged.proofs.Exits.{update_empty, update_spent, update-commits}
 use Rattle.judged.proofs.ends.commit_update.Goals as goal
 

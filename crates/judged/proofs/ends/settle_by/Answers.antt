@@ -1,6 +1,5 @@
 -- Who settles: nobody, a query, one past its writing, one who waits, or an update with a stamp left or none, beside a relaxed query
 -- or beside none.
-use borrow.Author.Rules.{rules}
 use mathlib.Core.Path.{◌≡◌, sym, ◌∙◌}
 use Prim.Native.Nat.{ℕ}
 use mathlib.Core.List.{List}
