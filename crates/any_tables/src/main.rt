@@ -10,7 +10,8 @@ ghost use Rattle.std.specs.Prelude.{◌≡◌, length};
 ghost use Rattle.answering.specs.Life.{room_for};
 
 use answering::{Answerer, LONGEST_ANSWER, NUMBER_BYTES};
-use libc::{STDIN_FILENO, STDOUT_FILENO};
+use std::io;
+use std::io::Read;
 
 // The longest piece.
 const PIECE: usize = 32768;
@@ -30,24 +31,21 @@ fn output_buffer() -> [u8; ROOM]
     [0; ROOM]
 }
 
-// Nothing says that the input ends, so the turns are counted down, from a number that no run uses up.
-fn main() {
+// Nothing says that the input ends, so the turns are counted, to a number that no run uses up.
+fn main(rt: HostRuntime) -> io::Result<()> {
     let mut input = input_buffer();
     let mut output = output_buffer();
     let mut answerer = Answerer::new();
-    let mut turns = u64::MAX;
-    while turns > 0 {
-        let got = libc::read(STDIN_FILENO, &mut input);
-        let n = io::count(got, &input);
+    for _ in 0..u64::MAX {
+        let n = rt.stdin().read(&mut input)?;
         if n == 0 {
             break;
         }
         let taken = answerer.take(&input[..n], &mut output);
         let used = taken.used;
-        io::write_all(STDOUT_FILENO, &output[..used]);
+        rt.write_all(&output[..used])?;
         answerer = taken.answerer;
-        turns -= 1;
     }
     let used = answerer.end(&mut output);
-    io::write_all(STDOUT_FILENO, &output[..used]);
+    rt.write_all(&output[..used])
 }

@@ -3,7 +3,7 @@
 // A journal has calls so. `fields_of` and `call_of` are each other's inverse: words are a call
 // exactly where they are some call's words, of a known kind and with 0 in what it does not use.
 // `call_in` goes by the kind alone.
-#![tactic(auto)]
+#![tactic(auto, unfolding(crate::specs::Calls::fields_of, crate::specs::Calls::call_in))]
 
 ghost use Rattle.std.specs.Prelude.{◌≡◌};
 ghost use Rattle.call_words.specs.Calls.{fields, fields_of, known_kind, call_in, same_fields, call_of};

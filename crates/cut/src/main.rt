@@ -11,7 +11,7 @@ ghost use Rattle.finding_lines.specs.Lines.{longest_line};
 
 use cutting::Cutting;
 use finding_lines::LONGEST;
-use libc::{STDIN_FILENO, STDOUT_FILENO};
+use std::io::Read;
 
 // The longest piece.
 const PIECE: usize = 8192;
@@ -28,27 +28,26 @@ fn output_buffer() -> [u8; LONGEST]
     [0; LONGEST]
 }
 
-// Nothing says that the input ends, so the turns are counted down, from a number that no run uses up.
-fn main() {
+// Nothing says that the input ends, so the turns are counted, to a number that no run uses up.
+fn main(rt: HostRuntime) {
     let mut input = input_buffer();
     let mut output = output_buffer();
     let mut cutting = Cutting::new();
-    let mut turns = u64::MAX;
-    while turns > 0 {
-        let got = libc::read(STDIN_FILENO, &mut input);
-        if got < 0 {
-            os::fail(b"standard input");
-            return;
-        }
-        let n = io::count(got, &input);
+    for _ in 0..u64::MAX {
+        let n = match rt.stdin().read(&mut input) {
+            Ok(n) => n,
+            Err(e) => {
+                let _ = eprintln!(rt; "standard input: {e}");
+                return;
+            }
+        };
         if n == 0 {
             break;
         }
         cutting = cutting.take(&input[..n]);
-        turns -= 1;
     }
     let used = cutting.end(&mut output);
-    if !io::write_all(STDOUT_FILENO, &output[..used]) {
-        os::fail(b"standard output");
+    if let Err(e) = rt.write_all(&output[..used]) {
+        let _ = eprintln!(rt; "standard output: {e}");
     }
 }

@@ -10,7 +10,7 @@ ghost use Rattle.std.specs.Prelude.{◌≡◌, length};
 ghost use Rattle.cut_lines.specs.Given.{longest_text};
 
 use fining::{Fining, LONGEST_TEXT};
-use libc::{STDIN_FILENO, STDOUT_FILENO};
+use std::io::Read;
 
 // The longest piece.
 const PIECE: usize = 8192;
@@ -27,27 +27,26 @@ fn output_buffer() -> [u8; LONGEST_TEXT]
     [0; LONGEST_TEXT]
 }
 
-// Nothing says that the input ends, so the turns are counted down, from a number that no run uses up.
-fn main() {
+// Nothing says that the input ends, so the turns are counted, to a number that no run uses up.
+fn main(rt: HostRuntime) {
     let mut input = input_buffer();
     let mut output = output_buffer();
     let mut fining = Fining::new();
-    let mut turns = u64::MAX;
-    while turns > 0 {
-        let got = libc::read(STDIN_FILENO, &mut input);
-        if got < 0 {
-            os::fail(b"standard input");
-            return;
-        }
-        let n = io::count(got, &input);
+    for _ in 0..u64::MAX {
+        let n = match rt.stdin().read(&mut input) {
+            Ok(n) => n,
+            Err(e) => {
+                let _ = eprintln!(rt; "standard input: {e}");
+                return;
+            }
+        };
         if n == 0 {
             break;
         }
         fining = fining.take(&input[..n]);
-        turns -= 1;
     }
     let used = fining.end(&mut output);
-    if !io::write_all(STDOUT_FILENO, &output[..used]) {
-        os::fail(b"standard output");
+    if let Err(e) = rt.write_all(&output[..used]) {
+        let _ = eprintln!(rt; "standard output: {e}");
     }
 }

@@ -1,5 +1,7 @@
 // A journal's file: its size, and its bytes piece by piece.
-use libc::{SEEK_END, SEEK_SET, STDERR_FILENO};
+use std::fmt::Display;
+use std::fs::File;
+use std::io::{Read, Seek, SeekFrom};
 
 // No file goes so far.
 const FARTHEST: u64 = 9223372036854775808;
@@ -11,77 +13,80 @@ pub(crate) enum Size {
     Unknown,
 }
 
-pub(crate) fn complain(path: &[u8], why: &[u8]) {
-    io::write_all(STDERR_FILENO, path);
-    io::write_all(STDERR_FILENO, why);
+pub(crate) fn complain(rt: &impl Eprint, path: &str, why: impl Display + Drop) {
+    let _ = eprintln!(rt; "{path}: {why}");
 }
 
-// How many bytes come where a file stands, one at most; negative, and why is told, where it cannot
-// be read.
-fn more(fd: i32, path: &[u8]) -> isize {
+// How many bytes come where a file stands, one at most; none, and why is told, where it cannot be
+// read.
+fn more(rt: &impl Eprint, file: &mut File, path: &str) -> Option<usize> {
     let mut byte = [0u8; 1];
-    let got = libc::read(fd, &mut byte);
-    if got < 0 {
-        os::fail(path);
+    match file.read(&mut byte) {
+        Ok(got) => Some(got),
+        Err(e) => {
+            complain(rt, path, e);
+            None
+        }
     }
-    got
 }
 
 // Whether a file ends where it stands; where it goes on or cannot be read, that is told.
-fn ends(fd: i32, path: &[u8]) -> bool {
-    let got = more(fd, path);
+fn ends(rt: &impl Eprint, file: &mut File, path: &str) -> bool {
+    let Some(got) = more(rt, file, path) else {
+        return false;
+    };
     if got > 0 {
-        complain(path, b": no file of a known size\n");
+        complain(rt, path, "no file of a known size");
     }
     got == 0
 }
 
-fn bytes(end: i64) -> u64 {
-    if end < 0 {
-        return 0;
+// Moves to a place, and says where it is; none, and why is told, where that could not be done.
+fn sought(rt: &impl Eprint, file: &mut File, to: SeekFrom, path: &str) -> Option<u64> {
+    match file.seek(to) {
+        Ok(at) => Some(at),
+        Err(e) => {
+            complain(rt, path, e);
+            None
+        }
     }
-    end as u64
 }
 
 // The size of an open file, which is then at its start again. What cannot be read has none, and a
 // device or a growing file that has bytes behind its size is not judged.
-pub(crate) fn size_of(fd: i32, path: &[u8]) -> Size {
-    if more(fd, path) < 0 {
+pub(crate) fn size_of(rt: &impl Eprint, file: &mut File, path: &str) -> Size {
+    if more(rt, file, path).is_none() {
         return Size::Unknown;
     }
-    let end = libc::lseek(fd, 0, SEEK_END);
-    if end < 0 {
-        os::fail(path);
+    let Some(end) = sought(rt, file, SeekFrom::End(0), path) else {
+        return Size::Unknown;
+    };
+    if !ends(rt, file, path) {
         return Size::Unknown;
     }
-    if !ends(fd, path) {
+    if sought(rt, file, SeekFrom::Start(0), path).is_none() {
         return Size::Unknown;
     }
-    if libc::lseek(fd, 0, SEEK_SET) < 0 {
-        os::fail(path);
-        return Size::Unknown;
-    }
-    Size::Known(bytes(end))
+    Size::Known(end)
 }
 
 // Moves to a place; whether that could be done.
-pub(crate) fn move_to(fd: i32, at: u64) -> bool {
+pub(crate) fn move_to(file: &mut File, at: u64) -> bool {
     if at < FARTHEST {
-        return 0 <= libc::lseek(fd, at as i64, SEEK_SET);
+        return file.seek(SeekFrom::Start(at)).is_ok();
     }
     false
 }
 
 // Fills a buffer from a file; whether the file had so much.
-pub(crate) fn fill(fd: i32, buf: &mut [u8]) -> bool {
-    let got = io::read_full(fd, buf);
-    got == buf.len()
+pub(crate) fn fill(file: &mut File, buf: &mut [u8]) -> bool {
+    file.read_exact(buf).is_ok()
 }
 
 // The same from a place on.
-pub(crate) fn fill_at(fd: i32, at: u64, buf: &mut [u8]) -> bool {
-    if move_to(fd, at) {
-        fill(fd, buf)
+pub(crate) fn fill_at(file: &mut File, at: u64, buf: &mut [u8]) -> bool {
+    if move_to(file, at) {
+        fill(file, buf)
     } else {
         false
     }

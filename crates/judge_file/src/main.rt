@@ -9,12 +9,21 @@
 mod file;
 mod handing;
 
-fn main() {
-    let mut path = io::buffer();
-    let n = os::arg(1, &mut path);
-    if os::errno() != 0 {
-        os::fail(b"the journal's name");
-        return;
+use file::complain;
+use std::env::{Env, FillError};
+use std::str;
+
+fn main(rt: HostRuntime) {
+    let mut name = [0u8; 4096];
+    let n = match rt.arg(1, &mut name) {
+        Ok(n) => n,
+        Err(FillError::NotPresent) => {
+            return complain(&rt, "the journal's name", "Invalid argument");
+        }
+        Err(FillError::TooLong) => return complain(&rt, "the journal's name", "File name too long"),
+    };
+    match str::from_utf8(&name[..n]) {
+        Ok(path) => handing::judge_path(&rt, path),
+        Err(e) => complain(&rt, "the journal's name", e),
     }
-    handing::judge_path(&path[..n]);
 }

@@ -16,7 +16,7 @@ use line_words::Speech;
 pub use stages::Noted;
 
 // The words so far, how far those that are ended have come, and what they have said.
-#[derive(Drop)]
+#[derive(Clone, Copy)]
 pub struct Line {
     speech: Speech,
     stage: Stage,
@@ -31,7 +31,7 @@ pub enum Told {
     Bad,
 }
 
-#[derive(Drop)]
+#[derive(Clone, Copy)]
 pub struct Ended {
     pub told: Told,
     pub noted: Noted,

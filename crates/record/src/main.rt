@@ -13,8 +13,13 @@ ghost use Rattle.std.specs.Prelude.{◌≡◌, true, length};
 ghost use Rattle.recorder.specs.Second.{left};
 
 use journal::WORD;
-use libc::{STDIN_FILENO, STDOUT_FILENO};
 use recorder::{Answering, Taking};
+use std::env::{Env, FillError};
+use std::fmt::Display;
+use std::fs::File;
+use std::io::{Read as _, Write};
+use std::os::unix::fs::FileExt;
+use std::str;
 
 // The machine of the first pass, and whether the input was read to its end and all was written.
 #[derive(Drop)]
@@ -38,61 +43,79 @@ fn input_buffer() -> [u8; 2048]
     [0; 2048]
 }
 
+fn large_buffer() -> [u8; 65536]
+    ensures { 65536 ≡ length result }
+{
+    [0; 65536]
+}
+
+// Says what failed, and why.
+fn fail(rt: &impl Eprint, what: &str, why: impl Display + Drop) {
+    let _ = eprintln!(rt; "{what}: {why}");
+}
+
 // Writes all bytes, or says that it cannot.
-fn written(file: i32, bytes: &[u8], path: &[u8]) -> bool {
-    let all = io::write_all(file, bytes);
-    if !all {
-        os::fail(path);
+fn written(rt: &impl Eprint, file: &mut impl Write, bytes: &[u8], path: &str) -> bool {
+    match file.write_all(bytes) {
+        Ok(()) => true,
+        Err(e) => {
+            fail(rt, path, e);
+            false
+        }
     }
-    all
 }
 
 // Hands standard input over, and writes the calls. Nothing says that it ends, so the turns are
-// counted down, from a number that no run uses up.
-fn take_all(file: i32, path: &[u8]) -> Read {
+// counted, to a number that no run uses up.
+fn take_all(rt: &HostRuntime, file: &mut File, path: &str) -> Read {
     let mut input = input_buffer();
-    let mut output = io::large_buffer();
+    let mut output = large_buffer();
     let mut taking = Taking::new();
-    let mut turns = u64::MAX;
-    while turns > 0 {
-        let got = libc::read(STDIN_FILENO, &mut input);
-        if got < 0 {
-            os::fail(b"standard input");
-            return Read { taking, all: false };
-        }
-        let n = io::count(got, &input);
+    for _ in 0..u64::MAX {
+        let n = match rt.stdin().read(&mut input) {
+            Ok(n) => n,
+            Err(e) => {
+                fail(rt, "standard input", e);
+                return Read { taking, all: false };
+            }
+        };
         if n == 0 {
             break;
         }
         let after = taking.chunk(&input[..n], &mut output);
         taking = after.taking;
         let used = after.used;
-        if !written(file, &output[..used], path) {
+        if !written(rt, file, &output[..used], path) {
             return Read { taking, all: false };
         }
-        turns -= 1;
     }
     Read { taking, all: true }
 }
 
 // Hands the calls over that are asked for, from where a file stands, and writes the answers.
-fn answer_from(born: Answering, back: i32, file: i32, path: &[u8]) -> Made
+fn answer_from(
+    rt: &HostRuntime,
+    born: Answering,
+    back: &mut File,
+    file: &mut File,
+    path: &str,
+) -> Made
     ensures { result.all ≡ true → left result.answering ≡ 0 }
 {
-    let mut input = io::large_buffer();
-    let mut output = io::large_buffer();
+    let mut input = large_buffer();
+    let mut output = large_buffer();
     let mut answering = born;
     while answering.asks() > 0 {
         let size = answering.bytes();
-        if io::read_full(back, &mut input[..size]) != size {
-            os::fail(path);
+        if let Err(e) = back.read_exact(&mut input[..size]) {
+            fail(rt, path, e);
             return Made {
                 answering,
                 all: false,
             };
         }
         answering = answering.answer(&input[..size], &mut output);
-        if !written(file, &output[..size], path) {
+        if !written(rt, file, &output[..size], path) {
             return Made {
                 answering,
                 all: false,
@@ -106,113 +129,115 @@ fn answer_from(born: Answering, back: i32, file: i32, path: &[u8]) -> Made
 }
 
 // Whether a file could be moved behind its first count.
-fn behind_count(back: i32, path: &[u8]) -> bool {
+fn behind_count(rt: &HostRuntime, back: &mut File, path: &str) -> bool {
     let mut head = [0u8; WORD];
-    let all = io::read_full(back, &mut head) == WORD;
-    if !all {
-        os::fail(path);
+    match back.read_exact(&mut head) {
+        Ok(()) => true,
+        Err(e) => {
+            fail(rt, path, e);
+            false
+        }
     }
-    all
 }
 
 // The same with the calls behind the first count of the file of this name.
-fn answer_all(answering: Answering, file: i32, path: &[u8]) -> Made
+fn answer_all(rt: &HostRuntime, answering: Answering, file: &mut File, path: &str) -> Made
     ensures { result.all ≡ true → left result.answering ≡ 0 }
 {
-    let back = os::open_read(path);
-    if back < 0 {
-        os::fail(path);
+    let mut back = match File::open(rt, path) {
+        Ok(back) => back,
+        Err(e) => {
+            fail(rt, path, e);
+            return Made {
+                answering,
+                all: false,
+            };
+        }
+    };
+    if !behind_count(rt, &mut back, path) {
         return Made {
             answering,
             all: false,
         };
     }
-    if !behind_count(back, path) {
-        return Made {
-            answering,
-            all: false,
-        };
-    }
-    let made = answer_from(answering, back, file, path);
-    libc::close(back);
-    made
+    answer_from(rt, answering, &mut back, file, path)
 }
 
 // The first count, once all is written.
-fn set_count(file: i32, answering: Answering, path: &[u8]) -> bool
+fn set_count(rt: &HostRuntime, file: &File, answering: Answering, path: &str) -> bool
     requires { left answering ≡ 0 }
 {
     let first = answering.first();
-    let set = libc::pwrite(file, &first, 0) == 8;
-    if !set {
-        os::fail(path);
+    match file.write_all_at(&first, 0) {
+        Ok(()) => true,
+        Err(e) => {
+            fail(rt, path, e);
+            false
+        }
     }
-    set
 }
 
-fn print(answering: Answering) {
-    let mut out = io::buffer();
+fn print(rt: &HostRuntime, answering: Answering) {
+    let mut out = [0u8; 4096];
     let used = answering.line(&mut out);
-    written(STDOUT_FILENO, &out[..used], b"standard output");
+    written(rt, &mut rt.stdout(), &out[..used], "standard output");
 }
 
 // What is put out at the end of the input, and the second count.
-fn end_input(taking: Taking, file: i32, path: &[u8]) -> Made {
-    let mut output = io::large_buffer();
+fn end_input(rt: &HostRuntime, taking: Taking, file: &mut File, path: &str) -> Made {
+    let mut output = large_buffer();
     let after = taking.end(&mut output);
     let used = after.used;
     let answering = after.answering;
     let second = answering.second();
-    if !written(file, &output[..used], path) {
+    if !written(rt, file, &output[..used], path) {
         return Made {
             answering,
             all: false,
         };
     }
-    let all = written(file, &second, path);
+    let all = written(rt, file, &second, path);
     Made { answering, all }
 }
 
 // The whole journal, in an open file.
-fn fill(file: i32, path: &[u8]) {
+fn fill(rt: &HostRuntime, mut file: File, path: &str) {
     let unfinished = recorder::unfinished();
-    if !written(file, &unfinished, path) {
+    if !written(rt, &mut file, &unfinished, path) {
         return;
     }
-    let read = take_all(file, path);
+    let read = take_all(rt, &mut file, path);
     if !read.all {
         return;
     }
-    let ended = end_input(read.taking, file, path);
+    let ended = end_input(rt, read.taking, &mut file, path);
     if !ended.all {
         return;
     }
-    let made = answer_all(ended.answering, file, path);
+    let made = answer_all(rt, ended.answering, &mut file, path);
     if !made.all {
         return;
     }
     let answering = made.answering;
-    if !set_count(file, answering, path) {
+    if !set_count(rt, &file, answering, path) {
         return;
     }
-    if libc::close(file) < 0 {
-        os::fail(path);
-        return;
-    }
-    print(answering);
+    print(rt, answering);
 }
 
-fn main() {
-    let mut path = io::buffer();
-    let length = os::arg(1, &mut path);
-    if os::errno() != 0 {
-        os::fail(b"the journal's name");
-        return;
+fn main(rt: HostRuntime) {
+    let mut name = [0u8; 4096];
+    let length = match rt.arg(1, &mut name) {
+        Ok(length) => length,
+        Err(FillError::NotPresent) => return fail(&rt, "the journal's name", "Invalid argument"),
+        Err(FillError::TooLong) => return fail(&rt, "the journal's name", "File name too long"),
+    };
+    let path = match str::from_utf8(&name[..length]) {
+        Ok(path) => path,
+        Err(e) => return fail(&rt, "the journal's name", e),
+    };
+    match File::create(&rt, path) {
+        Ok(file) => fill(&rt, file, path),
+        Err(e) => fail(&rt, path, e),
     }
-    let file = os::open_overwrite(&path[..length]);
-    if file < 0 {
-        os::fail(&path[..length]);
-        return;
-    }
-    fill(file, &path[..length]);
 }

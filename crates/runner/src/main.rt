@@ -8,8 +8,9 @@
 ghost use Rattle.std.specs.Prelude.{◌≡◌, ◌*◌, length};
 ghost use Rattle.running.specs.Replies.{longest_reply};
 
-use libc::{STDIN_FILENO, STDOUT_FILENO};
 use running::{LONGEST_REPLY, Runner};
+use std::io;
+use std::io::Read;
 
 // The longest piece.
 const PIECE: usize = 8192;
@@ -27,24 +28,21 @@ fn output_buffer() -> [u8; LONGEST_REPLY * PIECE]
     [0; LONGEST_REPLY * PIECE]
 }
 
-// Nothing says that the input ends, so the turns are counted down, from a number that no run uses up.
-fn main() {
+// Nothing says that the input ends, so the turns are counted, to a number that no run uses up.
+fn main(rt: HostRuntime) -> io::Result<()> {
     let mut input = input_buffer();
     let mut output = output_buffer();
     let mut runner = Runner::new();
-    let mut turns = u64::MAX;
-    while turns > 0 {
-        let got = libc::read(STDIN_FILENO, &mut input);
-        let n = io::count(got, &input);
+    for _ in 0..u64::MAX {
+        let n = rt.stdin().read(&mut input)?;
         if n == 0 {
             break;
         }
         let taken = runner.take(&input[..n], &mut output);
         let used = taken.used;
-        io::write_all(STDOUT_FILENO, &output[..used]);
+        rt.write_all(&output[..used])?;
         runner = taken.runner;
-        turns -= 1;
     }
     let used = runner.end(&mut output);
-    io::write_all(STDOUT_FILENO, &output[..used]);
+    rt.write_all(&output[..used])
 }

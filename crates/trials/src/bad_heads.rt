@@ -4,8 +4,9 @@ use crate::set::OF_NO_ROW;
 use tally::Tally;
 
 // Beside a limit stands what is still good.
-pub fn heads(tally: Tally) -> Tally {
+pub fn heads(rt: &HostRuntime, tally: Tally) -> Tally {
     play(
+        rt,
         OF_NO_ROW,
         0,
         b"on 0

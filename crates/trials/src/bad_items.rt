@@ -5,8 +5,9 @@ use crate::set::OF_ITEMS;
 use tally::Tally;
 
 // Holders and working values.
-fn holders(row: u64, tally: Tally) -> Tally {
+fn holders(rt: &HostRuntime, row: u64, tally: Tally) -> Tally {
     play(
+        rt,
         OF_ITEMS,
         row,
         b"on 0
@@ -89,8 +90,9 @@ damage: a working value, and a shared holder
 }
 
 // Counts and unused pairs.
-fn counts(row: u64, tally: Tally) -> Tally {
+fn counts(rt: &HostRuntime, row: u64, tally: Tally) -> Tally {
     play(
+        rt,
         OF_ITEMS,
         row,
         b"on 0
@@ -134,8 +136,9 @@ damage: the first unused stamp after two versions is 1
 }
 
 // Stamps, and versions that nobody reads.
-fn stamps(row: u64, tally: Tally) -> Tally {
+fn stamps(rt: &HostRuntime, row: u64, tally: Tally) -> Tally {
     play(
+        rt,
         OF_ITEMS,
         row,
         b"on 0
@@ -256,14 +259,14 @@ good: the only stamp is the start of a query
 }
 
 // In the first row, a middle one and the last.
-pub fn items(tally: Tally) -> Tally {
-    let mut t = holders(0, tally);
-    t = counts(0, t);
-    t = stamps(0, t);
-    t = holders(31, t);
-    t = counts(31, t);
-    t = stamps(31, t);
-    t = holders(63, t);
-    t = counts(63, t);
-    stamps(63, t)
+pub fn items(rt: &HostRuntime, tally: Tally) -> Tally {
+    let mut t = holders(rt, 0, tally);
+    t = counts(rt, 0, t);
+    t = stamps(rt, 0, t);
+    t = holders(rt, 31, t);
+    t = counts(rt, 31, t);
+    t = stamps(rt, 31, t);
+    t = holders(rt, 63, t);
+    t = counts(rt, 63, t);
+    stamps(rt, 63, t)
 }

@@ -4,8 +4,9 @@ use crate::play::play;
 use crate::set::OF_SLOTS;
 use tally::Tally;
 
-pub fn settled(row: u64, tally: Tally) -> Tally {
+pub fn settled(rt: &HostRuntime, row: u64, tally: Tally) -> Tally {
     play(
+        rt,
         OF_SLOTS,
         row,
         b"on 6

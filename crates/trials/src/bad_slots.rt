@@ -5,8 +5,9 @@ use crate::set::OF_SLOTS;
 use tally::Tally;
 
 // Free rows, numbers, kinds and awaited locks.
-fn numbers(row: u64, tally: Tally) -> Tally {
+fn numbers(rt: &HostRuntime, row: u64, tally: Tally) -> Tally {
     play(
+        rt,
         OF_SLOTS,
         row,
         b"on 0
@@ -73,8 +74,9 @@ good: an update awaits an item that nobody holds
 }
 
 // Starts, awaited items, and waits.
-fn waits(row: u64, tally: Tally) -> Tally {
+fn waits(rt: &HostRuntime, row: u64, tally: Tally) -> Tally {
     play(
+        rt,
         OF_SLOTS,
         row,
         b"on 0
@@ -169,8 +171,9 @@ good: three updates wait in a row
 }
 
 // Ranks (request E4).
-fn ranks(row: u64, tally: Tally) -> Tally {
+fn ranks(rt: &HostRuntime, row: u64, tally: Tally) -> Tally {
     play(
+        rt,
         OF_SLOTS,
         row,
         b"on 0
@@ -265,14 +268,14 @@ good: the same three, that one ahead
 }
 
 // In the first row, a middle one and the last.
-pub fn slots(tally: Tally) -> Tally {
-    let mut t = numbers(0, tally);
-    t = waits(0, t);
-    t = ranks(0, t);
-    t = numbers(15, t);
-    t = waits(15, t);
-    t = ranks(15, t);
-    t = numbers(31, t);
-    t = waits(31, t);
-    ranks(31, t)
+pub fn slots(rt: &HostRuntime, tally: Tally) -> Tally {
+    let mut t = numbers(rt, 0, tally);
+    t = waits(rt, 0, t);
+    t = ranks(rt, 0, t);
+    t = numbers(rt, 15, t);
+    t = waits(rt, 15, t);
+    t = ranks(rt, 15, t);
+    t = numbers(rt, 31, t);
+    t = waits(rt, 31, t);
+    ranks(rt, 31, t)
 }

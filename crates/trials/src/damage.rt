@@ -58,31 +58,31 @@ fn scored(tables: Tables, bad: bool) -> Score {
     five(tables, NOBODY, UNKNOWN_TRANSACTION, none)
 }
 
-fn say_row(rows: Rows) {
+fn say_row(rt: &HostRuntime, rows: Rows) {
     if rows.of == OF_SLOTS {
-        say::say(b", transaction row ");
-        say::number(rows.row);
+        say::say(rt, b", transaction row ");
+        say::number(rt, rows.row);
     }
     if rows.of == OF_ITEMS {
-        say::say(b", item ");
-        say::number(rows.row);
+        say::say(rt, b", item ");
+        say::number(rt, rows.row);
     }
 }
 
 // The end of a line that has said what is damaged, or is still good.
-pub fn judge(tables: Tables, bad: bool, rows: Rows, tally: Tally) -> Tally {
+pub fn judge(rt: &HostRuntime, tables: Tables, bad: bool, rows: Rows, tally: Tally) -> Tally {
     let calls = if bad { 8 } else { 5 };
-    say_row(rows);
-    say::say(b": expected ");
-    say::number(calls);
-    say::say(b" calls with code ");
-    say::number(if bad { BAD_TABLES } else { UNKNOWN_TRANSACTION });
-    say::say(b" and 0 words changed, found ");
+    say_row(rt, rows);
+    say::say(rt, b": expected ");
+    say::number(rt, calls);
+    say::say(rt, b" calls with code ");
+    say::number(rt, if bad { BAD_TABLES } else { UNKNOWN_TRANSACTION });
+    say::say(rt, b" and 0 words changed, found ");
     let found = scored(tables, bad);
-    say::number(found.calls);
-    say::say(b" and ");
-    say::number(found.changed);
+    say::number(rt, found.calls);
+    say::say(rt, b" and ");
+    say::number(rt, found.changed);
     let ok = (found.calls == calls) & (found.changed == 0);
-    say::end(ok);
+    say::end(rt, ok);
     tally.counted(ok)
 }

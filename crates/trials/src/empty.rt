@@ -2,8 +2,9 @@
 use crate::play::{TRIALS, play};
 use tally::Tally;
 
-pub fn aa(tally: Tally) -> Tally {
+pub fn aa(rt: &HostRuntime, tally: Tally) -> Tally {
     play(
+        rt,
         TRIALS,
         0,
         b"trial AA: who wrote nothing commits and takes no stamp, beside those past their writing and at the last stamp

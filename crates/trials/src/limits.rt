@@ -4,8 +4,9 @@ use crate::play::{TRIALS, play};
 use tally::Tally;
 
 // Numbers and sizes.
-pub fn m_and_n(tally: Tally) -> Tally {
+pub fn m_and_n(rt: &HostRuntime, tally: Tally) -> Tally {
     play(
+        rt,
         TRIALS,
         0,
         b"trial M: the last number is given, then none, and with every slot taken there is none first
@@ -83,8 +84,9 @@ abort 2: 0 0 0 0
 }
 
 // Circles.
-pub fn o(tally: Tally) -> Tally {
+pub fn o(rt: &HostRuntime, tally: Tally) -> Tally {
     play(
+        rt,
         TRIALS,
         0,
         b"trial O: three updates in a circle, one outside that waits for them, then as many as there are slots in a circle
@@ -215,8 +217,9 @@ read 31 32: 0 0 0 1
 }
 
 // Every word that is no number is answered 3, and every one that is no item 4.
-pub fn p(tally: Tally) -> Tally {
+pub fn p(rt: &HostRuntime, tally: Tally) -> Tally {
     play(
+        rt,
         TRIALS,
         0,
         b"trial P: numbers, items and values up to the greatest word, on good tables

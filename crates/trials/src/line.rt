@@ -9,7 +9,7 @@ const WANTED: usize = 3;
 
 const ROOM: usize = 8;
 
-#[derive(Drop)]
+#[derive(Clone, Copy)]
 pub struct Line {
     pub kind: u8,
     pub second: u8,

@@ -4,8 +4,9 @@ use crate::play::{TRIALS, play};
 use tally::Tally;
 
 // Reads, writes, and waits.
-pub fn a_to_e(tally: Tally) -> Tally {
+pub fn a_to_e(rt: &HostRuntime, tally: Tally) -> Tally {
     play(
+        rt,
         TRIALS,
         0,
         b"trial A: the run of document 01
@@ -75,8 +76,9 @@ commit 1: 0 0 1 0
 }
 
 // What is refused.
-pub fn f_to_h(tally: Tally) -> Tally {
+pub fn f_to_h(rt: &HostRuntime, tally: Tally) -> Tally {
     play(
+        rt,
         TRIALS,
         0,
         b"trial F: who awaits may only repeat its call or abort, first a read, then a write

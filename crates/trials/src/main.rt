@@ -33,29 +33,37 @@ mod waiters;
 
 use tally::Tally;
 
-fn trials(tally: Tally) -> Tally {
-    let mut t = locks::f_to_h(locks::a_to_e(tally));
-    t = stamps::j_to_l(stamps::i(t));
-    t = limits::p(limits::o(limits::m_and_n(t)));
-    t = waiters::w(waiters::s_to_v(quota::r(quota::q(t))));
-    t = empty::aa(settling::z(settling::x_and_y(t)));
-    t = reading::ac(reading::ab(t));
-    relaxed::ah_and_ai(relaxed::ag(t))
+fn trials(rt: &HostRuntime, tally: Tally) -> Tally {
+    let mut t = locks::f_to_h(rt, locks::a_to_e(rt, tally));
+    t = stamps::j_to_l(rt, stamps::i(rt, t));
+    t = limits::p(rt, limits::o(rt, limits::m_and_n(rt, t)));
+    t = waiters::w(rt, waiters::s_to_v(rt, quota::r(rt, quota::q(rt, t))));
+    t = empty::aa(rt, settling::z(rt, settling::x_and_y(rt, t)));
+    t = reading::ac(rt, reading::ab(rt, t));
+    relaxed::ah_and_ai(rt, relaxed::ag(rt, t))
 }
 
-fn damages(tally: Tally) -> Tally {
-    let mut t = bad_slots::slots(bad_heads::heads(tally));
-    t = quota::held(31, quota::held(15, quota::held(0, t)));
-    t = bad_settled::settled(31, bad_settled::settled(15, bad_settled::settled(0, t)));
-    t = bad_reads::reads(31, bad_reads::reads(15, bad_reads::reads(0, t)));
-    t = bad_relaxed::relaxed(31, bad_relaxed::relaxed(15, bad_relaxed::relaxed(0, t)));
-    bad_items::items(t)
+fn damages(rt: &HostRuntime, tally: Tally) -> Tally {
+    let mut t = bad_slots::slots(rt, bad_heads::heads(rt, tally));
+    t = quota::held(rt, 31, quota::held(rt, 15, quota::held(rt, 0, t)));
+    t = bad_settled::settled(
+        rt,
+        31,
+        bad_settled::settled(rt, 15, bad_settled::settled(rt, 0, t)),
+    );
+    t = bad_reads::reads(rt, 31, bad_reads::reads(rt, 15, bad_reads::reads(rt, 0, t)));
+    t = bad_relaxed::relaxed(
+        rt,
+        31,
+        bad_relaxed::relaxed(rt, 15, bad_relaxed::relaxed(rt, 0, t)),
+    );
+    bad_items::items(rt, t)
 }
 
-fn main() {
-    let t = damages(trials(Tally::new()));
-    say::number(t.tried);
-    say::say(b" tried, ");
-    say::number(t.right);
-    say::say(b" as expected\n");
+fn main(rt: HostRuntime) {
+    let t = damages(&rt, trials(&rt, Tally::new()));
+    say::number(&rt, t.tried);
+    say::say(&rt, b" tried, ");
+    say::number(&rt, t.right);
+    say::say(&rt, b" as expected\n");
 }

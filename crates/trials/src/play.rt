@@ -34,7 +34,7 @@ const GOOD: u8 = b'g';
 // No rows are damaged: the text is one of trials.
 pub const TRIALS: u8 = 0;
 
-#[derive(Drop)]
+#[derive(Clone, Copy)]
 pub struct Stage {
     pub tables: Tables,
     pub tally: Tally,
@@ -42,7 +42,7 @@ pub struct Stage {
 }
 
 // A byte of a line, written out: before the first the head of the line, after the colon what comes.
-fn echo(stage: Stage, line: Line, byte: u8) {
+fn echo(rt: &HostRuntime, stage: Stage, line: Line, byte: u8) {
     let kind = if line.kind == 0 { byte } else { line.kind };
     let rows = stage.rows;
     let tries = is_call(kind) | (kind == VIEW);
@@ -50,16 +50,16 @@ fn echo(stage: Stage, line: Line, byte: u8) {
     let tally = stage.tally;
     if (rows.of == TRIALS) | damages {
         if (line.kind == 0) & tries {
-            head(tally);
+            head(rt, tally);
         }
-        say::byte(byte);
+        say::byte(rt, byte);
         if (byte == b':') & tries {
-            say::say(b" expected");
+            say::say(rt, b" expected");
         }
     }
 }
 
-fn made(stage: Stage, line: Line, call: Call) -> Stage {
+fn made(rt: &HostRuntime, stage: Stage, line: Line, call: Call) -> Stage {
     let numbers = line.numbers;
     let wanted = Answer {
         code: numbers[3],
@@ -72,7 +72,7 @@ fn made(stage: Stage, line: Line, call: Call) -> Stage {
     let after = called.tables;
     let others = after.changed(before.noted(wanted.code, call));
     let tally = stage.tally;
-    let counted = expect(tally, called.answer, others as u64, wanted);
+    let counted = expect(rt, tally, called.answer, others as u64, wanted);
     let rows = stage.rows;
     Stage {
         tables: after,
@@ -81,14 +81,14 @@ fn made(stage: Stage, line: Line, call: Call) -> Stage {
     }
 }
 
-fn view(stage: Stage, line: Line) -> Stage {
+fn view(rt: &HostRuntime, stage: Stage, line: Line) -> Stage {
     let numbers = line.numbers;
     let tables = stage.tables;
     let found = tables.word(line.second, place(line.second, numbers[0], numbers[1]));
-    say::say(b", found ");
-    say::number(found);
+    say::say(rt, b", found ");
+    say::number(rt, found);
     let ok = found == numbers[3];
-    say::end(ok);
+    say::end(rt, ok);
     let tally = stage.tally;
     let counted = tally.counted(ok);
     let rows = stage.rows;
@@ -100,14 +100,14 @@ fn view(stage: Stage, line: Line) -> Stage {
 }
 
 // A line that tries no call: what sets the tables, a new trial, the sample anew.
-fn change(stage: Stage, line: Line) -> Stage {
+fn change(rt: &HostRuntime, stage: Stage, line: Line) -> Stage {
     let kind = line.kind;
     let numbers = line.numbers;
     let tally = stage.tally;
     let tables = stage.tables;
     let rows = stage.rows;
     if rows.of == TRIALS {
-        say::end(true);
+        say::end(rt, true);
     }
     if kind == TRIAL {
         return Stage {
@@ -136,15 +136,15 @@ fn change(stage: Stage, line: Line) -> Stage {
 }
 
 // What a line says.
-fn step(stage: Stage, line: Line) -> Stage {
+fn step(rt: &HostRuntime, stage: Stage, line: Line) -> Stage {
     let kind = line.kind;
     let numbers = line.numbers;
     let word = lettered(kind, numbers[0], numbers[1], numbers[2]);
     if let Meant::Call(call) = word {
-        return made(stage, line, call);
+        return made(rt, stage, line, call);
     }
     if kind == VIEW {
-        return view(stage, line);
+        return view(rt, stage, line);
     }
     if (kind == DAMAGE) | (kind == GOOD) {
         let tables = stage.tables;
@@ -152,15 +152,15 @@ fn step(stage: Stage, line: Line) -> Stage {
         let tally = stage.tally;
         return Stage {
             tables,
-            tally: judge(tables, kind == DAMAGE, rows, tally),
+            tally: judge(rt, tables, kind == DAMAGE, rows, tally),
             rows,
         };
     }
-    change(stage, line)
+    change(rt, stage, line)
 }
 
 // All lines of a text.
-pub fn play(of: u8, row: u64, text: &[u8], tally: Tally) -> Tally {
+pub fn play(rt: &HostRuntime, of: u8, row: u64, text: &[u8], tally: Tally) -> Tally {
     let mut stage = Stage {
         tables: Tables::fresh(),
         tally,
@@ -171,10 +171,10 @@ pub fn play(of: u8, row: u64, text: &[u8], tally: Tally) -> Tally {
     while k < text.len() {
         let byte = text[k];
         if byte == LINE_END {
-            stage = step(stage, line);
+            stage = step(rt, stage, line);
             line = Line::new();
         } else {
-            echo(stage, line, byte);
+            echo(rt, stage, line, byte);
             line = line.push(byte);
         }
         k += 1;

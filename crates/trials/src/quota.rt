@@ -5,8 +5,9 @@ use crate::set::OF_SLOTS;
 use tally::Tally;
 
 // The 32nd item, and the 33rd.
-pub fn q(tally: Tally) -> Tally {
+pub fn q(rt: &HostRuntime, tally: Tally) -> Tally {
     play(
+        rt,
         TRIALS,
         0,
         b"trial Q: an update holds 32 items exclusively, and writes a 33rd; then two with 32 each
@@ -108,8 +109,9 @@ read 3 33: 0 8 0 1
 }
 
 // The 32nd item and the 33rd, held by another.
-pub fn r(tally: Tally) -> Tally {
+pub fn r(rt: &HostRuntime, tally: Tally) -> Tally {
     play(
+        rt,
         TRIALS,
         0,
         b"trial R: the 33rd item is held by another: refused before the conflict, with 31 items not
@@ -182,8 +184,9 @@ write 4 0 8: 0 0 0 0
 }
 
 // How many items an update holds, and what it awaits then.
-pub fn held(row: u64, tally: Tally) -> Tally {
+pub fn held(rt: &HostRuntime, row: u64, tally: Tally) -> Tally {
     play(
+        rt,
         OF_SLOTS,
         row,
         b"on 0

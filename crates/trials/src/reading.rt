@@ -2,8 +2,9 @@
 use crate::play::{TRIALS, play};
 use tally::Tally;
 
-pub fn ab(tally: Tally) -> Tally {
+pub fn ab(rt: &HostRuntime, tally: Tally) -> Tally {
     play(
+        rt,
         TRIALS,
         0,
         b"trial AB: a query's granted reads are counted and weighed, and nothing else is
@@ -63,8 +64,9 @@ commit 2: 3 0 0 0
 }
 
 // Query 1 looks at one version of item 6, and at two of item 5.
-pub fn ac(tally: Tally) -> Tally {
+pub fn ac(rt: &HostRuntime, tally: Tally) -> Tally {
     play(
+        rt,
         TRIALS,
         0,
         b"trial AC: a count and a sum at the limit less two, less one, and at it; a weight that jumps over it

@@ -2,8 +2,9 @@
 use crate::play::{TRIALS, play};
 use tally::Tally;
 
-pub fn ag(tally: Tally) -> Tally {
+pub fn ag(rt: &HostRuntime, tally: Tally) -> Tally {
     play(
+        rt,
         TRIALS,
         0,
         b"trial AG: an update joins when it asks to write, granted or waiting, when it is read under, when it reads and when it overwrites
@@ -63,8 +64,9 @@ view versions 5 65: 0
 }
 
 // The order of the refusals; 13 behind all.
-pub fn ah_and_ai(tally: Tally) -> Tally {
+pub fn ah_and_ai(rt: &HostRuntime, tally: Tally) -> Tally {
     play(
+        rt,
         TRIALS,
         0,
         b"trial AH: relaxed queries and those past their writing are kept apart, and that is tested last

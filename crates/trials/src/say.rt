@@ -1,38 +1,37 @@
 // Text on standard output.
-use libc::STDOUT_FILENO;
 use names::Answer;
 
-pub fn say(text: &[u8]) {
-    io::write_all(STDOUT_FILENO, text);
+pub fn say(rt: &HostRuntime, text: &[u8]) {
+    let _ = rt.write_all(text);
 }
 
-pub fn byte(b: u8) {
+pub fn byte(rt: &HostRuntime, b: u8) {
     let text = [b];
-    say(&text);
+    say(rt, &text);
 }
 
-pub fn number(n: u64) {
-    io::print_decimal(STDOUT_FILENO, n);
+pub fn number(rt: &HostRuntime, n: u64) {
+    let _ = rt.print(n);
 }
 
 // A number with a space before it.
-pub fn next(n: u64) {
-    say(b" ");
-    number(n);
+pub fn next(rt: &HostRuntime, n: u64) {
+    say(rt, b" ");
+    number(rt, n);
 }
 
-pub fn answer(a: Answer) {
-    number(a.code);
-    next(a.value);
-    next(a.number);
-    next(a.looked);
+pub fn answer(rt: &HostRuntime, a: Answer) {
+    number(rt, a.code);
+    next(rt, a.value);
+    next(rt, a.number);
+    next(rt, a.looked);
 }
 
 // How a line ends, by which one that differs is found.
-pub fn end(ok: bool) {
+pub fn end(rt: &HostRuntime, ok: bool) {
     if ok {
-        say(b"\n");
+        say(rt, b"\n");
     } else {
-        say(b" DIFFERS\n");
+        say(rt, b" DIFFERS\n");
     }
 }

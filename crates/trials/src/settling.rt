@@ -2,8 +2,9 @@
 use crate::play::{TRIALS, play};
 use tally::Tally;
 
-pub fn x_and_y(tally: Tally) -> Tally {
+pub fn x_and_y(rt: &HostRuntime, tally: Tally) -> Tally {
     play(
+        rt,
         TRIALS,
         0,
         b"trial X: an update ends its writing, reads by its stamp, and a query waits for it
@@ -93,8 +94,9 @@ view versions 6 1: 2
 }
 
 // The order of the refusals; 12 before 11.
-pub fn z(tally: Tally) -> Tally {
+pub fn z(rt: &HostRuntime, tally: Tally) -> Tally {
     play(
+        rt,
         TRIALS,
         0,
         b"trial Z: what settling is refused for, one before the other, and writing behind it with 32 items

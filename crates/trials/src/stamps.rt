@@ -4,8 +4,9 @@ use crate::play::{TRIALS, play};
 use tally::Tally;
 
 // A full row.
-pub fn i(tally: Tally) -> Tally {
+pub fn i(rt: &HostRuntime, tally: Tally) -> Tally {
     play(
+        rt,
         TRIALS,
         0,
         b"trial I: a query at each stamp, the row is full, then one write more and the ends of two queries
@@ -186,8 +187,9 @@ view versions 0 0: 30
 }
 
 // The clock, aborted writes, and counts.
-pub fn j_to_l(tally: Tally) -> Tally {
+pub fn j_to_l(rt: &HostRuntime, tally: Tally) -> Tally {
     play(
+        rt,
         TRIALS,
         0,
         b"trial J: the last stamp is given, then none, and who awaits is told so first

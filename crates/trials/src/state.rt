@@ -42,7 +42,7 @@ pub struct Lent {
     pub versions: usize,
 }
 
-#[derive(Drop)]
+#[derive(Clone, Copy)]
 pub struct Tables {
     pub txns: [u64; TXN_ROOM],
     pub locks: [u64; LOCK_ROOM],

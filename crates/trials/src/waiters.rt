@@ -2,8 +2,9 @@
 use crate::play::{TRIALS, play};
 use tally::Tally;
 
-pub fn s_to_v(tally: Tally) -> Tally {
+pub fn s_to_v(rt: &HostRuntime, tally: Tally) -> Tally {
     play(
+        rt,
         TRIALS,
         0,
         b"trial S: readers pass a waiting writer no more
@@ -81,8 +82,9 @@ write 1 6 61: 1 0 0 0
 }
 
 // As long a line as there can be.
-pub fn w(tally: Tally) -> Tally {
+pub fn w(rt: &HostRuntime, tally: Tally) -> Tally {
     play(
+        rt,
         TRIALS,
         0,
         b"trial W: as many wait in one line as there are slots

@@ -1,0 +1,6 @@
+-- Fewer records are asked for each time.
+use Rattle.judging.specs.Handed.{left}
+use Rattle.judge_file.proofs.handing.read_records.Given as goal
+
+abbrev pub decreases-loop-from : goal.decreases-loop-from
+decreases-loop-from g l = left l.judging
