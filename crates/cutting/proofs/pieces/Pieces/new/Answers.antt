@@ -5,12 +5,8 @@ use Rattle.rules.specs.Words.{every, some}
 use Rattle.line_words.specs.Held.{counted}
 use Rattle.cutting.specs.Chopping.{chopped_from}
 use Rattle.cutting.specs.Life.{row_words}
-use Rattle.cutting.proofs.pieces.Pieces.new.Statement.{statement}
-use Rattle.cutting.proofs.pieces.Pieces.new.Tie as tie
+use Rattle.cutting.proofs.pieces.Pieces.new.Goals as goal
 
-returns : tie.Need-returns
+pub returns : goal.returns
 unfolding counted every some chopped_from row_words
 returns c = record { count = refl; unknown = refl; holding = λ _. record { names = record { plain = refl; rows = λ i h. absurd (omega arith) }; rows = refl } }
-
-pub new_spec : {M : Type 1} → statement M
-new_spec = tie.close (tie.spec returns)
