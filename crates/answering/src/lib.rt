@@ -3,6 +3,8 @@
 // The input is taken in pieces of any length, and a line may be longer than any of them. Nothing is
 // read or written here: input is handed in, and each call's output stands at the front of a lent
 // buffer, with room for all of it. `new` is the only way to one.
+#![tactic(auto)]
+
 mod pieces;
 
 ghost use Rattle.std.specs.Prelude.{◌≡◌, ◌≤◌, length, take};

@@ -10,7 +10,7 @@ use case_lines::respond;
 use number_lines::Scan;
 
 // What is read of the line that is not ended yet, and how many bytes of answers.
-#[derive(Drop)]
+#[derive(Clone, Copy)]
 pub(crate) struct Answered {
     pub scan: Scan,
     pub used: usize,

@@ -1,5 +1,7 @@
 // What a read or a write comes to on good tables, found by reading alone: a refusal, a wait, or the deed
 // that the cell of the lock table or the start of the reader says.
+#![tactic(auto)]
+
 ghost use Rattle.std.specs.Prelude.{◌≡◌, ◌<◌, length};
 ghost use Rattle.names.specs.Sizes.{base};
 ghost use Rattle.rules.specs.Tables.{tables, txn_words, lock_words};

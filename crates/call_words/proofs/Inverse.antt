@@ -1,14 +1,13 @@
 -- Words are a call exactly where they are some call's: `call_of-fields_of` and `fields_of-call_of`.
 use Prim.Native.Nat.{ℕ}
 use mathlib.Core.Path.{◌≡◌, refl, sym, subst}
-use mathlib.Core.Bool.{Bool, true, false, ◌&&◌}
+use mathlib.Core.Bool.{Bool, true, false}
 use native.Mathlib.Omega.{arith}
 use lib.Dec.{T, eqb}
 use borrow.Author.Tests.{eqb-true, eq-eqb}
 use Rattle.rules.specs.Answers.{Call, BeginUpdate, BeginQuery, Read, Write, Commit, Abort, Settle, BeginRelaxed}
 use Rattle.rules.proofs.Tests.{and_left, and_right, is_true}
 use Rattle.call_words.specs.declared.Fields.{Fields}
-use Rattle.call_words.specs.declared.CallOf.{CallOf}
 use Rattle.call_words.specs.declared.CallOf.TheVariants.{Known, Unknown}
 use Rattle.call_words.specs.Calls.{fields_of, call_in, same_fields, is_call, call_of}
 

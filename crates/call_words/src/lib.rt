@@ -3,6 +3,8 @@
 // A journal has calls so. `fields_of` and `call_of` are each other's inverse: words are a call
 // exactly where they are some call's words, of a known kind and with 0 in what it does not use.
 // `call_in` goes by the kind alone.
+#![tactic(auto, unfolding(crate::specs::Calls::fields_of, crate::specs::Calls::call_in))]
+
 ghost use Rattle.std.specs.Prelude.{◌≡◌};
 ghost use Rattle.call_words.specs.Calls.{fields, fields_of, known_kind, call_in, same_fields, call_of};
 
@@ -31,7 +33,7 @@ const FIRST: u64 = BEGIN_UPDATE;
 const LAST: u64 = BEGIN_RELAXED;
 
 // The four words of a call.
-#[derive(Drop)]
+#[derive(Clone, Copy)]
 pub struct Fields {
     pub kind: u64,
     pub number: u64,
@@ -40,7 +42,7 @@ pub struct Fields {
 }
 
 // What four words say.
-#[derive(Drop)]
+#[derive(Clone, Copy)]
 pub enum CallOf {
     Known(Call),
     Unknown,

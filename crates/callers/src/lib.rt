@@ -2,6 +2,8 @@
 // something else, whether its quota is spent, whether it is past its writing, whether another one that
 // is holds it back, or is there at all when a relaxed query begins. Proved against `slot_of`,
 // `query_kind`, `awaits_other`, `writes_further`, `writes_past`, `held_back` and `meets_settled` of the rules.
+#![tactic(auto)]
+
 ghost use Rattle.std.specs.Prelude.{◌≡◌, length, ◌<◌};
 ghost use Rattle.names.specs.Sizes.{base};
 ghost use Rattle.rules.specs.Tables.{lock_words, txn, query_kind, slot_of};

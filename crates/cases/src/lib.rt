@@ -1,5 +1,7 @@
 // A line's numbers as a case: a call and the words of three tables, of any content; and the call,
 // made on these tables.
+#![tactic(auto)]
+
 ghost use Rattle.std.specs.Prelude.{◌≡◌, length};
 ghost use Rattle.names.specs.Sizes.{base};
 ghost use Rattle.rules.specs.Answers.{outcome};

@@ -1,6 +1,8 @@
 // The lock decision: which cell of the table a read or a write of an update falls into, by what it
 // asks, what it holds, what others hold and who waits before it; and the lock that a grant leaves. Proved against
 // `decision`, `shared_too` and `taken` of the rules.
+#![tactic(auto)]
+
 ghost use Rattle.std.specs.Prelude.{◌≡◌, ◌<◌, length};
 ghost use Rattle.names.specs.Sizes.{base};
 ghost use Rattle.rules.specs.Tables.{txn_words, lock_words, lock};

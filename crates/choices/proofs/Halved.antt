@@ -6,7 +6,7 @@ use mathlib.Core.Bool.{Bool, true, false, ◌&&◌}
 use mathlib.Core.List.{List}
 use native.Mathlib.Omega.{arith}
 use native.Mathlib.Nat.{not-suc-le-zero}
-use lib.ListN.{get_or}
+use lib.ListN.{get_or, take, drop}
 use lib.Dec.{T, ltb, leb→le, le→leb, eqb→eq}
 use borrow.Author.Tests.{ltb-false}
 use Rattle.names.specs.Sizes.{base}
@@ -20,7 +20,7 @@ use Rattle.rules.proofs.Rows.{row_word}
 use Rattle.choices.specs.Pairs.{count_in, stamp_in, hidden_in}
 use Rattle.choices.specs.Choosable.{Choosable, ChoosableIn}
 use Rattle.choices.specs.Looks.{halvings, most_looks}
-use Rattle.choices.proofs.Lent.{length-row}
+use Rattle.choices.proofs.Lent.{lent, length-row}
 use Rattle.choices.proofs.Halvings.{fewer, at_most}
 use Rattle.choices.proofs.Read.{version_in, hidden_in_lem, seen_up_to, seen-outside}
 
@@ -166,3 +166,25 @@ pub hidden-word :
 unfolding versions_of hidden_now
 hidden-word v x h =
     sym (row_word (version_row base) x (masks_at base + 0) v (omega arith)) ∙ sym (hidden_in_lem (row (version_row base) x v) 0 (omega arith))
+
+-- what is known of the place that the search finds in the part of the table that is lent
+pub record Placed (v : List ℕ) (x : ℕ) (q : Reader) (k : ℕ) : Type 0 where
+  pub is : k ≡ place q (versions_of base v x)
+  pub counted : k < count_in (row (version_row base) x v)
+  pub room : k < base.places
+
+pub placed :
+    (v : List ℕ) (x : ℕ) (q : Reader) → Choosable v x q → (k : ℕ)
+    → k ≡ place q (versions_in base (take ((version_row base * x + version_row base) - version_row base * x) (drop (version_row base * x) v)))
+    → Placed v x q k
+unfolding versions_of
+placed v x q f k e =
+    let i : k ≡ place q (versions_of base v x) = e ∙ ap (λ (r : List ℕ). place q (versions_in base r)) (lent x v) in
+    let c : k < count_in (row (version_row base) x v) = omega (arith, within (row (version_row base) x v) q (found_in v x q f)) in
+    record { is = i; counted = c; room = let m = f.sound.most in omega arith }
+
+-- what the search asks of that part
+pub lent_choosable :
+    (v : List ℕ) (x : ℕ) (q : Reader) → Choosable v x q
+    → ChoosableIn (take ((version_row base * x + version_row base) - version_row base * x) (drop (version_row base * x) v)) q
+lent_choosable v x q f = subst (λ (r : List ℕ). ChoosableIn r q) (sym (lent x v)) (found_in v x q f)

@@ -1,11 +1,11 @@
 -- What the search asks for, good tables have.
 use Prim.Native.Nat.{ℕ, ◌<◌, ◌≤◌}
-use mathlib.Core.Path.{◌≡◌, subst}
+use mathlib.Core.Path.{subst}
 use mathlib.Core.List.{List}
 use lib.Dec.{T}
 use Rattle.names.specs.Sizes.{base}
 use Rattle.rules.specs.Words.{row}
-use Rattle.rules.specs.Tables.{Tables, version_row, txn, is_reader, by_start, live_relaxed, Reader, up_to, outside, reader_in}
+use Rattle.rules.specs.Tables.{Tables, version_row, txn, is_reader, by_start, live_relaxed, up_to, outside, reader_in}
 use Rattle.rules.specs.Versions.{versions_of}
 use Rattle.rules.specs.Good.{Good, GoodVersions}
 use Rattle.rules.proofs.RowKinds.{start-reads, start_not_relaxed, reads_up_to, relaxed-live, relaxed-reads, reads-outside}

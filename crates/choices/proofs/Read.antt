@@ -10,7 +10,7 @@ use lib.Seq.{get_or-drop}
 use lib.Dec.{leb}
 use Rattle.names.specs.Sizes.{base}
 use Rattle.rules.specs.Words.{bit}
-use Rattle.rules.specs.Tables.{masks_at, Reader, up_to, outside}
+use Rattle.rules.specs.Tables.{masks_at, up_to, outside}
 use Rattle.rules.specs.Versions.{Version, no_version, versions_from, versions_in, stamp_at, hidden_at, sees}
 use Rattle.choices.specs.Pairs.{count_in, stamp_in, value_in, hidden_in}
 

@@ -1,6 +1,8 @@
 // Which version of an item a reader reads, by a start or outside of a relaxed query's set, and the newest one.
 //
 // Proved against the choice of the rules. Good tables meet each `requires`, as proofs/Handed says.
+#![tactic(auto)]
+
 ghost use Rattle.std.specs.Prelude.{◌≡◌, suc, ◌≤◌, ◌<◌, length, get_or};
 ghost use Rattle.names.specs.Sizes.{base};
 ghost use Rattle.rules.specs.Words.{row};
@@ -15,7 +17,7 @@ use names::{
 };
 
 // The value of a version, and at how many versions one looked to find it.
-#[derive(Drop)]
+#[derive(Clone, Copy)]
 pub struct Choice {
     pub value: u64,
     pub looked: u64,

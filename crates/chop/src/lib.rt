@@ -2,6 +2,8 @@
 //
 // A piece is three words: the number of its transaction, the items that it reads and the items that it
 // writes, each as a word of 64 bits.
+#![tactic(auto)]
+
 ghost use Rattle.std.specs.Prelude.{◌≡◌, []};
 ghost use Rattle.chop.specs.Pieces.{pieces_of};
 ghost use Rattle.chop.specs.Verdicts.{said, shows};
@@ -17,7 +19,7 @@ use links::links_of;
 pub const MOST: usize = 32;
 
 // What is found of a chopping.
-#[derive(Drop)]
+#[derive(Clone, Copy)]
 pub enum Finding {
     TooManyPieces,
     UnknownItem,

@@ -2,6 +2,8 @@
 //
 // A piece is a distinct pair of a transaction and a piece's number, and pieces stand in the order of
 // their first rows.
+#![tactic(auto)]
+
 ghost use Rattle.std.specs.Prelude.{◌≡◌, map, ◌*◌, ◌/◌, ◌<◌, ◌≤◌, length, take};
 ghost use Rattle.chop.specs.Pieces.{most, pieces_of};
 ghost use Rattle.chop.specs.Verdicts.{said};
@@ -21,7 +23,7 @@ const WRITE: u64 = 1;
 const WORDS: usize = 96;
 
 // A row by its words.
-#[derive(Drop)]
+#[derive(Clone, Copy)]
 pub struct Row {
     pub transaction: u64,
     pub number: u64,
@@ -30,7 +32,7 @@ pub struct Row {
 }
 
 // A piece that is being put together.
-#[derive(Drop)]
+#[derive(Clone, Copy)]
 pub struct Noted {
     pub transaction: u64,
     pub number: u64,

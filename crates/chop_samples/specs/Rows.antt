@@ -1,5 +1,5 @@
 -- Small choppings as rows of four words, each with its verdict: the limits, and the order of the refusals.
-use Rattle.std.specs.Prelude.{ℕ, zero, suc, ◌+◌, ◌≡◌, List, [], ◌∷◌, ◌++◌}
+use Rattle.std.specs.Prelude.{ℕ, zero, suc, ◌≡◌, List, [], ◌∷◌, ◌++◌}
 use Rattle.chop.specs.Verdicts.{Verdict, too_many_pieces, unknown_item, malformed, refused, accepted}
 use Rattle.chop_rows.specs.RowPieces.{rows_judgement}
 

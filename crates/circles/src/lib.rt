@@ -3,6 +3,8 @@
 // The waits come as one word of slots for each slot: bit b of `waits[a]` says that slot a waits for
 // slot b. A walk goes from a slot to one that it waits for, and so on; a circle is a walk that ends
 // where it began. Every function is proved in both directions against the walks of the rules.
+#![tactic(auto)]
+
 ghost use Rattle.std.specs.Prelude.{◌≡◌, ◌↔◌, ◌<◌, ◌^◌, T};
 ghost use Rattle.names.specs.Sizes.{base};
 ghost use Rattle.rules.specs.Words.{bit};

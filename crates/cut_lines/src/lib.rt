@@ -2,6 +2,8 @@
 //
 // The operations come as rows of four words, as `finest` takes them; the cut has the piece of each, as
 // `finest` names it; and the names of their programs come as rows of 32 bytes.
+#![tactic(auto)]
+
 mod prints;
 mod sets;
 

@@ -3,6 +3,8 @@
 //
 // It reads and writes nothing itself: input is handed in, and the line stands at the front of a lent
 // buffer. `new` is the only way to one.
+#![tactic(auto)]
+
 mod pieces;
 mod says;
 mod tally;

@@ -1,6 +1,8 @@
 // Each deed done by its own function of `deeds` or `endings`: its answer, and the tables that are lent
 // as they are afterwards. Proved equal to `done` of the rules, on good tables and for a deed that they
 // allow, as a judged one is.
+#![tactic(auto)]
+
 ghost use Rattle.std.specs.Prelude.{◌≡◌};
 ghost use Rattle.names.specs.Sizes.{base};
 ghost use Rattle.rules.specs.Tables.{tables};

@@ -7,7 +7,7 @@ ghost use Rattle.endings.specs.Asked.{Trimmed, Gone, QueryGone};
 use names::{RELAXED_KIND, Slot, Stamp};
 
 // The start of one who left, and the neighbours of that start among those that stay.
-#[derive(Drop)]
+#[derive(Clone, Copy)]
 pub struct Left {
     pub start: Stamp,
     pub below: u64,

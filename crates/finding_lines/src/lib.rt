@@ -1,4 +1,6 @@
 // The line that says what was found of a chopping.
+#![tactic(auto)]
+
 ghost use Rattle.std.specs.Prelude.{◌≡◌, map, ℕ, suc, ◌<◌, ◌≤◌, length, take, get_or};
 ghost use Rattle.texts.specs.Written.{Wrote};
 ghost use Rattle.finding_lines.specs.Lines.{longest_line, refused_line, line_for, Shown};

@@ -2,6 +2,8 @@
 //
 // An operation is a row of four words: the number of its program, the item, 0 for a read or 1 for a
 // write, and 1 where it may roll back or 0 elsewhere. A program's order is that of its own rows.
+#![tactic(auto)]
+
 ghost use Rattle.std.specs.Prelude.{◌≡◌, []};
 ghost use Rattle.finest.specs.Rows.{some_unknown, some_malformed, rows_cut, shows, said};
 
@@ -16,7 +18,7 @@ pub const MOST: usize = 32;
 const ITEMS: u64 = 64;
 
 // What is found of the rows.
-#[derive(Drop)]
+#[derive(Clone, Copy)]
 pub enum Finding {
     TooManyOperations,
     UnknownItem,

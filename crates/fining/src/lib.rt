@@ -3,6 +3,8 @@
 //
 // It reads and writes nothing itself: input is handed in, and the text stands at the front of a lent
 // buffer. `new` is the only way to one.
+#![tactic(auto)]
+
 mod operations;
 mod says;
 mod tally;

@@ -1,6 +1,8 @@
 // Fresh tables: the state that the keeper starts from.
 //
 // Zeros, but each version row has count 1 with the pair (0, 0).
+#![tactic(auto)]
+
 ghost use Rattle.std.specs.Prelude.{◌≡◌, length, replicate};
 ghost use Rattle.names.specs.Sizes.{base};
 ghost use Rattle.rules.specs.Tables.{tables, version_words, with_counts};

@@ -2,6 +2,8 @@
 //
 // The links come as one word for each vertex: bit b of `links[a]` says that a is linked to b. A room
 // is a word too: ways stay among its vertices.
+#![tactic(auto)]
+
 ghost use Rattle.std.specs.Prelude.{◌≡◌, ◌++◌, cond, ◌+◌, ◌<◌, ◌≤◌, ◌^◌, length, drop, get_or};
 ghost use Rattle.std.specs.Int.Bits.{bit_or};
 ghost use Rattle.graph.specs.Sets.{lowest as lowestOf};

@@ -2,6 +2,8 @@
 //
 // No program uses this. Its proof shows that the machine's steps, taken one after another, come to
 // the verdict on the file: that what each step asks of those before it can be had.
+#![tactic(auto)]
+
 ghost use Rattle.std.specs.Prelude.{◌≡◌, ◌≤◌, ◌<◌, length};
 ghost use Rattle.texts.specs.Written.{Wrote};
 ghost use Rattle.judge.specs.Verdicts.{verdict_on};

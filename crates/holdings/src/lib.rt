@@ -2,6 +2,8 @@
 // where one is held exclusively, and nobody holds more of these than the quota.
 //
 // Every function is proved equal to its definition, for tables of the exact sizes.
+#![tactic(auto)]
+
 ghost use Rattle.std.specs.Prelude.{◌≡◌, ◌&&◌, ◌<◌, ◌^◌, length};
 ghost use Rattle.names.specs.Sizes.{base};
 ghost use Rattle.rules.specs.Tables.{txn_words, lock_words};

@@ -3,6 +3,8 @@
 // Words are written and read byte by byte, the lowest byte first. No public function has a
 // `requires`. A byte that is missing counts as 0, so who reads asks first whether the section is
 // whole. Where a buffer has no room nothing is written.
+#![tactic(auto)]
+
 mod records;
 mod words;
 

@@ -2,6 +2,8 @@
 //
 // It sees one call and one answer at a time and keeps how many it has seen, the first wrong one and
 // three tables. It goes by what the keeper promises alone: by `step`, never by a word of a table.
+#![tactic(auto)]
+
 mod pieces;
 mod points;
 mod whole;
@@ -11,7 +13,7 @@ pub use points::{calls_stand, spoken};
 pub use whole::verdict_on;
 
 // What is said of a file: it is accepted, or the first point that fails.
-#[derive(Drop)]
+#[derive(Clone, Copy)]
 pub enum Verdict {
     Accepted,
     Short,
@@ -22,7 +24,7 @@ pub enum Verdict {
 
 // What the judge keeps beside the tables: how many calls it has seen, and the first wrong one of
 // them, counted from 1; 0 for none.
-#[derive(Drop)]
+#[derive(Clone, Copy)]
 pub struct Judge {
     pub seen: u64,
     pub wrong: u64,

@@ -7,7 +7,7 @@ use std::io::{Read, Seek, SeekFrom};
 const FARTHEST: u64 = 9223372036854775808;
 
 // The size of a file.
-#[derive(Drop)]
+#[derive(Clone, Copy)]
 pub(crate) enum Size {
     Known(u64),
     Unknown,

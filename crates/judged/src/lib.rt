@@ -1,5 +1,7 @@
 // What a call comes to on good tables, found by reading alone: a refusal, or a deed with the slot and
 // the item that it needs. Proved equal to `judged` of the rules, test by test in their order.
+#![tactic(auto)]
+
 ghost use Rattle.std.specs.Prelude.{◌≡◌};
 ghost use Rattle.names.specs.Sizes.{base};
 ghost use Rattle.rules.specs.Tables.{tables};

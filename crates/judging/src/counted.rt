@@ -15,7 +15,7 @@ const BOTH: u64 = 2 * journal::WORD as u64;
 const RECORD: u64 = journal::RECORD as u64;
 
 // How many counts are still asked for, where the next one stands, and those that were handed over.
-#[derive(Drop)]
+#[derive(Clone, Copy)]
 pub struct Counts {
     size: u64,
     wanted: u64,

@@ -5,6 +5,8 @@
 // of the counts with fresh tables and asks for calls and answers in step. Neither can be had in
 // another way. Each step is proved to keep to every file that the bytes so far were taken from, and
 // the last one to say that file's verdict.
+#![tactic(auto)]
+
 mod counted;
 mod lockstep;
 

@@ -4,6 +4,8 @@
 // input whatever, its four answer numbers and every word of the three tables afterwards, by one
 // equation with the rules' `step`. All tables are tested, then the call is judged without changing a
 // word, then the deed is done.
+#![tactic(auto)]
+
 ghost use Rattle.std.specs.Prelude.{◌≡◌};
 ghost use Rattle.names.specs.Sizes.{base};
 ghost use Rattle.rules.specs.Tables.{tables};

@@ -3,6 +3,8 @@
 // A slice is a pointer and a length. Each call has the contract of the keeper's routine that it
 // makes: no `requires`, and one equation with the rules' `step`. include/keeper.h says for C what a
 // caller may rely on, and what it must see to itself.
+#![tactic(auto)]
+
 ghost use Rattle.std.specs.Prelude.{◌≡◌};
 ghost use Rattle.names.specs.Sizes.{base};
 ghost use Rattle.rules.specs.Tables.{tables};

@@ -4,7 +4,7 @@ ghost use Rattle.std.specs.Prelude.{◌≡◌, false, List, [], ◌∷◌, ◌++
 ghost use Rattle.numerals.specs.Numbers.{digit as Numbers·digit};
 ghost use Rattle.line_words.specs.Held.{KeepsDigits};
 
-#[derive(Drop)]
+#[derive(Clone, Copy)]
 pub struct Digits {
     pub right: bool,
     pub value: u64,

@@ -8,7 +8,7 @@ ghost use Rattle.line_words.specs.Held.{KeepsBytes};
 pub const LONGEST: usize = 32;
 
 // The count is one more than the longest name has where there are too many to be kept.
-#[derive(Drop)]
+#[derive(Clone, Copy)]
 pub struct Kept {
     pub bytes: [u8; 32],
     pub count: usize,

@@ -3,6 +3,8 @@
 //
 // A line may have any length, so it is not kept: `Speech` knows the word that is not ended, as far as it
 // can be a name or a number.
+#![tactic(auto)]
+
 mod digits;
 mod kept;
 mod speech;

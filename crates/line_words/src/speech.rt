@@ -5,7 +5,7 @@ ghost use Rattle.line_words.specs.Held.{KeepsSpeaking, Hears};
 use crate::word::Word;
 
 // Whether a comment has begun, and the word that is not ended.
-#[derive(Drop)]
+#[derive(Clone, Copy)]
 pub struct Speech {
     pub over: bool,
     pub word: Word,

@@ -7,7 +7,7 @@ use crate::digits::Digits;
 use crate::kept::{Kept, LONGEST};
 
 // Its bytes, whether each may stand in a name, and what they are as digits.
-#[derive(Drop)]
+#[derive(Clone, Copy)]
 pub struct Word {
     pub kept: Kept,
     pub plain: bool,

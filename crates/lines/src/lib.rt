@@ -1,12 +1,14 @@
 // Input cut into lines, chunk by chunk.
 //
 // What a line says is for those above: here a line is its bytes, or too long to be kept.
+#![tactic(auto)]
+
 ghost use Rattle.std.specs.Prelude.{◌≡◌, []};
 ghost use Rattle.lines.specs.Lines.{short, more, begun, held_by, Goes};
 
 // The bytes of the line that is not ended yet, and how many there are: one more than the longest
 // line has where there are too many to be kept.
-#[derive(Drop)]
+#[derive(Clone, Copy)]
 pub struct Lines {
     pub bytes: [u8; 80],
     pub count: usize,
@@ -14,7 +16,7 @@ pub struct Lines {
 
 // Where a line ended: the line, and the index after its byte 10. Where none did, the chunk is used
 // up, and the line goes on in the next one.
-#[derive(Drop)]
+#[derive(Clone, Copy)]
 pub struct Next {
     pub lines: Lines,
     pub at: usize,

@@ -1,5 +1,5 @@
 // A call, with its words as the caller gave them: any word may come in.
-#[derive(Drop)]
+#[derive(Clone, Copy)]
 pub enum Call {
     BeginUpdate,
     BeginQuery,

@@ -6,7 +6,7 @@ ghost use Rattle.names.specs.Answers.{code};
 use super::{Item, Slot, Stamp};
 
 // Why a call is refused, in the order of the codes.
-#[derive(Drop)]
+#[derive(Clone, Copy)]
 pub enum Refusal {
     Wait,
     Deadlock,
@@ -46,7 +46,7 @@ impl Refusal {
 }
 
 // What the lock table's cell says of an update's read or write.
-#[derive(Drop)]
+#[derive(Clone, Copy)]
 pub enum Cell {
     OwnValue,
     ReplaceValue,
@@ -57,7 +57,7 @@ pub enum Cell {
     Conflict,
 }
 
-#[derive(Drop)]
+#[derive(Clone, Copy)]
 pub enum Deed {
     // Nothing is done.
     Refused(Refusal),

@@ -52,7 +52,7 @@ pub fn held_sum(a: u64, b: u64) -> u64
 }
 
 // The sizes that the definitions go by.
-#[derive(Drop)]
+#[derive(Clone, Copy)]
 pub struct Sizes {
     pub slots: u64,
     pub items: u64,
@@ -75,37 +75,37 @@ impl Sizes {
 }
 
 // The number of a transaction, from 1 to the last word; it is never given twice.
-#[derive(Drop)]
+#[derive(Clone, Copy)]
 pub struct Number(pub u64);
 
 // When an update committed.
-#[derive(Drop)]
+#[derive(Clone, Copy)]
 pub struct Stamp(pub u64);
 
 // One of the items.
-#[derive(Drop)]
+#[derive(Clone, Copy)]
 pub struct Item(pub u64);
 
 // The place of a live transaction.
-#[derive(Drop)]
+#[derive(Clone, Copy)]
 pub struct Slot(pub u64);
 
 // The stamp after another, if there is one.
-#[derive(Drop)]
+#[derive(Clone, Copy)]
 pub enum NextStamp {
     At(Stamp),
     Spent,
 }
 
 // What a word says of an item.
-#[derive(Drop)]
+#[derive(Clone, Copy)]
 pub enum ItemOf {
     Known(Item),
     Unknown,
 }
 
 // What a word says of a transaction's number.
-#[derive(Drop)]
+#[derive(Clone, Copy)]
 pub enum NumberOf {
     Possible(Number),
     Impossible,
@@ -113,7 +113,7 @@ pub enum NumberOf {
 
 // The four numbers of an answer.
 #[repr(C)]
-#[derive(Drop)]
+#[derive(Clone, Copy)]
 pub struct Answer {
     pub code: u64,
     pub value: u64,

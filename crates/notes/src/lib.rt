@@ -1,6 +1,8 @@
 // What relaxed queries need of the transaction rows: who they are, what they have read, and who is in
 // their sets of later updates. Proved against the rules' words of slots, `joined`, `read_noted` and
 // `forgotten`.
+#![tactic(auto)]
+
 ghost use Rattle.std.specs.Prelude.{◌≡◌, ◌+◌, ◌<◌, ◌≤◌, length, set};
 ghost use Rattle.names.specs.Sizes.{base};
 ghost use Rattle.names.specs.Layout.{txn_later_for_at};

@@ -1,4 +1,6 @@
 // Lines of numbers, decimal and with single spaces between: read byte by byte, and printed.
+#![tactic(auto)]
+
 mod scan;
 mod spaced;
 

@@ -7,7 +7,7 @@ ghost use Rattle.number_lines.specs.Lines.{reads, spoilt, after, digit_after, en
 
 // The number that is not ended yet and whether it has a digit, how many numbers are kept, and
 // whether the line is no list of numbers at all.
-#[derive(Drop)]
+#[derive(Clone, Copy)]
 pub struct Scan {
     pub value: u64,
     pub begun: bool,
@@ -17,7 +17,7 @@ pub struct Scan {
 
 // Where a line ended: what was read of it, and the index after its byte 10. Where none did, the
 // chunk is used up, and the line goes on in the next one.
-#[derive(Drop)]
+#[derive(Clone, Copy)]
 pub struct Next {
     pub scan: Scan,
     pub at: usize,

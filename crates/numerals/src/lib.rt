@@ -1,4 +1,6 @@
 // Decimal numbers: read from a line, and printed into lent bytes; the line of an answer.
+#![tactic(auto)]
+
 mod answers;
 mod numbers;
 

@@ -4,7 +4,7 @@ ghost use Rattle.numerals.specs.Numbers.{taken_by, number, digits_from};
 ghost use Rattle.numerals.specs.Numbers.{digit as Numbers·digit};
 
 // A number with the index after its last digit, or none.
-#[derive(Drop)]
+#[derive(Clone, Copy)]
 pub enum Taken {
     Upto(u64, usize),
     No,

@@ -6,7 +6,7 @@ use mathlib.Core.List.{List, [], ◌∷◌, ◌++◌}
 use lib.Dec.{eqb}
 use Rattle.line_words.specs.Words.{words_of, uncommented}
 use Rattle.line_words.specs.Speech.{spoken, ended_in}
-use Rattle.op_lines.specs.Read.{Heard, heard, hear, hear_all, silence, onward, noted, said_at, said_of, said}
+use Rattle.op_lines.specs.Read.{Heard, hear, hear_all, silence, onward, noted, said_at, said_of, said}
 use Rattle.line_words.specs.Held.{KeepsWord, Hears}
 use Rattle.op_lines.specs.Held.{told_at, KeepsOperation, KeepsHeard, Follows, Tells}
 use Rattle.line_words.specs.declared.speech.Speech.{Speech}

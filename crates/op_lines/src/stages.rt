@@ -7,7 +7,7 @@ ghost use Rattle.op_lines.specs.Held.{KeepsOperation};
 
 use line_words::Word;
 
-#[derive(Drop)]
+#[derive(Clone, Copy)]
 pub enum Stage {
     // No word, and one that is empty.
     Nothing,
@@ -26,7 +26,7 @@ pub enum Stage {
 
 // What is known of the operation: its program's name, zeros behind it, the item, whether it writes the
 // item, and whether it may roll back.
-#[derive(Drop)]
+#[derive(Clone, Copy)]
 pub struct Noted {
     pub name: [u8; 32],
     pub item: u64,

@@ -1,5 +1,7 @@
 // The locks of one slot, over all items: counted, and let go. What a row of the lock table is, `rows`
 // says.
+#![tactic(auto)]
+
 ghost use Rattle.std.specs.Prelude.{◌≡◌, ◌<◌, length, eqb, not};
 ghost use Rattle.names.specs.Sizes.{base};
 ghost use Rattle.rules.specs.Tables.{lock_words, lock, set_lock, holds, exclusives_of, released, release, unshared, unshare};

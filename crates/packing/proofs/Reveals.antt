@@ -1,25 +1,22 @@
 -- A relaxed query leaves: the row with nothing hidden from it any more, and the version that it read.
-use Prim.Native.Nat.{ℕ, zero, suc, ◌+◌, ◌-◌, ◌*◌, ◌≤◌, ◌<◌}
+use Prim.Native.Nat.{ℕ, ◌+◌, ◌-◌, ◌*◌, ◌≤◌, ◌<◌}
 use mathlib.Core.Path.{◌≡◌, refl, sym, ap, ◌∙◌, subst}
-use mathlib.Core.Logic.{◌⊎◌, inl, inr, ⊎_elim}
 use mathlib.Core.Bool.{Bool, true, false, ◌||◌, not, cond}
 use mathlib.Core.List.{List}
 use native.Mathlib.Omega.{arith}
-use native.Mathlib.Nat.{eq-or-lt_of_le}
 use lib.ListN.{length, get_or}
 use lib.Dec.{T, eqb, ltb}
 use borrow.Author.Tests.{eq-eqb, ne_eqb, ltb-true, ltb-false}
 use Rattle.names.specs.Sizes.{base}
 use Rattle.rules.specs.Words.{bit, without_bit}
 use Rattle.rules.specs.Tables.{masks_at, outside}
-use Rattle.rules.specs.Versions.{Version, no_version, versions_in, stamp_at, hidden_at, sees, place, revealed, row_of}
+use Rattle.rules.specs.Versions.{Version, no_version, versions_in, hidden_at, sees, place, revealed, row_of}
 use Rattle.rules.proofs.Tests.{not_make, not_use}
 use Rattle.rules.proofs.Bits.{without_none}
 use Rattle.rules.proofs.Choice.{Falls, Nests, length-versions_in, versions_in-row_of, length-row_of, row_of-unused, row_of-unhidden, older_seen, place-fits, place_above}
-use Rattle.rules.proofs.Revealed.{length-revealed, get_d_revealed, hidden-revealed, revealed_none, revealed-falls, revealed-nests}
+use Rattle.rules.proofs.Revealed.{length-revealed, get_d_revealed, revealed_none, revealed-falls, revealed-nests}
 use Rattle.rules.proofs.EqualVersions.{unhidden-past}
-use Rattle.choices.specs.Pairs.{count_in, stamp_in, value_in, hidden_in}
-use Rattle.choices.specs.SoundRow.{SoundRow}
+use Rattle.choices.specs.Pairs.{count_in, hidden_in}
 use Rattle.choices.proofs.Read.{version_at, version_in, hidden_in_lem}
 use Rattle.starts.specs.Ordered.{between}
 use Rattle.packing.specs.Changed.{TidyRow, without, read_there, shown_to}

@@ -13,7 +13,7 @@ use lib.Dec.{T, ltb}
 use borrow.Author.Tests.{ltb-true, ltb-false}
 use Rattle.names.specs.Sizes.{base}
 use Rattle.rules.specs.Words.{bit, without_bit}
-use Rattle.rules.specs.Tables.{masks_at, version_row}
+use Rattle.rules.specs.Tables.{masks_at}
 use Rattle.rules.proofs.Tests.{is_true}
 use Rattle.rules.proofs.Bits.{bit_below}
 use Rattle.packing.specs.Moved.{MovedBack, MovedUp, Shown}

@@ -1,5 +1,5 @@
 -- The tests by which a version stays or goes, on the words of the row.
-use Prim.Native.Nat.{ℕ, zero, suc, ◌+◌, ◌-◌, ◌*◌, ◌≤◌, ◌<◌}
+use Prim.Native.Nat.{ℕ, ◌+◌, ◌-◌, ◌*◌, ◌≤◌, ◌<◌}
 use mathlib.Core.Path.{◌≡◌, sym, ap, ap₂, ◌∙◌, subst}
 use mathlib.Core.Logic.{◌⊎◌, inl, inr}
 use mathlib.Core.Bool.{Bool, true, false, ◌||◌, not, cond}
@@ -14,7 +14,7 @@ use Rattle.rules.specs.Tables.{masks_at, up_to}
 use Rattle.rules.specs.Versions.{Version, no_version, versions_in, stamp_at, hidden_at, sees, place}
 use Rattle.rules.proofs.Choice.{length-versions_in, place-fits}
 use Rattle.rules.proofs.Reading.{place_is}
-use Rattle.choices.specs.Pairs.{count_in, stamp_in, hidden_in}
+use Rattle.choices.specs.Pairs.{count_in, stamp_in}
 use Rattle.choices.proofs.Read.{stamp_in_lem, hidden_in_lem}
 use Rattle.choices.proofs.Halved.{too_new, old_enough_lem}
 use Rattle.packing.specs.Changed.{TidyRow, stays, needed, without, left_by}

@@ -1,7 +1,6 @@
 -- A row of versions as it is rewritten: with a new version in front, with one less, and with less hidden.
 use Rattle.std.specs.Prelude.{ℕ, suc, ◌+◌, ◌-◌, ◌*◌, ◌≤◌, ◌<◌, ◌≡◌, Bool, ◌||◌, not, cond, List, ◌∷◌, ◌++◌, get_or, length, take, drop, T, eqb, ltb}
 use Rattle.names.specs.Sizes.{base}
-use Rattle.rules.specs.Words.{bit}
 use Rattle.rules.specs.Tables.{version_row, masks_at, up_to, outside}
 use Rattle.rules.specs.Versions.{Version, versions_in, stamp_at, hidden_at, place, revealed}
 use Rattle.choices.specs.Pairs.{count_in}

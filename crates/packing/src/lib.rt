@@ -4,6 +4,8 @@
 //
 // Proved for rows as specs/Changed asks, on numbers alone: which versions the rules keep is told by
 // rules/proofs/Leaving, and tied to these functions in the crate rewrites.
+#![tactic(auto)]
+
 ghost use Rattle.std.specs.Prelude.{◌≡◌, ℕ, ◌+◌, ◌≤◌, ◌<◌, length, get_or, T};
 ghost use Rattle.names.specs.Sizes.{base};
 ghost use Rattle.rules.specs.Words.{bit};

@@ -2,6 +2,8 @@
 //
 // A line may have any length, so it is not kept: `Line` knows how far its words have come, and what
 // they have said of the piece.
+#![tactic(auto)]
+
 mod stages;
 
 ghost use Rattle.std.specs.Prelude.{◌≡◌, List, [], ◌∷◌, ◌++◌, ℕ};
@@ -14,7 +16,7 @@ use line_words::Speech;
 pub use stages::Noted;
 
 // The words so far, how far those that are ended have come, and what they have said.
-#[derive(Drop)]
+#[derive(Clone, Copy)]
 pub struct Line {
     speech: Speech,
     stage: Stage,
@@ -22,14 +24,14 @@ pub struct Line {
 }
 
 // What a line says, once it is ended: the piece is in what is noted.
-#[derive(Drop)]
+#[derive(Clone, Copy)]
 pub enum Told {
     Comment,
     Piece,
     Bad,
 }
 
-#[derive(Drop)]
+#[derive(Clone, Copy)]
 pub struct Ended {
     pub told: Told,
     pub noted: Noted,

@@ -8,7 +8,7 @@ ghost use Rattle.line_words.specs.Held.{KeepsWord};
 
 use line_words::Word;
 
-#[derive(Drop)]
+#[derive(Clone, Copy)]
 pub enum Stage {
     // No word, and one that is empty.
     Nothing,
@@ -27,7 +27,7 @@ pub enum Stage {
 
 // What is known of the piece: its transaction's name, zeros behind it, the items below 64 that it
 // reads and writes, as bits, and whether there is any other.
-#[derive(Drop)]
+#[derive(Clone, Copy)]
 pub struct Noted {
     pub name: [u8; 32],
     pub reads: u64,

@@ -3,6 +3,8 @@
 //
 // Two passes over the slots, with a word for each item. The first marks each rank that is taken, and
 // marks it a second time, higher up, for one who shares the item. The second looks the marks up.
+#![tactic(auto)]
+
 ghost use Rattle.std.specs.Prelude.{◌≡◌, ◌+◌, ◌≤◌, ◌<◌, replicate};
 ghost use Rattle.names.specs.Sizes.{base};
 ghost use Rattle.rules.specs.Words.{every_below};

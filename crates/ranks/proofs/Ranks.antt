@@ -1,16 +1,13 @@
 -- The rank of a request, and how great ranks are.
 use Prim.Native.Nat.{ℕ, ◌+◌, ◌≤◌, ◌<◌}
-use mathlib.Core.Path.{◌≡◌, sym, ap, ◌∙◌}
+use mathlib.Core.Path.{◌≡◌}
 use mathlib.Core.Logic.{◌≢◌, ◌⊎◌, inl, inr}
 use mathlib.Core.Bool.{true, false, ◌&&◌}
 use mathlib.Core.List.{List}
 use native.Mathlib.Numerals.{add-one}
 use native.Mathlib.Omega.{arith}
-use native.Mathlib.Nat.{le_refl}
-use lib.ListN.{set}
 use Rattle.names.specs.Sizes.{base}
-use Rattle.names.specs.Layout.{txn_rank_at}
-use Rattle.rules.specs.Tables.{Tables, Txn, txn_at, txn, reworded, reranked, no_lock, lock, holds_shared}
+use Rattle.rules.specs.Tables.{Tables, txn, no_lock, lock, holds_shared}
 use Rattle.rules.specs.Good.{Good}
 use Rattle.rules.specs.Waits.{awaits_on, waiters_on, exchangers_on, rank_for}
 use Rattle.rules.proofs.Tests.{same?}

@@ -1,4 +1,6 @@
 // The lines of waiters: who stands where on an item, and the ranks that move when one comes or goes.
+#![tactic(auto)]
+
 ghost use Rattle.std.specs.Prelude.{◌≡◌, ◌+◌, ◌<◌, ◌≤◌, length, set};
 ghost use Rattle.names.specs.Sizes.{base};
 ghost use Rattle.names.specs.Layout.{txn_rank_at};

@@ -5,6 +5,8 @@
 // asks for the calls again, as they were put out, and puts out the records of their answers. Neither
 // can be had in another way. Each step is proved of all bytes that were handed over and put out so
 // far, and the last one says that what was put out is the journal of the run.
+#![tactic(auto)]
+
 mod first;
 mod second;
 

@@ -1,4 +1,6 @@
 // What is recorded of a script: the calls of its lines, and the answers to them, as records.
+#![tactic(auto)]
+
 mod answers;
 mod taken;
 

@@ -10,21 +10,21 @@ use lib.Dec.{T, eqb}
 use Rattle.names.specs.Sizes.{base}
 use Rattle.names.specs.Layout.{lock_exclusive_at}
 use Rattle.rules.specs.Words.{row, bit}
-use Rattle.rules.specs.Tables.{Tables, Txn, txn_words, version_row, clock, txn, set_txn, no_txn, is_reader, by_start, live_relaxed, lock_row, lock_words, lock, holds_exclusive}
-use Rattle.rules.specs.Tables.{a_relaxed, Reader, up_to, outside, reader_in, readers, relaxed_in}
+use Rattle.rules.specs.Tables.{Tables, txn_words, version_row, clock, txn, set_txn, no_txn, is_reader, by_start, live_relaxed, lock_row, lock_words, lock, holds_exclusive}
+use Rattle.rules.specs.Tables.{a_relaxed, Reader, up_to, reader_in, readers, relaxed_in}
 use Rattle.rules.specs.Versions.{Version, versions_in, versions_of, stamp_at, hidden_at, place, read_by_some, row_of, kept, rewritten, revealed}
 use Rattle.rules.specs.Good.{Good, GoodVersions}
 use Rattle.rules.proofs.Tests.{same?, eq_make, true_is}
 use Rattle.rules.proofs.Counts.{some_mem}
-use Rattle.rules.proofs.RowKinds.{start-reads, start_not_relaxed, reads_up_to, relaxed-live, relaxed-reads, reads-outside}
+use Rattle.rules.proofs.RowKinds.{start_not_relaxed, reads_up_to, relaxed-live, reads-outside}
 use Rattle.rules.proofs.Notes.{Beside as Notes-as-Beside}
 use Rattle.rules.proofs.Rows.{rows_mapped}
 use Rattle.rules.proofs.Revealed.{revealed_none}
 use Rattle.rules.proofs.Readers.{reader_in_lem}
-use Rattle.rules.proofs.Ready.{gone_here, gone-live, gone-reads, gone_how, gone-relaxed, gone-room}
+use Rattle.rules.proofs.Ready.{gone-live, gone-reads, gone_how, gone-relaxed, gone-room}
 use Rattle.rules.proofs.EqualVersions.{Good→read, relaxed→, →relaxed}
 use Rattle.starts.specs.Starts.{starts, Split}
-use Rattle.starts.specs.Ordered.{lanes, InOrder}
+use Rattle.starts.specs.Ordered.{InOrder}
 use Rattle.starts.specs.Beside.{Beside}
 use Rattle.starts.proofs.Split.{readers-split}
 use Rattle.choices.proofs.Lent.{length-row}

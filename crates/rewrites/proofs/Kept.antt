@@ -7,7 +7,7 @@ use mathlib.Core.List.{List, ◌∷◌, Memᴰ}
 use native.Mathlib.Omega.{arith}
 use native.Mathlib.Numerals.{add-one}
 use lib.ListN.{get_or, length, drop}
-use lib.Dec.{T, eqb, ltb, leb→le, le→leb, eqb→eq}
+use lib.Dec.{T, eqb, ltb, leb→le, eqb→eq}
 use borrow.Author.Tests.{ne_eqb, leb-false}
 use Rattle.names.specs.Sizes.{base}
 use Rattle.names.specs.Layout.{lock_exclusive_at, lock_working_at}

@@ -2,6 +2,8 @@
 // lent, as the middle part of the table, to the row writer.
 //
 // Proved against `rewritten` of the rules. Good tables meet each `requires`, as proofs/Handed says.
+#![tactic(auto)]
+
 ghost use Rattle.std.specs.Prelude.{◌≡◌, true, cond, List, ℕ, ◌<◌, length};
 ghost use Rattle.names.specs.Sizes.{base};
 ghost use Rattle.rules.specs.Words.{row};

@@ -1,5 +1,7 @@
 // Rows of the transaction table and of the lock table, read and written: the code that knows where
 // a word stands. Every function is proved equal to the rules' view of its row, and decides nothing.
+#![tactic(auto)]
+
 mod locks;
 mod txns;
 

@@ -12,7 +12,7 @@ use names::{
 };
 
 // Where a search ended.
-#[derive(Drop)]
+#[derive(Clone, Copy)]
 pub enum Found {
     At(Slot),
     Nobody,

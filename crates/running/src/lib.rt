@@ -3,6 +3,8 @@
 //
 // It reads and writes nothing itself: input is handed in, and each call's output stands at the front
 // of a lent buffer, with room for all of it. `new` is the only way to a runner.
+#![tactic(auto)]
+
 mod pieces;
 mod replies;
 

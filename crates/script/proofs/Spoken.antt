@@ -1,6 +1,6 @@
 -- A line is read as a call exactly if it says that call and has at most 80 bytes (`parsed-sound`, `parsed-complete`), and no line
 -- says two calls (`says-once`).
-use Prim.Native.Nat.{ℕ, ◌+◌, ◌≤◌}
+use Prim.Native.Nat.{ℕ, ◌≤◌}
 use mathlib.Core.Path.{◌≡◌, refl, sym, ap, ap₂, subst, ◌∙◌}
 use mathlib.Core.Bool.{Bool, true, false, false≢true}
 use mathlib.Core.List.{List, [], ◌∷◌, ◌++◌}

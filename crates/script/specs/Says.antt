@@ -1,7 +1,7 @@
 -- "A line starts with one of the six words .., followed by its decimal numbers, one space before each:
 -- none; none; number item; number item value; number; number." Request E6 adds `settle number`,
 -- request E11 `relaxed`, with none.
-use Rattle.std.specs.Prelude.{ℕ, ◌≡◌, List, [], ◌∷◌, ◌++◌}
+use Rattle.std.specs.Prelude.{ℕ, ◌≡◌, List, ◌++◌}
 use Rattle.rules.specs.Answers.{Call, BeginUpdate, BeginQuery, Read, Write, Commit, Abort, Settle, BeginRelaxed}
 use Rattle.call_words.specs.Calls.{numbers_of}
 use Rattle.script.specs.Words as words

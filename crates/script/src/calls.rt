@@ -14,7 +14,7 @@ use names::Call;
 use numerals::{Taken, number};
 
 // What a line says.
-#[derive(Drop)]
+#[derive(Clone, Copy)]
 pub enum Parsed {
     Call(Call),
     Bad,
@@ -44,6 +44,7 @@ pub fn read_as(line: Lines) -> Parsed
     }
 }
 
+#[tactic(auto, unfolding(crate::specs::Parse::spoken, crate::specs::Parse::first_of, call_words::specs::Calls::call_in))]
 fn spoken(line: &[u8]) -> Parsed
     ensures { result ≡ spoken line.now }
 {
@@ -98,6 +99,7 @@ fn none(line: &[u8], at: usize, kind: u64) -> Parsed
     bare(line, at, call)
 }
 
+#[tactic(auto, unfolding(crate::specs::Parse::one_of))]
 fn one(line: &[u8], at: usize, kind: u64) -> Parsed
     ensures { result ≡ one_of (λ n. call_in (fields kind n 0 0)) (drop at line.now) }
 {
@@ -113,6 +115,7 @@ fn one(line: &[u8], at: usize, kind: u64) -> Parsed
     bare(line, e, call)
 }
 
+#[tactic(auto, unfolding(crate::specs::Parse::one_of, crate::specs::Parse::two_of))]
 fn two(line: &[u8], at: usize, kind: u64) -> Parsed
     ensures { result ≡ two_of (λ n x. call_in (fields kind n x 0)) (drop at line.now) }
 {
@@ -131,6 +134,7 @@ fn two(line: &[u8], at: usize, kind: u64) -> Parsed
     bare(line, e, call)
 }
 
+#[tactic(auto, unfolding(crate::specs::Parse::one_of, crate::specs::Parse::two_of, crate::specs::Parse::three_of))]
 fn three(line: &[u8], at: usize, kind: u64) -> Parsed
     ensures { result ≡ three_of (λ n x v. call_in (fields kind n x v)) (drop at line.now) }
 {

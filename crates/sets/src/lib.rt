@@ -3,6 +3,8 @@
 // Where no relaxed query lives, the words that the pass over the rows has seen say all of it.
 //
 // Every function is proved equal to its definition, for tables of the exact size.
+#![tactic(auto)]
+
 ghost use Rattle.std.specs.Prelude.{◌≡◌, ◌<◌, length};
 ghost use Rattle.names.specs.Sizes.{base};
 ghost use Rattle.rules.specs.Words.{every_below};

@@ -3,6 +3,8 @@
 // number.
 //
 // Every function is proved equal to its definition, for tables of the exact size.
+#![tactic(auto)]
+
 ghost use Rattle.std.specs.Prelude.{◌≡◌, ◌<◌, length};
 ghost use Rattle.names.specs.Sizes.{base};
 ghost use Rattle.rules.specs.Tables.{txn_words, txn};
@@ -23,7 +25,7 @@ const EVERY_ITEM: u64 = 18446744073709551615;
 // What one pass over the transaction rows sees: whether each is as the rules ask, but for what the
 // locks have a part in; the slots of the live updates; the slots of those that await a lock; the slots
 // of those past their writing; the slots of the relaxed queries; and whose sets there are.
-#[derive(Drop)]
+#[derive(Clone, Copy)]
 pub struct Seen {
     pub ok: bool,
     pub updates: u64,
@@ -34,7 +36,7 @@ pub struct Seen {
 }
 
 // The words of a transaction's row.
-#[derive(Drop)]
+#[derive(Clone, Copy)]
 struct Row {
     number: u64,
     kind: u64,

@@ -3,6 +3,8 @@
 //
 // Every function is proved equal to its definition, for tables of the exact sizes whose rows of versions
 // each have one.
+#![tactic(auto)]
+
 ghost use Rattle.std.specs.Prelude.{◌≡◌, ◌<◌};
 ghost use Rattle.names.specs.Sizes.{base};
 ghost use Rattle.rules.specs.Tables.{tables};

@@ -1,6 +1,8 @@
 // The trials of request E4, of those who wait in line, written out (specs/) and proved (proofs/).
 //
 // The one function says nothing: a crate has one.
+#![tactic(auto)]
+
 ghost use Rattle.std.specs.Prelude.{◌≡◌};
 
 pub fn same(word: u64) -> u64

@@ -10,7 +10,7 @@ use lib.ListN.{get_or, length}
 use lib.Dec.{T, eqb, leb, ltb, ltb→lt}
 use Rattle.rules.specs.Words.{some, some_below, bit}
 use Rattle.rules.specs.Tables.{Reader}
-use Rattle.rules.specs.Versions.{Version, no_version, stamp_at, hidden_at, sees, read_by_some}
+use Rattle.rules.specs.Versions.{Version, no_version, stamp_at, hidden_at, read_by_some}
 use Rattle.rules.proofs.Tests.{iff_eq, and_right}
 use Rattle.rules.proofs.Counts.{some_mem, mem_some, some_below→, →some_below}
 use Rattle.rules.proofs.Choice.{Falls, Nests, older_seen}

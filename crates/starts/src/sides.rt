@@ -10,7 +10,7 @@ use names::{RELAXED_KIND, TXN_HEAD, TXN_KIND_AT, TXN_ROW, TXN_START_AT, UPDATE_K
 
 // One more than the greatest start below the stamp, 0 where none is below it; and the least start
 // from the stamp on, the greatest word where there is none.
-#[derive(Drop)]
+#[derive(Clone, Copy)]
 pub struct Neighbours {
     pub below: u64,
     pub next: u64,

@@ -4,6 +4,8 @@
 // Every function is proved against the rules of the crate `rules`. The test itself has no
 // `requires`: it answers for slices of any length and words of any value. Its parts take what the
 // parts before them found, so that each is made on tables that it can read.
+#![tactic(auto)]
+
 ghost use Rattle.std.specs.Prelude.{◌≡◌};
 ghost use Rattle.names.specs.Sizes.{base};
 ghost use Rattle.rules.specs.Tables.{tables};

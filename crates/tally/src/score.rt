@@ -5,7 +5,7 @@ ghost use Rattle.tally.specs.Counts.{scored as score·scored};
 use crate::tally::more;
 
 // How many calls answered as they must, and how many words all of them changed.
-#[derive(Drop)]
+#[derive(Clone, Copy)]
 pub struct Score {
     pub calls: u64,
     pub changed: u64,

@@ -14,7 +14,7 @@ const GRANTED: u64 = 0;
 
 // The trial that is played, the number of its next step, and how many steps of all trials were
 // tried and were as expected.
-#[derive(Drop)]
+#[derive(Clone, Copy)]
 pub struct Tally {
     pub letter: u8,
     pub step: u64,

@@ -1,6 +1,8 @@
 // Text in lent bytes, put at a place.
 //
 // What stands from a place on, and the laws of text behind text, are in proofs/.
+#![tactic(auto)]
+
 ghost use Rattle.std.specs.Prelude.{[], ◌∷◌, ◌+◌, ◌<◌, ◌≤◌, length};
 ghost use Rattle.texts.specs.Written.{Wrote};
 

@@ -1,5 +1,7 @@
 // What the lines of a text come to, whatever they say: counted, with the first that is bad; and the names
 // in them.
+#![tactic(auto)]
+
 mod naming;
 mod tally;
 

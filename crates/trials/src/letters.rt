@@ -3,7 +3,7 @@
 use names::Call;
 
 // What a letter says, with the numbers behind it.
-#[derive(Drop)]
+#[derive(Clone, Copy)]
 pub enum Meant {
     Call(Call),
     Other,

@@ -1,4 +1,6 @@
 // The line of a verdict.
+#![tactic(auto)]
+
 ghost use Rattle.std.specs.Prelude.{◌+◌, ◌≤◌, [], ◌∷◌, length};
 ghost use Rattle.texts.specs.Written.{Wrote};
 ghost use Rattle.verdict_lines.specs.Lines.{longest, accepted_line, point_line, wrong_line, verdict_line};

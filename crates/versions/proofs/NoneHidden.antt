@@ -1,8 +1,8 @@
 -- Where there is no relaxed query nothing is hidden, and a row is tested by its stamps alone.
-use Prim.Native.Nat.{ℕ, zero, suc, ◌+◌, ◌-◌, ◌*◌, ◌<◌, ◌≤◌}
-use mathlib.Core.Path.{◌≡◌, refl, sym, ap, ap₂, ◌∙◌, subst}
+use Prim.Native.Nat.{ℕ, zero, suc, ◌+◌, ◌-◌, ◌<◌, ◌≤◌}
+use mathlib.Core.Path.{◌≡◌, refl, sym, ap, ◌∙◌, subst}
 use mathlib.Core.Logic.{◌⊎◌, inl, inr}
-use mathlib.Core.Bool.{Bool, true, false, ◌&&◌, ◌||◌, not}
+use mathlib.Core.Bool.{Bool, true, false, ◌&&◌, ◌||◌}
 use mathlib.Core.List.{List}
 use native.Mathlib.Omega.{arith}
 use lib.ListN.{get_or}
@@ -10,9 +10,9 @@ use lib.Bits.{bit_or}
 use lib.Dec.{T, eqb, leb, ltb, eqb→eq, leb→le, ltb→lt, lt→ltb}
 use borrow.Author.Tests.{ltb-true, ltb-false}
 use Rattle.names.specs.Sizes.{base}
-use Rattle.rules.specs.Words.{every_below, some_below, contains, bit}
+use Rattle.rules.specs.Words.{every_below, contains, bit}
 use Rattle.rules.specs.Tables.{masks_at}
-use Rattle.rules.proofs.Tests.{iff_eq, and_left, and_right, and_both, or_left, or_cases, not_use, eq_make, is_false, false_is}
+use Rattle.rules.proofs.Tests.{iff_eq, and_left, and_right, and_both, or_left, or_cases, eq_make, is_false, false_is}
 use Rattle.rules.proofs.Counts.{every_below→, →every_below, some_below→}
 use Rattle.rules.proofs.Bits.{bit_none, no_bits, contains→, →contains}
 use Rattle.choices.specs.Pairs.{stamp_in, hidden_in}

@@ -1,6 +1,6 @@
 -- What the code tests of a row of versions is what the rules say of it, and so for all rows.
 use Prim.Native.Nat.{ℕ, zero, suc, ◌+◌, ◌-◌, ◌*◌, ◌<◌, ◌≤◌}
-use mathlib.Core.Path.{◌≡◌, refl, sym, ap, ap₂, ◌∙◌, subst}
+use mathlib.Core.Path.{◌≡◌, refl, sym, ap, ◌∙◌, subst}
 use mathlib.Core.Logic.{◌⊎◌, inl, inr}
 use mathlib.Core.Bool.{Bool, true, false, ◌&&◌, ◌||◌}
 use mathlib.Core.List.{List, Memᴰ}
@@ -23,7 +23,7 @@ use Rattle.rules.proofs.Rows.{every_row→, →every_row}
 use Rattle.rules.proofs.Bits.{bit_none, contains→, →contains}
 use Rattle.rules.proofs.Choice.{length-versions_in, zero_each, zero_all, Falls, falls→Falls, Falls→falls, Nests, nests→Nests, Nests→nests}
 use Rattle.rules.proofs.Trim.{all_read→, →all_read}
-use Rattle.choices.specs.Pairs.{count_in, stamp_in, hidden_in}
+use Rattle.choices.specs.Pairs.{count_in, hidden_in}
 use Rattle.choices.proofs.Read.{stamp_in_lem, hidden_in_lem}
 use Rattle.words.proofs.Turns.{iff_eq}
 use Rattle.starts.specs.Starts.{Split}

@@ -1,12 +1,11 @@
 -- The walk of a row beside the starts in order, where versions are hidden from relaxed queries.
 use Prim.Native.Nat.{ℕ, ◌+◌, ◌-◌, ◌*◌, ◌<◌, ◌≤◌}
-use mathlib.Core.Path.{◌≡◌, refl, sym, ap, ap₂, ◌∙◌, subst}
+use mathlib.Core.Path.{◌≡◌, refl, sym, ap, ◌∙◌, subst}
 use mathlib.Core.Logic.{◌≢◌}
-use mathlib.Core.Bool.{Bool, true, false, ◌&&◌}
+use mathlib.Core.Bool.{Bool, true, false}
 use mathlib.Core.List.{List}
 use native.Mathlib.Omega.{arith}
 use lib.ListN.{get_or}
-use lib.Bits.{bit_or}
 use lib.Dec.{T, eqb, leb, ltb, ltb→lt}
 use borrow.Author.Tests.{eq-eqb, ne_eqb, ltb-true, ltb-false, le-leb, lt-leb}
 use Rattle.names.specs.Sizes.{base}
@@ -16,7 +15,7 @@ use Rattle.rules.specs.Tables.{masks_at}
 use Rattle.rules.proofs.Tests.{is_true, true_is, and_left}
 use Rattle.rules.proofs.Counts.{→every_below}
 use Rattle.choices.specs.Pairs.{stamp_in, hidden_in}
-use Rattle.starts.specs.Ordered.{Rises, Skipped, between}
+use Rattle.starts.specs.Ordered.{Rises, Skipped}
 use Rattle.versions.specs.Rows.{place_before, stamp_before, step_ok, step_at, walk_in}
 use Rattle.versions.proofs.Merge.{First, between_first}
 use Rattle.words.proofs.Turns.{every_false}

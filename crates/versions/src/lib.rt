@@ -3,6 +3,8 @@
 // query nothing is hidden, and the walk goes by the stamps alone.
 //
 // Proved equal to the test of the rules, for whichever readers have these starts and these slots.
+#![tactic(auto)]
+
 ghost use Rattle.std.specs.Prelude.{◌≡◌, List, ℕ, ◌+◌, ◌*◌, ◌≤◌, length};
 ghost use Rattle.names.specs.Sizes.{base};
 ghost use Rattle.names.specs.Layout.{version_pair};

@@ -2,6 +2,8 @@
 // stands where it may in its line.
 //
 // Good tables can be read so, as proofs/Handed says.
+#![tactic(auto)]
+
 ghost use Rattle.std.specs.Prelude.{◌≡◌, ◌&&◌, ℕ, ◌<◌, ◌≤◌, ◌^◌, length};
 ghost use Rattle.names.specs.Sizes.{base};
 ghost use Rattle.rules.specs.Tables.{txn_words, txn};

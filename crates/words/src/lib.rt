@@ -1,4 +1,6 @@
 // A pass over words: whether they are all zero. The laws of loops that test words are in proofs/.
+#![tactic(auto)]
+
 ghost use Rattle.std.specs.Prelude.{◌≡◌, ◌+◌, ◌≤◌, length};
 ghost use Rattle.words.specs.Zeros.{zero_words};
 

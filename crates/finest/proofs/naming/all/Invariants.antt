@@ -1,0 +1,12 @@
+-- `finest::naming::all` meets its contract. The invariant: those below `at` are gathered.
+use Prim.Native.Nat.{◌-◌, ◌≤◌}
+use mathlib.Core.Path.{◌≡◌}
+use mathlib.Core.Bool.{true}
+use Rattle.graph.specs.Sets.{those}
+use Rattle.finest.proofs.naming.all.Given as goal
+
+abbrev pub invariant-loop-at : goal.invariant-loop-at
+invariant-loop-at l = (l.at ≤ l.count) × (l.out ≡ those l.at (λ i. true))
+
+abbrev pub decreases-loop-at : goal.decreases-loop-at
+decreases-loop-at l = l.count - l.at

@@ -1,0 +1,36 @@
+-- Where there is room, the eight bytes from the place on are filled.
+use Prim.Native.Nat.{◌+◌, ◌<◌, ◌≤◌}
+use mathlib.Core.Path.{sym, ◌∙◌}
+use native.Mathlib.Omega.{arith}
+use lib.ListN.{length}
+use borrow.Author.Tests.{leb-true, leb-false}
+use Rattle.journal.specs.Words.{word_size, word_bytes}
+use Rattle.journal.proofs.WordLaws.{length-word_bytes}
+use Rattle.texts.proofs.Buffers.{put_full, put-part}
+use Rattle.journal.proofs.words.put_word.Goals as goal
+
+fits : (c : goal.Else-not-room) → c.args.at + word_size ≤ length c.args.out.now
+fits c =
+    let a = c.args in
+    leb-true (a.at + word_size) (length a.out.now) (sym c.room.ensures ∙ c.if-not-room.false)
+
+pub returns-then-not-room : goal.returns-then-not-room
+returns-then-not-room c =
+    let a = c.args in
+    let h : length a.out.now < a.at + word_size
+    = leb-false (a.at + word_size) (length a.out.now) (sym c.room.ensures ∙ c.if-not-room.true) in
+    sym (put_full a.out.now (word_bytes a.w) a.at (omega (arith, length-word_bytes a.w)))
+
+pub overflow_add-end : goal.overflow_add-end
+overflow_add-end c = let h = fits c in omega arith
+
+pub slice_bounds-fill-end : goal.slice_bounds-fill-end
+slice_bounds-fill-end c = fits c
+
+pub returns : goal.returns
+returns c =
+    let a = c.args in
+    let fits : a.at + word_size ≤ length a.out.now
+    = leb-true (a.at + word_size) (length a.out.now) (sym c.room.ensures ∙ c.if-not-room.false) in
+    rw c.fill.ensures
+    (put-part a.out.now (word_bytes a.w) a.at word_size (length-word_bytes a.w) fits)
