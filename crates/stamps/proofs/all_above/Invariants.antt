@@ -1,13 +1,10 @@
 -- Each stamp is above the versions of the items that its owner holds, item by item.
-use Prim.Native.Nat.{ℕ, ◌≤◌, ◌-◌}
-use mathlib.Core.Path.{◌≡◌, refl, sym, ap, ap₂, ◌∙◌}
-use mathlib.Core.Bool.{◌&&◌}
-use native.Mathlib.Omega.{arith}
+use Prim.Native.Nat.{◌≤◌, ◌-◌}
+use mathlib.Core.Path.{◌≡◌}
 use Rattle.names.specs.Sizes.{base}
 use Rattle.rules.specs.Words.{every_below}
 use Rattle.rules.specs.Tables.{tables}
-use Rattle.words.proofs.Turns.{every_more}
-use Rattle.stamps.specs.Stamped.{above_at, all_above}
+use Rattle.stamps.specs.Stamped.{above_at}
 use Rattle.stamps.proofs.all_above.Given as goal
 
 abbrev pub invariant-loop-item : goal.invariant-loop-item

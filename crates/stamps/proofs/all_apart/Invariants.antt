@@ -1,12 +1,9 @@
 -- No two have one stamp, slot by slot.
-use Prim.Native.Nat.{ℕ, ◌≤◌, ◌-◌}
-use mathlib.Core.Path.{◌≡◌, refl, sym, ap, ap₂, ◌∙◌}
-use mathlib.Core.Bool.{◌&&◌}
-use native.Mathlib.Omega.{arith}
+use Prim.Native.Nat.{◌≤◌, ◌-◌}
+use mathlib.Core.Path.{◌≡◌}
 use Rattle.names.specs.Sizes.{base}
 use Rattle.rules.specs.Words.{every_below}
-use Rattle.words.proofs.Turns.{every_more}
-use Rattle.stamps.specs.Stamped.{apart_at, all_apart}
+use Rattle.stamps.specs.Stamped.{apart_at}
 use Rattle.stamps.proofs.all_apart.Given as goal
 
 abbrev pub invariant-loop-slot : goal.invariant-loop-slot

@@ -1,14 +1,10 @@
 -- Nobody past its writing in a slot below has the stamp.
 use Prim.Native.Nat.{ℕ, ◌≤◌, ◌-◌}
-use mathlib.Core.Path.{◌≡◌, refl, sym, ap, ap₂, ◌∙◌}
-use mathlib.Core.Bool.{Bool, ◌&&◌, not}
-use native.Mathlib.Omega.{arith}
+use mathlib.Core.Path.{◌≡◌}
+use mathlib.Core.Bool.{◌&&◌, not}
 use lib.Dec.{eqb}
-use Rattle.rules.specs.Words.{every_below, bit}
+use Rattle.rules.specs.Words.{every_below}
 use Rattle.rules.specs.Tables.{txn, live_settled}
-use Rattle.words.proofs.Turns.{every_more}
-use Rattle.stamps.specs.Stamped.{apart_from}
-use Rattle.stamps.proofs.Stamps.{settled-bit}
 use Rattle.stamps.proofs.apart.Given as goal
 
 abbrev pub invariant-loop-below : goal.invariant-loop-below

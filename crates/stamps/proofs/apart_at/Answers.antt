@@ -1,10 +1,9 @@
 -- Who is not past its writing is apart; who is, is where nobody below has its stamp.
-use borrow.Author.Rules.{rules}
-use mathlib.Core.Path.{◌≡◌, sym, ◌∙◌}
+use mathlib.Core.Path.{sym, ◌∙◌}
 use native.Mathlib.Omega.{arith}
 use borrow.Author.Tests.{eq-eqb, ne_eqb}
 use Rattle.rules.specs.Words.{bit}
-use Rattle.rules.specs.Tables.{txn, live_settled}
+use Rattle.rules.specs.Tables.{txn}
 use Rattle.stamps.proofs.Stamps.{settled-bit, writing_apart, settled-apart}
 use Rattle.stamps.proofs.apart_at.Goals as goal
 

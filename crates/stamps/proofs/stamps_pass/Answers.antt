@@ -1,8 +1,6 @@
 -- The two tests together are the rules' test.
-use borrow.Author.Rules.{rules}
 use mathlib.Core.Path.{sym, ap, ◌∙◌}
 use mathlib.Core.Bool.{Bool, ◌&&◌}
-use borrow.Author.Tests.{not-true, not-false}
 use Rattle.rules.specs.Tables.{tables}
 use Rattle.stamps.specs.Stamped.{all_above}
 use Rattle.stamps.proofs.Stamps.{stamps-same}
