@@ -1,5 +1,4 @@
 -- One lock, held exclusively or not.
-use borrow.Author.Rules.{rules}
 use mathlib.Core.Path.{◌≡◌}
 use lib.Dec.{eqb}
 use mathlib.Core.Bool.{true, false}

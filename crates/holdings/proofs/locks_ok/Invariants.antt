@@ -1,13 +1,7 @@
 -- The pass over the locks: each is tested, and its exclusive holder counted.
-use Prim.Native.Nat.{ℕ, ◌+◌, ◌*◌, ◌-◌, ◌≤◌}
-use mathlib.Core.Path.{◌≡◌, refl, subst}
-use mathlib.Core.Logic.{⊎_elim}
-use native.Mathlib.Omega.{arith}
-use lib.ListN.{get_or}
+use Prim.Native.Nat.{◌-◌}
 use Rattle.names.specs.Sizes.{base}
-use Rattle.names.specs.Layout.{lock_exclusive_at}
-use Rattle.rules.specs.Tables.{lock_row, lock}
-use Rattle.holdings.proofs.Counting.{Counting, counting_begin, counting_none, counting_one, counting_right, counting_end, few}
+use Rattle.holdings.proofs.Counting.{Counting}
 use Rattle.holdings.proofs.locks_ok.Given as goal
 
 abbrev pub invariant-loop-item : goal.invariant-loop-item

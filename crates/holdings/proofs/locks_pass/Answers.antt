@@ -1,5 +1,4 @@
 -- The rules' test of the locks and of the quota, by way of the live updates and of all who may hold.
-use borrow.Author.Rules.{rules}
 use Prim.Native.Nat.{ℕ}
 use mathlib.Core.Path.{◌≡◌, sym, ap₂, ◌∙◌}
 use mathlib.Core.Bool.{◌&&◌}

@@ -1,15 +1,11 @@
 -- The or of words is 0 where each of them is.
 use Prim.Native.Nat.{ℕ, ◌≤◌, ◌-◌}
-use mathlib.Core.Path.{◌≡◌, refl, sym, ap, ◌∙◌}
-use mathlib.Core.Bool.{Bool, ◌&&◌}
-use native.Mathlib.Omega.{arith}
+use mathlib.Core.Path.{◌≡◌}
 use lib.ListN.{get_or}
 use lib.Dec.{eqb}
 use Rattle.names.specs.Sizes.{base}
 use Rattle.rules.specs.Words.{every_below}
 use Rattle.rules.specs.Tables.{lock_words}
-use Rattle.words.proofs.Turns.{every_more, or_zero}
-use Rattle.holdings.specs.Holding.{nothing_held}
 use Rattle.holdings.proofs.none_held.Given as goal
 
 abbrev pub invariant-loop-word : goal.invariant-loop-word

@@ -1,14 +1,11 @@
 -- Each slot's quota, slot by slot.
 use Prim.Native.Nat.{ℕ, ◌≤◌, ◌-◌}
-use mathlib.Core.Path.{◌≡◌, refl, sym, ap, ◌∙◌}
-use mathlib.Core.Bool.{Bool, ◌&&◌}
-use native.Mathlib.Omega.{arith}
+use mathlib.Core.Path.{◌≡◌}
 use lib.ListN.{get_or}
 use Rattle.names.specs.Sizes.{base}
 use Rattle.rules.specs.Words.{every_below}
 use Rattle.rules.specs.Tables.{txn}
-use Rattle.words.proofs.Turns.{every_more}
-use Rattle.holdings.specs.Holding.{quota_ok, quotas_ok}
+use Rattle.holdings.specs.Holding.{quota_ok}
 use Rattle.holdings.proofs.quotas_ok.Given as goal
 
 abbrev pub invariant-loop-slot : goal.invariant-loop-slot

@@ -1,12 +1,7 @@
-use borrow.Author.Rules.{rules}
-use Prim.Native.Nat.{ℕ, ◌-◌}
+use Prim.Native.Nat.{ℕ}
 use mathlib.Core.Path.{◌≡◌, sym, ◌∙◌, subst}
-use mathlib.Core.Bool.{Bool}
-use mathlib.Core.List.{List}
 use native.Mathlib.Omega.{arith}
 use Rattle.names.specs.Sizes.{base}
-use Rattle.rules.specs.Tables.{txn}
-use Rattle.rules.specs.Waits.{ahead}
 use Rattle.waiting.proofs.Marks.{Marks, marks_begin, marks_no, marks-yes, ahead_of}
 use Rattle.waiting.proofs.ahead.Invariants.{first}
 use Rattle.waiting.proofs.ahead.Goals as goal

@@ -1,14 +1,11 @@
 -- Slot by slot, those who stand ahead are marked.
 use Prim.Native.Nat.{ℕ, ◌-◌}
-use mathlib.Core.Path.{◌≡◌, sym, ◌∙◌, subst}
-use mathlib.Core.Logic.{⊎_elim}
 use mathlib.Core.Bool.{Bool}
 use mathlib.Core.List.{List}
-use native.Mathlib.Omega.{arith}
 use Rattle.names.specs.Sizes.{base}
 use Rattle.rules.specs.Tables.{txn}
 use Rattle.rules.specs.Waits.{ahead}
-use Rattle.waiting.proofs.Marks.{Marks, marks_begin, marks_no, marks-yes, ahead_of}
+use Rattle.waiting.proofs.Marks.{Marks}
 use Rattle.waiting.proofs.ahead.Given as goal
 
 -- slot b waits on item x before the rank p, in conflict with a lock of kind k

@@ -1,7 +1,6 @@
 -- Holders in conflict and earlier waiters, without the slot itself.
-use borrow.Author.Rules.{rules}
 use Prim.Native.Nat.{ℕ, ◌^◌, ◌<◌, ◌≤◌}
-use mathlib.Core.Path.{◌≡◌, sym, ap, subst}
+use mathlib.Core.Path.{sym, ap, subst}
 use Rattle.names.specs.Sizes.{base}
 use Rattle.rules.specs.Tables.{Lock}
 use Rattle.waiting.specs.Waiting.{Holders}

@@ -1,5 +1,4 @@
 -- The word of those who hold a lock in conflict with a request.
-use borrow.Author.Rules.{rules}
 use mathlib.Core.Path.{refl}
 use Rattle.waiting.proofs.Blocking.{Owner, owner_some, owner_none, conflicting_all, conflicting_one, holders_of}
 use Rattle.waiting.proofs.holders.Goals as goal

@@ -1,5 +1,4 @@
 -- Three words of a row say whether it stands ahead.
-use borrow.Author.Rules.{rules}
 use mathlib.Core.Path.{refl}
 use Rattle.rules.specs.Tables.{txn}
 use Rattle.rules.specs.Waits.{ahead, awaits_on, awaits}

@@ -1,5 +1,4 @@
 -- Who awaits may, each stands where it may in its line, and nobody waits in a circle.
-use borrow.Author.Rules.{rules}
 use mathlib.Core.Path.{ap₂}
 use mathlib.Core.Bool.{◌&&◌}
 use Rattle.waiting.proofs.Rounds.{links_slots, links_waiting, circle-same}
