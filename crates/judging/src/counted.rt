@@ -115,6 +115,7 @@ impl Counts {
     }
 
     // How many records are asked for: those of a file of which points 1 to 3 hold.
+    #[tactic(auto, unfolding(crate::specs::Counted::records_by))]
     pub(crate) fn records(self) -> u64
         ensures { result ≡ records_by (spoken self.size self.first self.second 0) self.first }
     {
