@@ -10,7 +10,7 @@ use lines::Lines;
 use script::Parsed;
 
 // What a chunk leaves: the line that is not ended yet, and how many bytes of records.
-#[derive(Drop)]
+#[derive(Clone, Copy)]
 pub struct Taken {
     pub lines: Lines,
     pub used: usize,

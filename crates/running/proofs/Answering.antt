@@ -12,7 +12,7 @@ use Rattle.lines.specs.Lines.{Held, short, held_by, Goes}
 use Rattle.lines.specs.declared.Next.{Next}
 use Rattle.script.specs.Inputs.{read_as}
 use Rattle.script.specs.declared.calls.Parsed.{Parsed}
-use Rattle.script.proofs.Turns.{reads_from, left_from, line_reads, line-left, end_reads, end_left, none_reads, none_left}
+use Rattle.script.proofs.Turns.{line_reads, line-left, end_reads, end_left, none_reads, none_left}
 use Rattle.running.specs.Replies.{reply_to, after_line, after_all, replies_to, longest_reply}
 use Rattle.running.specs.Life.{State, state, replies_in, after_piece}
 use Rattle.running.proofs.Replied.{reply_most}

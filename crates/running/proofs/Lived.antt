@@ -4,7 +4,7 @@ use mathlib.Core.Path.{◌≡◌, refl, sym, ap, ap₂, ◌∙◌}
 use mathlib.Core.List.{List, [], ◌∷◌, ◌++◌, append-nil, append_assoc}
 use Rattle.names.specs.Sizes.{base}
 use Rattle.rules.specs.Tables.{Tables, fresh}
-use Rattle.lines.specs.Lines.{Held, short, left, joined}
+use Rattle.lines.specs.Lines.{short, left, joined}
 use Rattle.script.specs.Inputs.{reads, last, chunked, parsed_lines}
 use Rattle.script.specs.declared.calls.Parsed.{Parsed}
 use Rattle.script.proofs.Chunks.{reads-append, left-append, chunks}

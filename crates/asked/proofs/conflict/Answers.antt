@@ -1,5 +1,4 @@
 -- A wait that is noted already closes no circle; else it is noted in a copy, and the slot searched for from those whom it waits for there.
-use borrow.Author.Rules.{rules}
 use Prim.Native.Nat.{ℕ}
 use mathlib.Core.Path.{◌≡◌, sym, ap, ◌∙◌, subst}
 use mathlib.Core.List.{List}

@@ -1,9 +1,5 @@
-use borrow.Author.Rules.{rules}
-use Prim.Native.Nat.{ℕ, ◌-◌}
 use native.Mathlib.Omega.{arith}
-use Rattle.names.specs.Sizes.{base}
-use Rattle.rules.specs.Tables.{txn_words}
-use Rattle.asked.proofs.Copies.{Copied, copied_begin, copied_more, copied_all}
+use Rattle.asked.proofs.Copies.{copied_begin, copied_more, copied_all}
 use Rattle.asked.proofs.copied.Goals as goal
 
 pub loop-k-init : goal.loop-k-init

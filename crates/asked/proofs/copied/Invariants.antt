@@ -1,9 +1,8 @@
 -- Word by word.
-use Prim.Native.Nat.{ℕ, ◌-◌}
-use native.Mathlib.Omega.{arith}
+use Prim.Native.Nat.{◌-◌}
 use Rattle.names.specs.Sizes.{base}
 use Rattle.rules.specs.Tables.{txn_words}
-use Rattle.asked.proofs.Copies.{Copied, copied_begin, copied_more, copied_all}
+use Rattle.asked.proofs.Copies.{Copied}
 use Rattle.asked.proofs.copied.Given as goal
 
 abbrev pub invariant-loop-k : goal.invariant-loop-k

@@ -1,5 +1,4 @@
 -- A read: nobody calls, no item, one who waits for something else, who reads by a start, an update.
-use borrow.Author.Rules.{rules}
 use mathlib.Core.Path.{◌≡◌, sym, ◌∙◌}
 use Prim.Native.Nat.{ℕ, ◌<◌}
 use native.Mathlib.Omega.{arith}

@@ -1,14 +1,12 @@
 -- The own working value, a wait, or what the start chooses.
-use borrow.Author.Rules.{rules}
 use Prim.Native.Nat.{ℕ, suc, ◌+◌}
 use mathlib.Core.Path.{◌≡◌, sym, ap, ◌∙◌}
 use mathlib.Core.Logic.{◌≢◌}
-use mathlib.Core.Bool.{true, false}
+use mathlib.Core.Bool.{false}
 use native.Mathlib.Numerals.{add-one}
 use borrow.Author.Tests.{eq-eqb, ne_eqb}
-use Rattle.names.specs.Sizes.{base}
 use Rattle.rules.specs.Tables.{Lock, lock, holds_exclusive}
-use Rattle.rules.specs.Step.{start_read, held_back}
+use Rattle.rules.specs.Step.{start_read}
 use Rattle.asked.proofs.start_read.Goals as goal
 
 -- it is not held by the slot

@@ -1,5 +1,4 @@
 -- A write: nobody calls, no item, a query, one who waits for something else, one at its quota, an update.
-use borrow.Author.Rules.{rules}
 use mathlib.Core.Path.{◌≡◌, sym, ◌∙◌}
 use Prim.Native.Nat.{ℕ, ◌<◌}
 use native.Mathlib.Omega.{arith}

@@ -1,10 +1,8 @@
 -- Nobody waits on the item; or the word of the earlier waiters, without the slot.
-use borrow.Author.Rules.{rules}
 use Prim.Native.Nat.{ℕ}
 use mathlib.Core.Path.{sym, ◌∙◌, subst}
 use Rattle.waiting.specs.Waiting.{Ahead}
 use Rattle.cells.proofs.Others.{ahead_is, none_ahead}
-use borrow.Author.Tests.{not-true}
 use Rattle.cells.proofs.another_ahead.Goals as goal
 
 pub returns-then-not-somebody_on : goal.returns-then-not-somebody_on

@@ -1,5 +1,4 @@
 -- The exclusive holder is another slot.
-use borrow.Author.Rules.{rules}
 use Rattle.rows.specs.Founds.{lock_of}
 use Rattle.cells.proofs.Others.{excludes_is}
 use Rattle.cells.proofs.another_excludes.Goals as goal

@@ -1,5 +1,4 @@
 -- The shared bits without that of the slot.
-use borrow.Author.Rules.{rules}
 use Rattle.rows.specs.Founds.{lock_of}
 use Rattle.rows.proofs.Bits.{digit-le, digit_shifted, cleared_is}
 use Rattle.cells.proofs.Others.{shares_is}

@@ -1,5 +1,4 @@
 -- The holding and the tests on the others, looked up in the table; the line is asked only where a further lock is needed.
-use borrow.Author.Rules.{rules}
 use Prim.Native.Nat.{ℕ}
 use mathlib.Core.Path.{◌≡◌, refl, sym, ap, ◌∙◌, subst}
 use mathlib.Core.Bool.{Bool}
@@ -10,7 +9,6 @@ use Rattle.rules.specs.Locks.{Held, held_by, decide, decision, wanted, another_s
 use Rattle.rows.specs.Founds.{lock_of}
 use Rattle.cells.specs.Cells.{asked_of, held_of, SlotsOnly}
 use Rattle.cells.proofs.Others.{wanted_is, no_line}
-use borrow.Author.Tests.{not-true}
 use Rattle.cells.proofs.decision.Goals as goal
 
 -- what was found is the decision

@@ -1,5 +1,4 @@
 -- The two tests are those of the definition.
-use borrow.Author.Rules.{rules}
 use Prim.Native.Nat.{suc}
 use mathlib.Core.Path.{refl, sym, ◌∙◌}
 use native.Mathlib.Omega.{arith}

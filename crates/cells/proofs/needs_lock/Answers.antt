@@ -1,5 +1,4 @@
 -- Each of the six cells.
-use borrow.Author.Rules.{rules}
 use Rattle.cells.proofs.Others.{needs_is}
 use Rattle.cells.proofs.needs_lock.Goals as goal
 

@@ -1,5 +1,4 @@
 -- The slot's bit set.
-use borrow.Author.Rules.{rules}
 use native.Mathlib.Omega.{arith}
 use Rattle.words.proofs.SlotWords.{shifted, set_is}
 use Rattle.cells.proofs.shared_too.Goals as goal

@@ -1,5 +1,4 @@
 -- The slot's shared bit cleared, the slot entered.
-use borrow.Author.Rules.{rules}
 use native.Mathlib.Numerals.{add-one}
 use Rattle.rows.proofs.Bits.{digit-le, digit_shifted, cleared_is}
 use Rattle.cells.proofs.taken.Goals as goal
