@@ -1,7 +1,7 @@
 /* The keeper for C: eight calls over three lent tables, and a function that fills the tables.
  *
- * The functions are those of crates/keeper_c, which `rt staticlib keeper_c` builds into
- * target/staticlib/libkeeper_c.a, for x86-64 Linux. Each is proved there against its contract.
+ * The functions are those of crates/keeper_c, which `rt lib` in that folder builds into
+ * crates/keeper_c/out/libkeeper_c.a, for x86-64 Linux. Each is proved there against its contract.
  *
  * What a caller may rely on, for every call below:
  *  - Any tables, any lengths and any words will do. A call ends, answers as document 01 says, and

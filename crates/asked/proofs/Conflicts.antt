@@ -7,7 +7,7 @@ use mathlib.Core.List.{List}
 use lib.ListN.{get_or}
 use lib.Dec.{T}
 use Rattle.names.specs.Sizes.{base}
-use Rattle.rules.specs.Tables.{Tables, tables, txn, no_lock, exclusive_lock}
+use Rattle.rules.specs.Tables.{tables, txn, no_lock, exclusive_lock}
 use Rattle.rules.specs.Waits.{awaits_on, noted, waits_for, Walk, circle_at}
 use Rattle.rules.proofs.Tests.{true_is, false_is, is_false, same?}
 use Rattle.rules.proofs.Noting.{noted-known, noted-length, noted_there, noted_here}

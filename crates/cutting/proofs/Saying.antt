@@ -9,7 +9,6 @@ use Rattle.piece_lines.specs.Says.{Piece}
 use Rattle.line_words.specs.Said.{Said}
 use Rattle.line_words.proofs.Keeping.{counted-short, counted-long, short_or_long}
 use Rattle.told_lines.specs.Lines.{said_in}
-use Rattle.chop.specs.Pieces as chop
 use Rattle.chop.specs.Pieces.{pieces_of}
 use Rattle.chop.specs.Verdicts.{Verdict, too_many_pieces, unknown_item, shows, said}
 use Rattle.chop.specs.Judgement.{judgement}

@@ -1,5 +1,5 @@
 -- The pass over the transaction rows: what each kind of row is tested for.
-use Prim.Native.Nat.{ℕ, ◌+◌, ◌^◌, ◌<◌, ◌≤◌}
+use Prim.Native.Nat.{ℕ, ◌^◌}
 use mathlib.Core.Path.{◌≡◌, refl, sym, ap, ap₂, ◌∙◌}
 use mathlib.Core.Logic.{◌≢◌, ◌⊎◌, inl, inr}
 use mathlib.Core.Bool.{Bool, true, false, ◌&&◌, ◌||◌, not, cond}
@@ -9,7 +9,7 @@ use lib.Dec.{T, eqb, leb, ltb, eqb→eq, leb→le, ltb→lt}
 use borrow.Author.Tests.{eq-eqb, ne_eqb, eqb-true, le-leb, lt-leb, lt-ltb}
 use Rattle.names.specs.Sizes.{base, last_word}
 use Rattle.rules.specs.Words.{implies}
-use Rattle.rules.specs.Tables.{last_number, clock, Txn, txn, live, live_update, live_settled, live_relaxed, may_hold, by_start, is_reader, a_relaxed, no_lock, exclusive_lock}
+use Rattle.rules.specs.Tables.{last_number, clock, Txn, txn, live, live_update, live_settled, live_relaxed, may_hold, by_start, is_reader, a_relaxed, exclusive_lock}
 use Rattle.rules.specs.Tested.{all_zero, free_zero, listed, start_good, awaited_good, reads_good, notes_good}
 use Rattle.rules.proofs.Tests.{iff_eq, is_true, is_false, true_is, and_left, and_right, and_both, implies_make, same?}
 use Rattle.rules.proofs.Counts.{→every_below}

@@ -1,5 +1,5 @@
 -- The count of differing words, word by word from the left.
-use Rattle.std.proofs.Common.{◌≡◌, ℕ, zero, suc, ◌+◌, ◌-◌, ◌<◌, ◌≤◌, Bool, true, false, cond, eqb, List, [], ◌∷◌, length, get_or, drop, sym, refl, ap, ◌∙◌, add-one, arith, drop_of_length-le, get_or-drop, drop-cons, drop-drop, eq-eqb, ne_eqb}
+use Rattle.std.proofs.Common.{◌≡◌, ℕ, suc, ◌+◌, ◌<◌, ◌≤◌, Bool, cond, eqb, List, [], length, get_or, drop, sym, ap, ◌∙◌, add-one, arith, drop_of_length-le, get_or-drop, drop-cons, drop-drop, eq-eqb, ne_eqb}
 use Rattle.tally.specs.Counts.{differing}
 
 -- n is the count of the words below k

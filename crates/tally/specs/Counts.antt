@@ -1,5 +1,5 @@
 -- What is counted: a trial more, and the words of two tables that differ.
-use Rattle.std.specs.Prelude.{ℕ, zero, suc, ◌+◌, ◌%◌, ◌^◌, Bool, true, false, cond, ◌&&◌, ◌||◌, List, [], ◌∷◌, drop, ◌==◌, slice_index}
+use Rattle.std.specs.Prelude.{ℕ, ◌+◌, ◌%◌, ◌^◌, Bool, cond, ◌&&◌, ◌||◌, List, [], ◌∷◌, drop, ◌==◌, slice_index}
 use Rattle.names.specs.declared.Answer.{Answer}
 use Rattle.names.specs.Answers.{granted}
 use Rattle.tally.specs.declared.score.Score.{Score}

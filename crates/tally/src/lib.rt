@@ -4,12 +4,12 @@
 // Every function is proved against a definition of specs/.
 #![tactic(auto)]
 
+mod changes;
 mod noted;
 mod score;
 mod tally;
-mod words;
 
+pub use changes::{changed, differing, put, word};
 pub use noted::note;
 pub use score::Score;
 pub use tally::{REFUSED, Tally, WAIT, as_expected, equal};
-pub use words::{changed, differing, put, word};

@@ -1,5 +1,4 @@
 -- The test is the definition.
-use borrow.Author.Rules.{rules}
 use Rattle.rules.specs.Step.{awaits_other}
 use Rattle.callers.proofs.awaits_other.Goals as goal
 

@@ -1,11 +1,10 @@
 -- Nobody holds the item, the slot itself, one who still writes, or one past its writing.
-use borrow.Author.Rules.{rules}
-use Prim.Native.Nat.{ℕ, suc, ◌-◌, ◌<◌}
+use Prim.Native.Nat.{ℕ, ◌-◌, ◌<◌}
 use mathlib.Core.Path.{◌≡◌, sym, ap, ap₂, ◌∙◌}
 use native.Mathlib.Omega.{arith}
-use lib.Dec.{T, leb}
+use lib.Dec.{leb}
 use Rattle.names.specs.Sizes.{base}
-use Rattle.rules.specs.Tables.{Lock, txn, live_settled, a_settled}
+use Rattle.rules.specs.Tables.{Lock, txn, a_settled}
 use Rattle.rules.proofs.EqualRows.{settled-live, live-settled, number-live}
 use Rattle.callers.proofs.Backs.{back_none, back_one}
 use Rattle.callers.proofs.held_back.Goals as goal

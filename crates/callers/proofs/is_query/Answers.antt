@@ -1,6 +1,4 @@
 -- The kind of the row.
-use borrow.Author.Rules.{rules}
-use Prim.Native.Nat.{ℕ}
 use mathlib.Core.Path.{ap}
 use Rattle.rules.specs.Tables.{query_kind}
 use Rattle.callers.proofs.is_query.Goals as goal

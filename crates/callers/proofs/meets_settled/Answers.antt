@@ -1,5 +1,4 @@
 -- Only a relaxed query looks for one past its writing.
-use borrow.Author.Rules.{rules}
 use borrow.Author.Tests.{eq-eqb, ne_eqb}
 use Rattle.rules.specs.Tables.{a_relaxed}
 use Rattle.rules.specs.Step.{meets_settled}

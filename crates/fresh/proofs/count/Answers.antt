@@ -1,9 +1,6 @@
-use borrow.Author.Rules.{rules}
-use Prim.Native.Nat.{◌-◌}
 use mathlib.Core.Path.{sym, ◌∙◌}
 use native.Mathlib.Omega.{arith}
-use Rattle.names.specs.Sizes.{base}
-use Rattle.fresh.proofs.Filling.{Counted, none_counted, one_counted, all_counted}
+use Rattle.fresh.proofs.Filling.{none_counted, one_counted, all_counted}
 use Rattle.fresh.proofs.count.Goals as goal
 
 pub loop-x-init : goal.loop-x-init

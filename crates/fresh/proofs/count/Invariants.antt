@@ -1,9 +1,7 @@
 -- The rows passed have the count 1.
 use Prim.Native.Nat.{◌-◌}
-use mathlib.Core.Path.{sym, ◌∙◌}
-use native.Mathlib.Omega.{arith}
 use Rattle.names.specs.Sizes.{base}
-use Rattle.fresh.proofs.Filling.{Counted, none_counted, one_counted, all_counted}
+use Rattle.fresh.proofs.Filling.{Counted}
 use Rattle.fresh.proofs.count.Given as goal
 
 abbrev pub invariant-loop-x : goal.invariant-loop-x

@@ -1,5 +1,4 @@
 -- Zeros, then the counts; nothing where a size is not exact.
-use borrow.Author.Rules.{rules}
 use mathlib.Core.Path.{ap, ◌∙◌}
 use mathlib.Core.Bool.{not}
 use Rattle.rules.specs.Tables.{Tables, tables}

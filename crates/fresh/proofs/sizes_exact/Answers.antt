@@ -1,5 +1,4 @@
 -- The three lengths.
-use borrow.Author.Rules.{rules}
 use mathlib.Core.Path.{refl}
 use Rattle.rules.specs.Tested.{sizes_exact}
 use Rattle.fresh.proofs.sizes_exact.Goals as goal

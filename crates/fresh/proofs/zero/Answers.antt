@@ -1,8 +1,5 @@
-use borrow.Author.Rules.{rules}
-use Prim.Native.Nat.{◌-◌}
 use native.Mathlib.Omega.{arith}
-use lib.ListN.{length}
-use Rattle.fresh.proofs.Filling.{Zeroed, none_zeroed, one_zeroed, all_zeroed}
+use Rattle.fresh.proofs.Filling.{none_zeroed, one_zeroed, all_zeroed}
 use Rattle.fresh.proofs.zero.Goals as goal
 
 pub loop-k-init : goal.loop-k-init

@@ -1,8 +1,7 @@
 -- The words passed are 0.
 use Prim.Native.Nat.{◌-◌}
-use native.Mathlib.Omega.{arith}
 use lib.ListN.{length}
-use Rattle.fresh.proofs.Filling.{Zeroed, none_zeroed, one_zeroed, all_zeroed}
+use Rattle.fresh.proofs.Filling.{Zeroed}
 use Rattle.fresh.proofs.zero.Given as goal
 
 abbrev pub invariant-loop-k : goal.invariant-loop-k

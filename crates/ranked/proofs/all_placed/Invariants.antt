@@ -1,11 +1,8 @@
 -- Slot by slot, each is placed.
-use Prim.Native.Nat.{ℕ, ◌-◌, ◌≤◌}
-use mathlib.Core.Path.{◌≡◌, refl, sym, ap, ap₂, ◌∙◌}
-use mathlib.Core.Bool.{◌&&◌}
-use native.Mathlib.Omega.{arith}
+use Prim.Native.Nat.{◌-◌, ◌≤◌}
+use mathlib.Core.Path.{◌≡◌}
 use Rattle.names.specs.Sizes.{base}
 use Rattle.rules.specs.Words.{every_below}
-use Rattle.words.proofs.Turns.{every_more}
 use Rattle.ranked.specs.Marks.{placed}
 use Rattle.ranked.proofs.all_placed.Given as goal
 

@@ -1,8 +1,4 @@
 -- The first rank follows none; any other is looked up.
-use borrow.Author.Rules.{rules}
-use mathlib.Core.Path.{sym}
-use mathlib.Core.Bool.{◌||◌}
-use native.Mathlib.Omega.{arith}
 use borrow.Author.Tests.{eq-eqb, ne_eqb}
 use Rattle.rules.specs.Words.{bit}
 use Rattle.ranked.specs.Marks.{follows}

@@ -1,5 +1,4 @@
 -- What the words say of a slot that waits; of one that does not, nothing is asked.
-use borrow.Author.Rules.{rules}
 use Prim.Native.Nat.{ℕ, ◌≤◌, ◌<◌}
 use mathlib.Core.Path.{sym, ◌∙◌, subst}
 use mathlib.Core.Logic.{◌≢◌}

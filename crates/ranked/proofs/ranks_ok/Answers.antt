@@ -1,7 +1,5 @@
 -- All are marked, and then placed; or a rank was met that cannot stand.
-use borrow.Author.Rules.{rules}
 use mathlib.Core.Path.{sym, ◌∙◌}
-use borrow.Author.Tests.{not-true, not-false}
 use Rattle.names.specs.Sizes.{base}
 use Rattle.rules.specs.Tested.{ranks_good}
 use Rattle.rules.proofs.Tests.{is_false}

@@ -1,12 +1,8 @@
 -- The rules' test of the numbers, slot by slot.
-use Prim.Native.Nat.{ℕ, ◌≤◌, ◌-◌}
-use mathlib.Core.Path.{◌≡◌, refl, sym, ap, ap₂, ◌∙◌}
-use mathlib.Core.Bool.{◌&&◌}
-use native.Mathlib.Omega.{arith}
+use Prim.Native.Nat.{◌≤◌, ◌-◌}
+use mathlib.Core.Path.{◌≡◌}
 use Rattle.names.specs.Sizes.{base}
 use Rattle.rules.specs.Words.{every_below}
-use Rattle.rules.specs.Tested.{distinct}
-use Rattle.words.proofs.Turns.{every_more}
 use Rattle.shapes.specs.Shape.{distinct_at}
 use Rattle.shapes.proofs.distinct.Given as goal
 

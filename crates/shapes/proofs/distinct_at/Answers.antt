@@ -1,5 +1,4 @@
 -- If the slot is live, no slot below has its number.
-use borrow.Author.Rules.{rules}
 use mathlib.Core.Path.{◌∙◌}
 use Rattle.rules.specs.Tables.{txn}
 use Rattle.shapes.proofs.Seeing.{free-apart, live-apart}

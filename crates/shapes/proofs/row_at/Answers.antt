@@ -1,5 +1,4 @@
 -- Ten words of the row.
-use borrow.Author.Rules.{rules}
 use mathlib.Core.Path.{refl}
 use Rattle.rules.specs.Tables.{txn}
 use Rattle.shapes.proofs.row_at.Goals as goal

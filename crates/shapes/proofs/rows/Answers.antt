@@ -1,7 +1,5 @@
-use borrow.Author.Rules.{rules}
-use Prim.Native.Nat.{ℕ, ◌-◌}
+use Prim.Native.Nat.{ℕ}
 use mathlib.Core.Path.{◌≡◌, refl, ap, ◌∙◌}
-use mathlib.Core.Logic.{⊎_elim}
 use native.Mathlib.Omega.{arith}
 use Rattle.names.specs.Sizes.{base}
 use Rattle.rules.specs.Words.{every_below, slots_that}
@@ -10,7 +8,7 @@ use Rattle.rules.specs.Tested.{tops_most}
 use mathlib.Core.Bool.{◌&&◌}
 use Rattle.shapes.specs.Shape.{row_good, rows_good, updates_in, waiting_in, settled_in, later_in, or_below, waits, txn_of}
 use Rattle.shapes.proofs.Seeing.{free-same, update_same, settled_same, relaxed-same, query-same}
-use Rattle.shapes.proofs.Passed.{Passed, passed_begin, passed-free, passed-query, passed-settled, passed-relaxed, passed_still, passed-waits}
+use Rattle.shapes.proofs.Passed.{passed_begin, passed-free, passed-query, passed-settled, passed-relaxed, passed_still, passed-waits}
 use Rattle.shapes.proofs.rows.Goals as goal
 use Rattle.shapes.proofs.rows.Goals.{then-row-eq0, else-row-eq0+then-row-eq-UPDATE_KIND+then-row-ne-NO_LOCK, else-row-eq0+then-row-eq-UPDATE_KIND+else-row-ne-NO_LOCK, else-row-eq0+else-row-eq-UPDATE_KIND+then-row-eq-SETTLED_KIND, else-row-eq0+else-row-eq-UPDATE_KIND+else-row-eq-SETTLED_KIND+then-row-eq-RELAXED_KIND, else-row-eq0+else-row-eq-UPDATE_KIND+else-row-eq-SETTLED_KIND+else-row-eq-RELAXED_KIND}
 

@@ -1,9 +1,11 @@
 use mathlib.Core.Path.{◌≡◌, refl, sym, ap, ◌∙◌}
 use mathlib.Core.Bool.{true, false}
+use mathlib.Core.Logic.{◌≢◌}
+use lib.ListN.{get_or}
 use native.Mathlib.Omega.{arith}
 use borrow.Author.Tests.{eq-eqb, ne_eqb}
 use Rattle.names.specs.Sizes.{base}
-use Rattle.rules.specs.Tables.{txn, live, slot_of}
+use Rattle.rules.specs.Tables.{txn_at, txn, live, slot_of}
 use Rattle.rows.specs.Founds.{found_at}
 use Rattle.rows.proofs.Search.{first_here, first_next, first_end, found_here, found_none, named}
 use Rattle.rows.proofs.txns.slot_of.Goals as goal
@@ -19,7 +21,8 @@ returns-then-word-wanted c =
     let t = c.args.txns.now in
     let n = c.args.number.0 in
     let l = c.loop-slot in
-    let passes : named t n l.slot ≡ true = rw (ne_eqb _ 0 c.if-word-ne0.true, eq-eqb _ _ c.if-word-wanted.true) in
+    let some : get_or t (txn_at l.slot) 0 ≢ 0 = omega arith in
+    let passes : named t n l.slot ≡ true = rw (ne_eqb _ 0 some, eq-eqb _ _ c.if-word-wanted.true) in
     found_here l.slot (omega arith) ∙ ap found_at (sym (first_here (named t n) l.slot base.slots (omega arith) passes) ∙ l.invariant.1)
 
 pub loop-slot-preserved : goal.loop-slot-preserved

@@ -1,0 +1,8 @@
+-- No line yet.
+use mathlib.Core.Path.{refl}
+use Rattle.told_lines.specs.Lines.{said_in, bad_from, first_bad, capped}
+use Rattle.fining.proofs.tally.Tally.new.Goals as goal
+
+pub returns : goal.returns
+unfolding said_in bad_from first_bad capped
+returns c = record { lines = refl; bad = refl; kept = c.new-operations.ensures }

@@ -1,0 +1,19 @@
+-- Why the graph of a run has no circle.
+pub mod Stamps
+pub mod Traced
+pub mod Steps
+pub mod Ways
+pub mod Run
+pub mod Members
+pub mod Logs
+pub mod Retold
+pub mod Clear
+pub mod Placed
+pub mod Once
+pub mod Theorem
+pub mod Ordering
+pub mod Ending
+pub mod Exactly
+pub mod Played
+pub mod Examples
+pub mod Demand

@@ -1,0 +1,2 @@
+-- What the graph of small runs is.
+pub mod Passes
