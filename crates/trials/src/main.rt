@@ -26,7 +26,7 @@ mod sample;
 mod say;
 mod set;
 mod settling;
-mod stamps;
+mod stamping;
 mod state;
 mod steps;
 mod waiters;
@@ -35,7 +35,7 @@ use tally::Tally;
 
 fn trials(rt: &HostRuntime, tally: Tally) -> Tally {
     let mut t = locks::f_to_h(rt, locks::a_to_e(rt, tally));
-    t = stamps::j_to_l(rt, stamps::i(rt, t));
+    t = stamping::j_to_l(rt, stamping::i(rt, t));
     t = limits::p(rt, limits::o(rt, limits::m_and_n(rt, t)));
     t = waiters::w(rt, waiters::s_to_v(rt, quota::r(rt, quota::q(rt, t))));
     t = empty::aa(rt, settling::z(rt, settling::x_and_y(rt, t)));
