@@ -10,7 +10,6 @@ ghost use Rattle.std.specs.Prelude.{◌≡◌, length};
 ghost use Rattle.answering.specs.Life.{room_for};
 
 use answering::{Answerer, LONGEST_ANSWER, NUMBER_BYTES};
-use std::io;
 use std::io::Read;
 
 // The longest piece.
@@ -31,21 +30,25 @@ fn output_buffer() -> [u8; ROOM]
     [0; ROOM]
 }
 
-// Nothing says that the input ends, so the turns are counted, to a number that no run uses up.
-fn main(rt: HostRuntime) -> io::Result<()> {
+// Nothing says that the input ends, so the turns are counted, to a number that no run uses up. What
+// cannot be read is taken for the end of the input.
+fn main(rt: HostRuntime) {
     let mut input = input_buffer();
     let mut output = output_buffer();
     let mut answerer = Answerer::new();
     for _ in 0..u64::MAX {
-        let n = rt.stdin().read(&mut input)?;
+        let n = match rt.stdin().read(&mut input) {
+            Ok(n) => n,
+            Err(_) => 0,
+        };
         if n == 0 {
             break;
         }
         let taken = answerer.take(&input[..n], &mut output);
         let used = taken.used;
-        rt.write_all(&output[..used])?;
+        let _ = rt.write_all(&output[..used]);
         answerer = taken.answerer;
     }
     let used = answerer.end(&mut output);
-    rt.write_all(&output[..used])
+    let _ = rt.write_all(&output[..used]);
 }

@@ -6,7 +6,8 @@
 // does not grow with the script. What is written, and how much is read back, is said by the machine
 // (`recorder`): here bytes are handed over and written as they are put out. Until all is written
 // the first count is the greatest word, so that an unfinished journal is judged short. Whatever
-// fails is said on standard error, and then nothing is written to standard output.
+// fails is said on standard error, and then nothing is written to standard output; of a file that
+// is let go the library says nothing.
 #![tactic(auto)]
 
 ghost use Rattle.std.specs.Prelude.{◌≡◌, true, length};

@@ -9,7 +9,6 @@ ghost use Rattle.std.specs.Prelude.{◌≡◌, ◌*◌, length};
 ghost use Rattle.running.specs.Replies.{longest_reply};
 
 use running::{LONGEST_REPLY, Runner};
-use std::io;
 use std::io::Read;
 
 // The longest piece.
@@ -28,21 +27,25 @@ fn output_buffer() -> [u8; LONGEST_REPLY * PIECE]
     [0; LONGEST_REPLY * PIECE]
 }
 
-// Nothing says that the input ends, so the turns are counted, to a number that no run uses up.
-fn main(rt: HostRuntime) -> io::Result<()> {
+// Nothing says that the input ends, so the turns are counted, to a number that no run uses up. What
+// cannot be read is taken for the end of the input.
+fn main(rt: HostRuntime) {
     let mut input = input_buffer();
     let mut output = output_buffer();
     let mut runner = Runner::new();
     for _ in 0..u64::MAX {
-        let n = rt.stdin().read(&mut input)?;
+        let n = match rt.stdin().read(&mut input) {
+            Ok(n) => n,
+            Err(_) => 0,
+        };
         if n == 0 {
             break;
         }
         let taken = runner.take(&input[..n], &mut output);
         let used = taken.used;
-        rt.write_all(&output[..used])?;
+        let _ = rt.write_all(&output[..used]);
         runner = taken.runner;
     }
     let used = runner.end(&mut output);
-    rt.write_all(&output[..used])
+    let _ = rt.write_all(&output[..used]);
 }
