@@ -64,7 +64,8 @@ def edits():
 
 
 def signatures():
-    said = subprocess.run([sys.executable, "/opt/rattle/port/contracts.py", THEN, NOW, "--json"], capture_output=True, text=True).stdout
+    kit = os.path.dirname(subprocess.run(["rt", "doc"], capture_output=True, text=True).stdout.strip())
+    said = subprocess.run([sys.executable, os.path.join(kit, "port/contracts.py"), THEN, NOW, "--json"], capture_output=True, text=True).stdout
     for name, was, now in json.loads(said)["signatures changed"]:
         if not name.startswith("trials "):
             print(f"    {name}\n      was {was}\n      is  {now}")
