@@ -8,40 +8,26 @@ use super::{Item, Slot, Stamp};
 // Why a call is refused, in the order of the codes.
 #[derive(Clone, Copy)]
 pub enum Refusal {
-    Wait,
-    Deadlock,
-    UnknownTransaction,
-    UnknownItem,
-    QueryMayNotWrite,
-    StillWaiting,
-    NoSlot,
-    NumbersSpent,
-    ClockSpent,
-    BadTables,
-    QuotaSpent,
-    PastWriting,
-    KeptApart,
+    Wait = 1,
+    Deadlock = 2,
+    UnknownTransaction = 3,
+    UnknownItem = 4,
+    QueryMayNotWrite = 5,
+    StillWaiting = 6,
+    NoSlot = 7,
+    NumbersSpent = 8,
+    ClockSpent = 9,
+    BadTables = 10,
+    QuotaSpent = 11,
+    PastWriting = 12,
+    KeptApart = 13,
 }
 
 impl Refusal {
     pub fn code(self) -> u64
         ensures { result ≡ code self }
     {
-        match self {
-            Refusal::Wait => 1,
-            Refusal::Deadlock => 2,
-            Refusal::UnknownTransaction => 3,
-            Refusal::UnknownItem => 4,
-            Refusal::QueryMayNotWrite => 5,
-            Refusal::StillWaiting => 6,
-            Refusal::NoSlot => 7,
-            Refusal::NumbersSpent => 8,
-            Refusal::ClockSpent => 9,
-            Refusal::BadTables => 10,
-            Refusal::QuotaSpent => 11,
-            Refusal::PastWriting => 12,
-            Refusal::KeptApart => 13,
-        }
+        self as u64
     }
 }
 

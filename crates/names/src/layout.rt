@@ -33,6 +33,8 @@ pub const TXN_ROW: usize = 10;
 
 pub const TXN_WORDS: usize = TXN_HEAD + TXN_ROW * (SLOTS as usize);
 
+pub type Txns = [u64; TXN_WORDS];
+
 // The kinds of transactions.
 pub const UPDATE_KIND: u64 = 0;
 
@@ -58,6 +60,8 @@ pub const LOCK_ROW: usize = 3;
 
 pub const LOCK_WORDS: usize = LOCK_ROW * (ITEMS as usize);
 
+pub type Locks = [u64; LOCK_WORDS];
+
 // Versions: a row for each item, of a count, pairs of stamp and value, and then a word for each pair
 // that says from whom it is hidden. The places are those of the first pair and of the first such
 // word; the next pair stands a pair's words further.
@@ -74,3 +78,5 @@ pub const VERSION_HIDDEN_AT: usize = VERSION_STAMP_AT + VERSION_PAIR * (PLACES a
 pub const VERSION_ROW: usize = VERSION_HIDDEN_AT + (PLACES as usize);
 
 pub const VERSION_WORDS: usize = VERSION_ROW * (ITEMS as usize);
+
+pub type Versions = [u64; VERSION_WORDS];

@@ -18,11 +18,11 @@ pub use calls::Call;
 pub use deeds::{Cell, Deed, Refusal};
 pub use layout::{
     CLOCK_AT, EXCLUSIVE_LOCK, LAST_NUMBER_AT, LOCK_EXCLUSIVE_AT, LOCK_ROW, LOCK_WORDS,
-    LOCK_WORKING_AT, NO_LOCK, QUERY_KIND, RELAXED_KIND, SETTLED_KIND, SHARED_LOCK, TXN_COUNT_AT,
-    TXN_HEAD, TXN_ITEM_AT, TXN_ITEMS_READ_AT, TXN_KIND_AT, TXN_LATER_FOR_AT, TXN_LOCK_AT,
-    TXN_RANK_AT, TXN_ROW, TXN_START_AT, TXN_SUM_AT, TXN_WORDS, UPDATE_KIND, VERSION_COUNT_AT,
-    VERSION_HIDDEN_AT, VERSION_PAIR, VERSION_ROW, VERSION_STAMP_AT, VERSION_VALUE_AT,
-    VERSION_WORDS,
+    LOCK_WORKING_AT, Locks, NO_LOCK, QUERY_KIND, RELAXED_KIND, SETTLED_KIND, SHARED_LOCK,
+    TXN_COUNT_AT, TXN_HEAD, TXN_ITEM_AT, TXN_ITEMS_READ_AT, TXN_KIND_AT, TXN_LATER_FOR_AT,
+    TXN_LOCK_AT, TXN_RANK_AT, TXN_ROW, TXN_START_AT, TXN_SUM_AT, TXN_WORDS, Txns, UPDATE_KIND,
+    VERSION_COUNT_AT, VERSION_HIDDEN_AT, VERSION_PAIR, VERSION_ROW, VERSION_STAMP_AT,
+    VERSION_VALUE_AT, VERSION_WORDS, Versions,
 };
 
 // Live transactions at most, items, and versions an item at most.
@@ -90,30 +90,9 @@ pub struct Item(pub u64);
 #[derive(Clone, Copy)]
 pub struct Slot(pub u64);
 
-// The stamp after another, if there is one.
-#[derive(Clone, Copy)]
-pub enum NextStamp {
-    At(Stamp),
-    Spent,
-}
-
-// What a word says of an item.
-#[derive(Clone, Copy)]
-pub enum ItemOf {
-    Known(Item),
-    Unknown,
-}
-
-// What a word says of a transaction's number.
-#[derive(Clone, Copy)]
-pub enum NumberOf {
-    Possible(Number),
-    Impossible,
-}
-
 // The four numbers of an answer.
 #[repr(C)]
-#[derive(Clone, Copy)]
+#[derive(Clone, Copy, PartialEq, Eq)]
 pub struct Answer {
     pub code: u64,
     pub value: u64,
@@ -170,42 +149,39 @@ impl Stamp {
 
     pub const LAST: Stamp = Stamp(LAST_WORD);
 
-    pub fn next(self) -> NextStamp
+    // The stamp after this one, if there is one.
+    pub fn next(self) -> Option<Stamp>
         ensures { result ≡ next_stamp self }
     {
         let stamp = self.0;
         if stamp < Stamp::LAST.0 {
-            NextStamp::At(Stamp(stamp + 1))
+            Some(Stamp(stamp + 1))
         } else {
-            NextStamp::Spent
+            None
         }
     }
 }
 
 impl Item {
     // A word of a call as an item, if it is one.
-    pub fn of(word: u64) -> ItemOf
+    pub fn of(word: u64) -> Option<Item>
         ensures { result ≡ item_of word }
     {
-        if word < ITEMS {
-            ItemOf::Known(Item(word))
-        } else {
-            ItemOf::Unknown
-        }
+        if word < ITEMS { Some(Item(word)) } else { None }
     }
 }
 
 impl Number {
     // A word of a call as a transaction's number, if one can have it.
-    pub fn of(word: u64) -> NumberOf
+    pub fn of(word: u64) -> Option<Number>
         ensures { result ≡ number_of word }
     {
         if word == 0 {
-            return NumberOf::Impossible;
+            return None;
         }
         if LAST_WORD < word {
-            return NumberOf::Impossible;
+            return None;
         }
-        NumberOf::Possible(Number(word))
+        Some(Number(word))
     }
 }

@@ -3,3 +3,4 @@ pub mod Turns
 pub mod ZeroWords
 pub mod SlotWords
 pub mod Slots
+pub mod Searches

@@ -1,2 +1,3 @@
 -- What a pass over words is proved against.
 pub mod Zeros
+pub mod Below

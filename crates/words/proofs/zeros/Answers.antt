@@ -11,20 +11,18 @@ use Rattle.words.proofs.zeros.Goals as goal
 
 pub loop-k-init : goal.loop-k-init
 unfolding every_below
-loop-k-init c = (omega arith, refl)
+loop-k-init c = refl
 
 pub loop-k-preserved : goal.loop-k-preserved
 loop-k-preserved c =
     let a = c.args in
     let k = c.loop-k.k in
-    let w = get_or a.words.now (a.from + k) 0 in (
-      omega arith,
-      or_zero c.loop-k.acc w ∙ ap (λ (b : Bool). eqb w 0 && b) c.loop-k.invariant.1 ∙ sym (every_more _ _),
-    )
+    let w = get_or a.words.now (a.from + k) 0 in
+    or_zero c.loop-k.acc w ∙ ap (λ (b : Bool). eqb w 0 && b) c.loop-k.invariant ∙ sym (every_more _ _)
 
 pub returns : goal.returns
 unfolding zero_words
 returns c =
     let a = c.args in
     let e : c.loop-k.k ≡ a.n = omega arith in
-    c.loop-k.invariant.1 ∙ ap (λ (n : ℕ). every_below n (λ (j : ℕ). eqb (get_or a.words.now (a.from + j) 0) 0)) e
+    c.loop-k.invariant ∙ ap (λ (n : ℕ). every_below n (λ (j : ℕ). eqb (get_or a.words.now (a.from + j) 0) 0)) e
