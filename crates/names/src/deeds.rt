@@ -5,7 +5,7 @@ ghost use Rattle.names.specs.Answers.{code};
 
 use super::{Item, Slot, Stamp};
 
-// Why a call is refused, in the order of the codes.
+// Why a call is refused, with its code.
 #[derive(Clone, Copy)]
 pub enum Refusal {
     Wait = 1,
@@ -43,6 +43,7 @@ pub enum Cell {
     Conflict,
 }
 
+// What may not change: a kind and a lock are words here, as the rules' `judged` and `done` have them.
 #[derive(Clone, Copy)]
 pub enum Deed {
     // Nothing is done.

@@ -42,13 +42,7 @@ pub const LAST_WORD: u64 = 4294967295;
 pub fn held_sum(a: u64, b: u64) -> u64
     ensures { result ≡ held_at_last (a + b) }
 {
-    if LAST_WORD < a {
-        return LAST_WORD;
-    }
-    if LAST_WORD - a < b {
-        return LAST_WORD;
-    }
-    a + b
+    a.saturating_add(b).min(LAST_WORD)
 }
 
 // The sizes that the definitions go by.
@@ -87,6 +81,8 @@ pub struct Stamp(pub u64);
 pub struct Item(pub u64);
 
 // The place of a live transaction.
+// What may not change: the rules' `item_of` and `found_at` make an item and a slot of a word by a test,
+// so neither type has an invariant, and a function asks for the bound that it needs.
 #[derive(Clone, Copy)]
 pub struct Slot(pub u64);
 
