@@ -1,12 +1,2 @@
 // Demand 3: what a run of calls amounts to, transactions one after another (specs/ and proofs/).
-//
-// The one function says nothing: a crate has one.
 #![tactic(auto)]
-
-ghost use Rattle.std.specs.Prelude.{◌≡◌};
-
-pub fn same(word: u64) -> u64
-    ensures { result ≡ word }
-{
-    word
-}

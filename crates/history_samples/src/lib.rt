@@ -1,12 +1,2 @@
 // The definitions of demand 3 on small runs, right ones and wrong ones (specs/ and proofs/).
-//
-// The one function says nothing: a crate has one.
 #![tactic(auto)]
-
-ghost use Rattle.std.specs.Prelude.{◌≡◌};
-
-pub fn same(word: u64) -> u64
-    ensures { result ≡ word }
-{
-    word
-}

@@ -1,12 +1,2 @@
 // The definition of a verdict on small files, on both sides of each limit (specs/ and proofs/).
-//
-// The one function says nothing: a crate has one.
 #![tactic(auto)]
-
-ghost use Rattle.std.specs.Prelude.{◌≡◌};
-
-pub fn same(word: u64) -> u64
-    ensures { result ≡ word }
-{
-    word
-}

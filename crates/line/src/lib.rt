@@ -1,12 +1,2 @@
 // Request E4's promise: who waits in line is served (specs/ and proofs/).
-//
-// The one function says nothing: a crate has one.
 #![tactic(auto)]
-
-ghost use Rattle.std.specs.Prelude.{◌≡◌};
-
-pub fn same(word: u64) -> u64
-    ensures { result ≡ word }
-{
-    word
-}

@@ -1,12 +1,2 @@
 // The trials of request E6, of updates past their writing, written out (specs/) and proved (proofs/).
-//
-// The one function says nothing: a crate has one.
 #![tactic(auto)]
-
-ghost use Rattle.std.specs.Prelude.{◌≡◌};
-
-pub fn same(word: u64) -> u64
-    ensures { result ≡ word }
-{
-    word
-}

@@ -1,12 +1,2 @@
 // The trials of request E4, of those who wait in line, written out (specs/) and proved (proofs/).
-//
-// The one function says nothing: a crate has one.
 #![tactic(auto)]
-
-ghost use Rattle.std.specs.Prelude.{◌≡◌};
-
-pub fn same(word: u64) -> u64
-    ensures { result ≡ word }
-{
-    word
-}
