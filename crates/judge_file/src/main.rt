@@ -6,15 +6,20 @@
 // error, and then standard output stays empty.
 #![tactic(auto)]
 
+mod fault;
 mod file;
 mod handing;
 
-use file::complain;
 use std::env::{Env, FillError};
+use std::fmt::Display;
 use std::str;
 
+fn complain(rt: &impl Eprint, what: &str, why: impl Display + Drop) {
+    let _ = eprintln!(rt; "{what}: {why}");
+}
+
 fn main(rt: HostRuntime) {
-    let mut name = [0u8; 4096];
+    let mut name = [0; 4096];
     let n = match rt.arg(1, &mut name) {
         Ok(n) => n,
         Err(FillError::NotPresent) => {
@@ -23,7 +28,11 @@ fn main(rt: HostRuntime) {
         Err(FillError::TooLong) => return complain(&rt, "the journal's name", "File name too long"),
     };
     match str::from_utf8(&name[..n]) {
-        Ok(path) => handing::judge_path(&rt, path),
+        Ok(path) => {
+            if let Err(e) = handing::judge_path(&rt, path) {
+                complain(&rt, path, e);
+            }
+        }
         Err(e) => complain(&rt, "the journal's name", e),
     }
 }

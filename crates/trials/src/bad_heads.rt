@@ -1,14 +1,13 @@
 // Every part of good that speaks of no row, broken alone: the sizes, the last number and the clock.
 use crate::play::play;
-use crate::set::OF_NO_ROW;
+use crate::set::Damaged;
 use tally::Tally;
 
 // Beside a limit stands what is still good.
 pub fn heads(rt: &HostRuntime, tally: Tally) -> Tally {
     play(
         rt,
-        OF_NO_ROW,
-        0,
+        Damaged::NoRow,
         b"on 0
 good: the sample
 on 0

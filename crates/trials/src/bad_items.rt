@@ -1,15 +1,14 @@
 // Every part of good that speaks of an item's row of locks or of versions, broken alone; beside a limit
 // stands what is still good.
 use crate::play::play;
-use crate::set::OF_ITEMS;
+use crate::set::Damaged;
 use tally::Tally;
 
 // Holders and working values.
 fn holders(rt: &HostRuntime, row: u64, tally: Tally) -> Tally {
     play(
         rt,
-        OF_ITEMS,
-        row,
+        Damaged::Item(row),
         b"on 0
 put locks 0 0: 64
 damage: a free slot shares
@@ -93,8 +92,7 @@ damage: a working value, and a shared holder
 fn counts(rt: &HostRuntime, row: u64, tally: Tally) -> Tally {
     play(
         rt,
-        OF_ITEMS,
-        row,
+        Damaged::Item(row),
         b"on 0
 put versions 0 0: 0
 damage: the count is 0
@@ -139,8 +137,7 @@ damage: the first unused stamp after two versions is 1
 fn stamps(rt: &HostRuntime, row: u64, tally: Tally) -> Tally {
     play(
         rt,
-        OF_ITEMS,
-        row,
+        Damaged::Item(row),
         b"on 0
 put versions 0 0: 2
 put versions 0 1: 3

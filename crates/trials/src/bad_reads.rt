@@ -1,14 +1,13 @@
 // Every part of good that speaks of the read count and the weight sum of a row, broken alone; beside
 // a limit stands what is still good. Row 6 is free, or that of one past its writing.
 use crate::play::play;
-use crate::set::OF_SLOTS;
+use crate::set::Damaged;
 use tally::Tally;
 
 pub fn reads(rt: &HostRuntime, row: u64, tally: Tally) -> Tally {
     play(
         rt,
-        OF_SLOTS,
-        row,
+        Damaged::Slot(row),
         b"on 6
 put transactions 6 6: 1
 damage: a free row has a read count

@@ -1,14 +1,13 @@
 // Every part of good that speaks of relaxed queries, broken alone; beside a limit stands what is
 // still good. The relaxed query stands behind the rows of the sample.
 use crate::play::play;
-use crate::set::OF_SLOTS;
+use crate::set::Damaged;
 use tally::Tally;
 
 pub fn relaxed(rt: &HostRuntime, row: u64, tally: Tally) -> Tally {
     play(
         rt,
-        OF_SLOTS,
-        row,
+        Damaged::Slot(row),
         b"on 6
 put transactions 6 0: 17
 put transactions 6 1: 3

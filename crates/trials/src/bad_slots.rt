@@ -1,15 +1,14 @@
 // Every part of good that speaks of a transaction's row, broken alone; beside a limit stands what is
 // still good.
 use crate::play::play;
-use crate::set::OF_SLOTS;
+use crate::set::Damaged;
 use tally::Tally;
 
 // Free rows, numbers, kinds and awaited locks.
 fn numbers(rt: &HostRuntime, row: u64, tally: Tally) -> Tally {
     play(
         rt,
-        OF_SLOTS,
-        row,
+        Damaged::Slot(row),
         b"on 0
 good: the sample, tried at the row of an update
 on 6
@@ -77,8 +76,7 @@ good: an update awaits an item that nobody holds
 fn waits(rt: &HostRuntime, row: u64, tally: Tally) -> Tally {
     play(
         rt,
-        OF_SLOTS,
-        row,
+        Damaged::Slot(row),
         b"on 0
 put transactions 0 2: 1
 damage: an update has the start 1
@@ -174,8 +172,7 @@ good: three updates wait in a row
 fn ranks(rt: &HostRuntime, row: u64, tally: Tally) -> Tally {
     play(
         rt,
-        OF_SLOTS,
-        row,
+        Damaged::Slot(row),
         b"on 0
 put transactions 0 5: 1
 damage: an update awaits nothing, but has a rank

@@ -1,12 +1,12 @@
 // Trial AA, of request E7: updates that wrote nothing commit without a stamp.
-use crate::play::{TRIALS, play};
+use crate::play::play;
+use crate::set::Damaged;
 use tally::Tally;
 
 pub fn aa(rt: &HostRuntime, tally: Tally) -> Tally {
     play(
         rt,
-        TRIALS,
-        0,
+        Damaged::Nothing,
         b"trial AA: who wrote nothing commits and takes no stamp, beside those past their writing and at the last stamp
 update: 0 0 1 0
 commit 1: 0 0 0 0

@@ -2,34 +2,25 @@
 // with the same one, that of the relaxed query is a capital.
 use names::Call;
 
-// What a letter says, with the numbers behind it.
-#[derive(Clone, Copy)]
-pub enum Meant {
-    Call(Call),
-    Other,
-}
-
-pub fn lettered(letter: u8, number: u64, item: u64, value: u64) -> Meant {
+// The call that a letter names, with the numbers behind it.
+pub fn lettered(letter: u8, number: u64, item: u64, value: u64) -> Option<Call> {
     match letter {
-        b'u' => Meant::Call(Call::BeginUpdate),
-        b'q' => Meant::Call(Call::BeginQuery),
-        b'r' => Meant::Call(Call::Read { number, item }),
-        b'w' => Meant::Call(Call::Write {
+        b'u' => Some(Call::BeginUpdate),
+        b'q' => Some(Call::BeginQuery),
+        b'r' => Some(Call::Read { number, item }),
+        b'w' => Some(Call::Write {
             number,
             item,
             value,
         }),
-        b'c' => Meant::Call(Call::Commit { number }),
-        b'a' => Meant::Call(Call::Abort { number }),
-        b's' => Meant::Call(Call::Settle { number }),
-        b'R' => Meant::Call(Call::BeginRelaxed),
-        _ => Meant::Other,
+        b'c' => Some(Call::Commit { number }),
+        b'a' => Some(Call::Abort { number }),
+        b's' => Some(Call::Settle { number }),
+        b'R' => Some(Call::BeginRelaxed),
+        _ => None,
     }
 }
 
 pub fn is_call(letter: u8) -> bool {
-    let Meant::Call(_) = lettered(letter, 0, 0, 0) else {
-        return false;
-    };
-    true
+    lettered(letter, 0, 0, 0).is_some()
 }

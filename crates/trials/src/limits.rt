@@ -1,14 +1,14 @@
 // Trials M to O, and words up to the greatest: document 01 has no trial P. In the transactions' head
 // word 0 is the last number.
-use crate::play::{TRIALS, play};
+use crate::play::play;
+use crate::set::Damaged;
 use tally::Tally;
 
 // Numbers and sizes.
 pub fn m_and_n(rt: &HostRuntime, tally: Tally) -> Tally {
     play(
         rt,
-        TRIALS,
-        0,
+        Damaged::Nothing,
         b"trial M: the last number is given, then none, and with every slot taken there is none first
 put head 0 0: 4294967294
 update: 0 0 4294967295 0
@@ -87,8 +87,7 @@ abort 2: 0 0 0 0
 pub fn o(rt: &HostRuntime, tally: Tally) -> Tally {
     play(
         rt,
-        TRIALS,
-        0,
+        Damaged::Nothing,
         b"trial O: three updates in a circle, one outside that waits for them, then as many as there are slots in a circle
 update: 0 0 1 0
 update: 0 0 2 0
@@ -220,8 +219,7 @@ read 31 32: 0 0 0 1
 pub fn p(rt: &HostRuntime, tally: Tally) -> Tally {
     play(
         rt,
-        TRIALS,
-        0,
+        Damaged::Nothing,
         b"trial P: numbers, items and values up to the greatest word, on good tables
 update: 0 0 1 0
 query: 0 0 2 0

@@ -1,14 +1,14 @@
 // Trials A to H: what is granted, who waits, and what is refused. Of the items that document 01 calls x
 // and y any two are taken; T1 and T2 are the transactions 1 and 2.
-use crate::play::{TRIALS, play};
+use crate::play::play;
+use crate::set::Damaged;
 use tally::Tally;
 
 // Reads, writes, and waits.
 pub fn a_to_e(rt: &HostRuntime, tally: Tally) -> Tally {
     play(
         rt,
-        TRIALS,
-        0,
+        Damaged::Nothing,
         b"trial A: the run of document 01
 update: 0 0 1 0
 write 1 5 77: 0 0 0 0
@@ -79,8 +79,7 @@ commit 1: 0 0 1 0
 pub fn f_to_h(rt: &HostRuntime, tally: Tally) -> Tally {
     play(
         rt,
-        TRIALS,
-        0,
+        Damaged::Nothing,
         b"trial F: who awaits may only repeat its call or abort, first a read, then a write
 update: 0 0 1 0
 update: 0 0 2 0

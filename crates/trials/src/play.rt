@@ -11,12 +11,12 @@
 // and the lines of `set`, which try nothing. A line is written out as it is read, and its end is
 // what was found; of the sample and its changes nothing is written.
 use crate::damage::judge;
-use crate::letters::{Meant, is_call, lettered};
+use crate::letters::{is_call, lettered};
 use crate::line::{LINE_END, Line};
 use crate::sample::{first_row, sample};
 use crate::say;
-use crate::set::{Rows, set};
-use crate::state::{Tables, place};
+use crate::set::{Damaged, Rows, set};
+use crate::state::{Table, Tables, place};
 use crate::steps::{expect, head};
 use names::{Answer, Call};
 use tally::Tally;
@@ -31,153 +31,113 @@ const DAMAGE: u8 = b'd';
 
 const GOOD: u8 = b'g';
 
-// No rows are damaged: the text is one of trials.
-pub const TRIALS: u8 = 0;
-
-#[derive(Clone, Copy)]
-pub struct Stage {
-    pub tables: Tables,
-    pub tally: Tally,
-    pub rows: Rows,
+#[derive(Drop)]
+struct Stage {
+    tables: Tables,
+    tally: Tally,
+    rows: Rows,
 }
 
-// A byte of a line, written out: before the first the head of the line, after the colon what comes.
-fn echo(rt: &HostRuntime, stage: Stage, line: Line, byte: u8) {
-    let kind = if line.kind == 0 { byte } else { line.kind };
-    let rows = stage.rows;
-    let tries = is_call(kind) | (kind == VIEW);
-    let damages = (kind == DAMAGE) | (kind == GOOD);
-    let tally = stage.tally;
-    if (rows.of == TRIALS) | damages {
-        if (line.kind == 0) & tries {
-            head(rt, tally);
-        }
-        say::byte(rt, byte);
-        if (byte == b':') & tries {
-            say::say(rt, b" expected");
+impl Stage {
+    // A byte of a line, written out: before the first the head of the line, after the colon what comes.
+    fn echo(&self, rt: &HostRuntime, line: &Line, byte: u8) {
+        let kind = line.kind.unwrap_or(byte);
+        let tries = is_call(kind) || kind == VIEW;
+        let damages = kind == DAMAGE || kind == GOOD;
+        if self.rows.damaged == Damaged::Nothing || damages {
+            if line.kind.is_none() && tries {
+                head(rt, self.tally);
+            }
+            say::byte(rt, byte);
+            if byte == b':' && tries {
+                say::say(rt, b" expected");
+            }
         }
     }
-}
 
-fn made(rt: &HostRuntime, stage: Stage, line: Line, call: Call) -> Stage {
-    let numbers = line.numbers;
-    let wanted = Answer {
-        code: numbers[3],
-        value: numbers[4],
-        number: numbers[5],
-        looked: numbers[6],
-    };
-    let before = stage.tables;
-    let called = before.call(call);
-    let after = called.tables;
-    let others = after.changed(before.noted(wanted.code, call));
-    let tally = stage.tally;
-    let counted = expect(rt, tally, called.answer, others as u64, wanted);
-    let rows = stage.rows;
-    Stage {
-        tables: after,
-        tally: counted,
-        rows,
-    }
-}
-
-fn view(rt: &HostRuntime, stage: Stage, line: Line) -> Stage {
-    let numbers = line.numbers;
-    let tables = stage.tables;
-    let found = tables.word(line.second, place(line.second, numbers[0], numbers[1]));
-    say::say(rt, b", found ");
-    say::number(rt, found);
-    let ok = found == numbers[3];
-    say::end(rt, ok);
-    let tally = stage.tally;
-    let counted = tally.counted(ok);
-    let rows = stage.rows;
-    Stage {
-        tables,
-        tally: counted,
-        rows,
-    }
-}
-
-// A line that tries no call: what sets the tables, a new trial, the sample anew.
-fn change(rt: &HostRuntime, stage: Stage, line: Line) -> Stage {
-    let kind = line.kind;
-    let numbers = line.numbers;
-    let tally = stage.tally;
-    let tables = stage.tables;
-    let rows = stage.rows;
-    if rows.of == TRIALS {
-        say::end(rt, true);
-    }
-    if kind == TRIAL {
-        return Stage {
-            tables: Tables::fresh(),
-            tally: tally.begin(line.second),
-            rows,
+    fn made(&mut self, rt: &HostRuntime, line: &Line, call: Call) {
+        let [_, _, _, code, value, number, looked, _] = line.numbers;
+        let wanted = Answer {
+            code,
+            value,
+            number,
+            looked,
         };
+        let mut noted = self.tables;
+        noted.note(code, call);
+        let found = self.tables.call(call);
+        let others = self.tables.changed(&noted);
+        self.tally = expect(rt, self.tally, found, others as u64, wanted);
     }
-    if kind == ON {
-        let from = first_row(rows, numbers[0]);
-        return Stage {
-            tables: sample(from),
-            tally,
-            rows: Rows {
-                of: rows.of,
-                row: rows.row,
-                from,
-            },
-        };
-    }
-    Stage {
-        tables: set(tables, rows, line),
-        tally,
-        rows,
-    }
-}
 
-// What a line says.
-fn step(rt: &HostRuntime, stage: Stage, line: Line) -> Stage {
-    let kind = line.kind;
-    let numbers = line.numbers;
-    let word = lettered(kind, numbers[0], numbers[1], numbers[2]);
-    if let Meant::Call(call) = word {
-        return made(rt, stage, line, call);
+    fn view(&mut self, rt: &HostRuntime, line: &Line) {
+        let [row, word, _, wanted, ..] = line.numbers;
+        let table = Table::of(line.second);
+        let found = self.tables.word(table, place(table, row, word));
+        say::say(rt, b", found ");
+        say::number(rt, found);
+        let ok = found == wanted;
+        say::end(rt, ok);
+        self.tally = self.tally.counted(ok);
     }
-    if kind == VIEW {
-        return view(rt, stage, line);
+
+    // A line that tries no call: what sets the tables, a new trial, the sample anew.
+    fn change(&mut self, rt: &HostRuntime, line: &Line) {
+        if self.rows.damaged == Damaged::Nothing {
+            say::end(rt, true);
+        }
+        match line.kind {
+            Some(TRIAL) => {
+                self.tables = Tables::fresh();
+                self.tally = self.tally.begin(line.second.unwrap_or(0));
+            }
+            Some(ON) => {
+                self.rows.from = first_row(self.rows.damaged, line.numbers[0]);
+                self.tables = sample(self.rows.from);
+            }
+            _ => set(&mut self.tables, self.rows, line),
+        }
     }
-    if (kind == DAMAGE) | (kind == GOOD) {
-        let tables = stage.tables;
-        let rows = stage.rows;
-        let tally = stage.tally;
-        return Stage {
-            tables,
-            tally: judge(rt, tables, kind == DAMAGE, rows, tally),
-            rows,
-        };
+
+    // What a line says.
+    fn step(&mut self, rt: &HostRuntime, line: &Line) {
+        let [number, item, value, ..] = line.numbers;
+        let kind = line.kind.unwrap_or(0);
+        if let Some(call) = lettered(kind, number, item, value) {
+            return self.made(rt, line, call);
+        }
+        match kind {
+            VIEW => self.view(rt, line),
+            DAMAGE | GOOD => {
+                self.tally = judge(
+                    rt,
+                    &self.tables,
+                    kind == DAMAGE,
+                    self.rows.damaged,
+                    self.tally,
+                );
+            }
+            _ => self.change(rt, line),
+        }
     }
-    change(rt, stage, line)
 }
 
 // All lines of a text.
-pub fn play(rt: &HostRuntime, of: u8, row: u64, text: &[u8], tally: Tally) -> Tally {
+pub fn play(rt: &HostRuntime, damaged: Damaged, text: &[u8], tally: Tally) -> Tally {
     let mut stage = Stage {
         tables: Tables::fresh(),
         tally,
-        rows: Rows { of, row, from: 0 },
+        rows: Rows { damaged, from: 0 },
     };
-    let mut line = Line::new();
-    let mut k: usize = 0;
-    while k < text.len() {
-        let byte = text[k];
+    let mut line = Line::default();
+    for &byte in text {
         if byte == LINE_END {
-            stage = step(rt, stage, line);
-            line = Line::new();
+            stage.step(rt, &line);
+            line = Line::default();
         } else {
-            echo(rt, stage, line, byte);
-            line = line.push(byte);
+            stage.echo(rt, &line, byte);
+            line.push(byte);
         }
-        k += 1;
     }
     stage.tally
 }

@@ -1,15 +1,14 @@
 // Trials Q and R, of request E2: an update with 31, 32 and 33 items; and the two parts of good that
 // speak of that, each broken alone, with what is still good beside it.
-use crate::play::{TRIALS, play};
-use crate::set::OF_SLOTS;
+use crate::play::play;
+use crate::set::Damaged;
 use tally::Tally;
 
 // The 32nd item, and the 33rd.
 pub fn q(rt: &HostRuntime, tally: Tally) -> Tally {
     play(
         rt,
-        TRIALS,
-        0,
+        Damaged::Nothing,
         b"trial Q: an update holds 32 items exclusively, and writes a 33rd; then two with 32 each
 update: 0 0 1 0
 write 1 0 7: 0 0 0 0
@@ -112,8 +111,7 @@ read 3 33: 0 8 0 1
 pub fn r(rt: &HostRuntime, tally: Tally) -> Tally {
     play(
         rt,
-        TRIALS,
-        0,
+        Damaged::Nothing,
         b"trial R: the 33rd item is held by another: refused before the conflict, with 31 items not
 update: 0 0 1 0
 write 1 0 7: 0 0 0 0
@@ -187,8 +185,7 @@ write 4 0 8: 0 0 0 0
 pub fn held(rt: &HostRuntime, row: u64, tally: Tally) -> Tally {
     play(
         rt,
-        OF_SLOTS,
-        row,
+        Damaged::Slot(row),
         b"on 0
 holder locks 10 1: 0
 holder locks 11 1: 0

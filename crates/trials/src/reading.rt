@@ -1,12 +1,12 @@
 // Trials AB and AC, of request E8: what is counted of a query's reads, and where that is held.
-use crate::play::{TRIALS, play};
+use crate::play::play;
+use crate::set::Damaged;
 use tally::Tally;
 
 pub fn ab(rt: &HostRuntime, tally: Tally) -> Tally {
     play(
         rt,
-        TRIALS,
-        0,
+        Damaged::Nothing,
         b"trial AB: a query's granted reads are counted and weighed, and nothing else is
 update: 0 0 1 0
 write 1 5 51: 0 0 0 0
@@ -67,8 +67,7 @@ commit 2: 3 0 0 0
 pub fn ac(rt: &HostRuntime, tally: Tally) -> Tally {
     play(
         rt,
-        TRIALS,
-        0,
+        Damaged::Nothing,
         b"trial AC: a count and a sum at the limit less two, less one, and at it; a weight that jumps over it
 query: 0 0 1 0
 update: 0 0 2 0

@@ -1,12 +1,12 @@
 // Trials AG to AI, of request E11: relaxed queries, each way to join, and code 13, which is tested last.
-use crate::play::{TRIALS, play};
+use crate::play::play;
+use crate::set::Damaged;
 use tally::Tally;
 
 pub fn ag(rt: &HostRuntime, tally: Tally) -> Tally {
     play(
         rt,
-        TRIALS,
-        0,
+        Damaged::Nothing,
         b"trial AG: an update joins when it asks to write, granted or waiting, when it is read under, when it reads and when it overwrites
 Relaxed: 0 0 1 0
 view transactions 0 1: 3
@@ -67,8 +67,7 @@ view versions 5 65: 0
 pub fn ah_and_ai(rt: &HostRuntime, tally: Tally) -> Tally {
     play(
         rt,
-        TRIALS,
-        0,
+        Damaged::Nothing,
         b"trial AH: relaxed queries and those past their writing are kept apart, and that is tested last
 update: 0 0 1 0
 write 1 5 51: 0 0 0 0

@@ -13,37 +13,33 @@
 //
 // Item 9 has two versions: the later query reads the newer and the earlier query the older one.
 use crate::line::{LINE_END, Line};
-use crate::set::{OF_NO_ROW, OF_SLOTS, Rows, set};
+use crate::set::{Damaged, Rows, set};
 use crate::state::Tables;
 use names::SLOTS;
 
 // The slot from which a text counts, so that what it calls a row is the row that is damaged.
-pub fn first_row(rows: Rows, row: u64) -> u64 {
-    if rows.of == OF_SLOTS {
-        return (rows.row % SLOTS + (SLOTS - row % SLOTS)) % SLOTS;
+pub fn first_row(damaged: Damaged, row: u64) -> u64 {
+    match damaged {
+        Damaged::Slot(slot) => (slot % SLOTS + (SLOTS - row % SLOTS)) % SLOTS,
+        _ => 0,
     }
-    0
 }
 
 // Fresh tables as a text sets them.
 fn made(from: u64, text: &[u8]) -> Tables {
     let rows = Rows {
-        of: OF_NO_ROW,
-        row: 0,
+        damaged: Damaged::NoRow,
         from,
     };
     let mut tables = Tables::fresh();
-    let mut line = Line::new();
-    let mut k: usize = 0;
-    while k < text.len() {
-        let byte = text[k];
+    let mut line = Line::default();
+    for &byte in text {
         if byte == LINE_END {
-            tables = set(tables, rows, line);
-            line = Line::new();
+            set(&mut tables, rows, &line);
+            line = Line::default();
         } else {
-            line = line.push(byte);
+            line.push(byte);
         }
-        k += 1;
     }
     tables
 }

@@ -8,7 +8,7 @@
 ghost use Rattle.std.specs.Prelude.{◌<◌};
 
 use crate::line::Line;
-use crate::state::{HEAD, TXNS, Tables, place};
+use crate::state::{Table, Tables, place};
 use names::{ITEMS, SLOTS};
 
 const PUT: u8 = b'p';
@@ -19,18 +19,19 @@ const HOLDER: u8 = b'h';
 
 const LEND: u8 = b'l';
 
-// Which rows a text damages.
-pub const OF_SLOTS: u8 = b's';
+// What a text damages: nothing, as a trial; words that stand in no row; or the row of a slot or an item.
+#[derive(Clone, Copy, PartialEq, Eq)]
+pub enum Damaged {
+    Nothing,
+    NoRow,
+    Slot(u64),
+    Item(u64),
+}
 
-pub const OF_ITEMS: u8 = b'i';
-
-pub const OF_NO_ROW: u8 = b'n';
-
-// Which rows are damaged, which of them, and the slot from which a text counts slots.
+// What is damaged, and the slot from which a text counts slots.
 #[derive(Clone, Copy)]
 pub struct Rows {
-    pub of: u8,
-    pub row: u64,
+    pub damaged: Damaged,
     pub from: u64,
 }
 
@@ -43,30 +44,28 @@ fn slot(rows: Rows, row: u64) -> u64
 
 // A row that a text names, as it stands in its table: a text that damages items counts them from
 // the one that is damaged.
-fn row_of(rows: Rows, table: u8, row: u64) -> u64 {
-    if table == TXNS {
-        return slot(rows, row);
+fn row_of(rows: Rows, table: Table, row: u64) -> u64 {
+    match (table, rows.damaged) {
+        (Table::Txns, _) => slot(rows, row),
+        (Table::Locks | Table::Versions, Damaged::Item(damaged)) => {
+            (damaged % ITEMS + row % ITEMS) % ITEMS
+        }
+        _ => row,
     }
-    if (rows.of == OF_ITEMS) & (table != HEAD) {
-        return (rows.row % ITEMS + row % ITEMS) % ITEMS;
-    }
-    row
 }
 
-pub fn set(tables: Tables, rows: Rows, line: Line) -> Tables {
-    let numbers = line.numbers;
-    let table = line.second;
-    let at = place(table, row_of(rows, table, numbers[0]), numbers[1]);
-    let kind = line.kind;
-    match kind {
-        PUT => tables.with(table, at, numbers[3]),
-        BIT => tables.with(
-            table,
-            at,
-            tables.word(table, at) | (1 << slot(rows, numbers[3])),
-        ),
-        HOLDER => tables.with(table, at, slot(rows, numbers[3]) + 1),
-        LEND => tables.lend(numbers[0], numbers[1], numbers[2]),
-        _ => Tables::fresh(),
+pub fn set(tables: &mut Tables, rows: Rows, line: &Line) {
+    let [row, word, _, value, ..] = line.numbers;
+    let table = Table::of(line.second);
+    let at = place(table, row_of(rows, table, row), word);
+    match line.kind {
+        Some(PUT) => tables.put(table, at, value),
+        Some(BIT) => {
+            let bits = tables.word(table, at);
+            tables.put(table, at, bits | (1 << slot(rows, value)));
+        }
+        Some(HOLDER) => tables.put(table, at, slot(rows, value) + 1),
+        Some(LEND) => tables.lend(line.numbers[0], line.numbers[1], line.numbers[2]),
+        _ => *tables = Tables::fresh(),
     }
 }

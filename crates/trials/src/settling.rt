@@ -1,12 +1,12 @@
 // Trials X to Z, of request E6: updates that end their writing, and then only check.
-use crate::play::{TRIALS, play};
+use crate::play::play;
+use crate::set::Damaged;
 use tally::Tally;
 
 pub fn x_and_y(rt: &HostRuntime, tally: Tally) -> Tally {
     play(
         rt,
-        TRIALS,
-        0,
+        Damaged::Nothing,
         b"trial X: an update ends its writing, reads by its stamp, and a query waits for it
 update: 0 0 1 0
 write 1 5 51: 0 0 0 0
@@ -97,8 +97,7 @@ view versions 6 1: 2
 pub fn z(rt: &HostRuntime, tally: Tally) -> Tally {
     play(
         rt,
-        TRIALS,
-        0,
+        Damaged::Nothing,
         b"trial Z: what settling is refused for, one before the other, and writing behind it with 32 items
 settle 1: 3 0 0 0
 query: 0 0 1 0

@@ -1,14 +1,14 @@
 // Trials I to L: versions, the clock, aborted writes and counts. In the transactions' head word 1 is the
 // clock; in a row of versions word 0 is the count.
-use crate::play::{TRIALS, play};
+use crate::play::play;
+use crate::set::Damaged;
 use tally::Tally;
 
 // A full row.
 pub fn i(rt: &HostRuntime, tally: Tally) -> Tally {
     play(
         rt,
-        TRIALS,
-        0,
+        Damaged::Nothing,
         b"trial I: a query at each stamp, the row is full, then one write more and the ends of two queries
 query: 0 0 1 0
 update: 0 0 2 0
@@ -190,8 +190,7 @@ view versions 0 0: 30
 pub fn j_to_l(rt: &HostRuntime, tally: Tally) -> Tally {
     play(
         rt,
-        TRIALS,
-        0,
+        Damaged::Nothing,
         b"trial J: the last stamp is given, then none, and who awaits is told so first
 put head 0 1: 4294967294
 update: 0 0 1 0

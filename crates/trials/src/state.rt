@@ -24,81 +24,64 @@ const LOCK_ROOM: usize = LOCK_WORDS + 1;
 
 const VERSION_ROOM: usize = VERSION_WORDS + 1;
 
-// How a trial's text calls the tables: by their first letters, and the two words before the
-// transactions' rows are the head.
-pub const HEAD: u8 = b'h';
+// A table by its name; the two words before the transactions' rows are the head.
+#[derive(Clone, Copy, PartialEq, Eq)]
+pub enum Table {
+    Head,
+    Txns,
+    Locks,
+    Versions,
+}
 
-pub const TXNS: u8 = b't';
-
-pub const LOCKS: u8 = b'l';
-
-pub const VERSIONS: u8 = b'v';
+impl Table {
+    // The table whose name begins with a letter; that of the versions, if it is no other's.
+    pub fn of(letter: Option<u8>) -> Table {
+        match letter {
+            Some(b'h') => Table::Head,
+            Some(b't') => Table::Txns,
+            Some(b'l') => Table::Locks,
+            _ => Table::Versions,
+        }
+    }
+}
 
 // How many words of each table are lent.
 #[derive(Clone, Copy)]
-pub struct Lent {
-    pub txns: usize,
-    pub locks: usize,
-    pub versions: usize,
+struct Lent {
+    txns: usize,
+    locks: usize,
+    versions: usize,
 }
 
 #[derive(Clone, Copy)]
 pub struct Tables {
-    pub txns: [u64; TXN_ROOM],
-    pub locks: [u64; LOCK_ROOM],
-    pub versions: [u64; VERSION_ROOM],
-    pub lent: Lent,
-}
-
-// What a call answered, and what it left.
-#[derive(Drop)]
-pub struct Called {
-    pub answer: Answer,
-    pub tables: Tables,
-}
-
-fn least(a: usize, b: usize) -> usize
-    ensures { result ≤ b }
-{
-    if a < b { a } else { b }
-}
-
-// The call on so many words of each.
-fn make_on(
-    txns: &mut [u64],
-    locks: &mut [u64],
-    versions: &mut [u64],
+    txns: [u64; TXN_ROOM],
+    locks: [u64; LOCK_ROOM],
+    versions: [u64; VERSION_ROOM],
     lent: Lent,
-    call: Call,
-) -> Answer {
-    let t = least(lent.txns, txns.len());
-    let l = least(lent.locks, locks.len());
-    let v = least(lent.versions, versions.len());
-    keeper::call(call, &mut txns[..t], &mut locks[..l], &mut versions[..v])
 }
 
-// What a call that waits notes in so many words.
-fn note_on(txns: &mut [u64], locks: &[u64], lent: Lent, call: Call) {
-    let t = least(lent.txns, txns.len());
-    let l = least(lent.locks, locks.len());
-    tally::note(&mut txns[..t], &locks[..l], call);
+// So many words of a table, or all that there are.
+fn at_most(words: &mut [u64], count: usize) -> &mut [u64] {
+    let end = count.min(words.len());
+    &mut words[..end]
 }
 
 // Where a word of a row stands in its table.
-pub fn place(table: u8, row: u64, word: u64) -> u64 {
+pub fn place(table: Table, row: u64, word: u64) -> u64 {
     match table {
-        HEAD => word % TXN_HEAD,
-        TXNS => TXN_HEAD + TXN_ROW * (row % SLOTS) + word % TXN_ROW,
-        LOCKS => LOCK_ROW * (row % ITEMS) + word % LOCK_ROW,
-        _ => VERSION_ROW * (row % ITEMS) + word % VERSION_ROW,
+        Table::Head => word % TXN_HEAD,
+        Table::Txns => TXN_HEAD + TXN_ROW * (row % SLOTS) + word % TXN_ROW,
+        Table::Locks => LOCK_ROW * (row % ITEMS) + word % LOCK_ROW,
+        Table::Versions => VERSION_ROW * (row % ITEMS) + word % VERSION_ROW,
     }
 }
 
 impl Tables {
     pub fn fresh() -> Tables {
-        let mut txns = [0u64; TXN_ROOM];
-        let mut locks = [0u64; LOCK_ROOM];
-        let mut versions = [0u64; VERSION_ROOM];
+        let mut txns = [0; TXN_ROOM];
+        let mut locks = [0; LOCK_ROOM];
+        let mut versions = [0; VERSION_ROOM];
         fresh::fresh(
             &mut txns[..TXN_WORDS],
             &mut locks[..LOCK_WORDS],
@@ -116,105 +99,65 @@ impl Tables {
         }
     }
 
-    pub fn call(self, call: Call) -> Called {
-        let mut txns = self.txns;
-        let mut locks = self.locks;
-        let mut versions = self.versions;
-        let lent = self.lent;
-        let answer = make_on(&mut txns, &mut locks, &mut versions, lent, call);
-        Called {
-            answer,
-            tables: Tables {
-                txns,
-                locks,
-                versions,
-                lent,
-            },
-        }
+    // A call on what is lent.
+    pub fn call(&mut self, call: Call) -> Answer {
+        keeper::call(
+            call,
+            at_most(&mut self.txns, self.lent.txns),
+            at_most(&mut self.locks, self.lent.locks),
+            at_most(&mut self.versions, self.lent.versions),
+        )
     }
 
     // A word of a table.
-    pub fn word(self, table: u8, at: u64) -> u64 {
-        let txns = self.txns;
-        let locks = self.locks;
-        let versions = self.versions;
+    pub fn word(&self, table: Table, at: u64) -> u64 {
         match table {
-            HEAD | TXNS => tally::word(&txns, at as usize),
-            LOCKS => tally::word(&locks, at as usize),
-            _ => tally::word(&versions, at as usize),
+            Table::Head | Table::Txns => tally::word(&self.txns, at as usize),
+            Table::Locks => tally::word(&self.locks, at as usize),
+            Table::Versions => tally::word(&self.versions, at as usize),
         }
     }
 
     // A word of a table set.
-    pub fn with(self, table: u8, at: u64, value: u64) -> Tables {
-        let mut txns = self.txns;
-        let mut locks = self.locks;
-        let mut versions = self.versions;
+    pub fn put(&mut self, table: Table, at: u64, value: u64) {
         match table {
-            HEAD | TXNS => tally::put(&mut txns, at as usize, value),
-            LOCKS => tally::put(&mut locks, at as usize, value),
-            _ => tally::put(&mut versions, at as usize, value),
-        }
-        let lent = self.lent;
-        Tables {
-            txns,
-            locks,
-            versions,
-            lent,
+            Table::Head | Table::Txns => tally::put(&mut self.txns, at as usize, value),
+            Table::Locks => tally::put(&mut self.locks, at as usize, value),
+            Table::Versions => tally::put(&mut self.versions, at as usize, value),
         }
     }
 
     // So many words lent.
-    pub fn lend(self, txns: u64, locks: u64, versions: u64) -> Tables {
-        let kept_txns = self.txns;
-        let kept_locks = self.locks;
-        let kept_versions = self.versions;
-        Tables {
-            txns: kept_txns,
-            locks: kept_locks,
-            versions: kept_versions,
-            lent: Lent {
-                txns: txns as usize,
-                locks: locks as usize,
-                versions: versions as usize,
-            },
-        }
+    pub fn lend(&mut self, txns: u64, locks: u64, versions: u64) {
+        self.lent = Lent {
+            txns: txns as usize,
+            locks: locks as usize,
+            versions: versions as usize,
+        };
     }
 
-    // The tables as a refusal leaves them, and a wait, which notes what is awaited.
-    pub fn noted(self, code: u64, call: Call) -> Tables {
-        let mut txns = self.txns;
-        let locks = self.locks;
-        let versions = self.versions;
-        let lent = self.lent;
+    // What an answer notes in the tables: a wait what is awaited, and a refusal nothing.
+    pub fn note(&mut self, code: u64, call: Call) {
         if code == WAIT {
-            note_on(&mut txns, &locks, lent, call);
-        }
-        Tables {
-            txns,
-            locks,
-            versions,
-            lent,
+            tally::note(
+                at_most(&mut self.txns, self.lent.txns),
+                at_most(&mut self.locks, self.lent.locks),
+                call,
+            );
         }
     }
 
     // How many words differ from those of other tables.
-    pub fn changed(self, others: Tables) -> usize
-        ensures { result ≡ differing self.txns others.txns + differing self.locks others.locks + differing self.versions others.versions }
+    pub fn changed(&self, others: &Tables) -> usize
+        ensures { result ≡ differing self.now.txns others.now.txns + differing self.now.locks others.now.locks + differing self.now.versions others.now.versions }
     {
-        let txns = self.txns;
-        let locks = self.locks;
-        let versions = self.versions;
-        let other_txns = others.txns;
-        let other_locks = others.locks;
-        let other_versions = others.versions;
         tally::changed(
-            &txns,
-            &locks,
-            &versions,
-            &other_txns,
-            &other_locks,
-            &other_versions,
+            &self.txns,
+            &self.locks,
+            &self.versions,
+            &others.txns,
+            &others.locks,
+            &others.versions,
         )
     }
 }

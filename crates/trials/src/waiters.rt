@@ -1,12 +1,12 @@
 // Trials S to V, of request E4, and W, of request E5: those who wait on an item stand in a line.
-use crate::play::{TRIALS, play};
+use crate::play::play;
+use crate::set::Damaged;
 use tally::Tally;
 
 pub fn s_to_v(rt: &HostRuntime, tally: Tally) -> Tally {
     play(
         rt,
-        TRIALS,
-        0,
+        Damaged::Nothing,
         b"trial S: readers pass a waiting writer no more
 update: 0 0 1 0
 update: 0 0 2 0
@@ -85,8 +85,7 @@ write 1 6 61: 1 0 0 0
 pub fn w(rt: &HostRuntime, tally: Tally) -> Tally {
     play(
         rt,
-        TRIALS,
-        0,
+        Damaged::Nothing,
         b"trial W: as many wait in one line as there are slots
 update: 0 0 1 0
 update: 0 0 2 0

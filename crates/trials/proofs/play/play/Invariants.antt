@@ -1,6 +1,0 @@
--- Fewer bytes are left each time.
-use Rattle.std.proofs.Common.{length, ◌-◌}
-use Rattle.trials.proofs.play.play.Given as goal
-
-abbrev pub decreases-loop-k : goal.decreases-loop-k
-decreases-loop-k l = length l.text - l.k
