@@ -31,6 +31,7 @@ fn digits(line: &[u8], from: usize) -> Option<(u64, usize)>
 }
 
 // A space and the number after it, with the index after its last digit.
+#[tactic(auto, using(texts::proofs::Places::ended, texts::proofs::Places::opened), unfolding(crate::specs::Numbers::number, crate::specs::Numbers::some_digits))]
 pub fn number(line: &[u8], at: usize) -> Option<(u64, usize)>
     ensures { taken_by line.now result ≡ number (drop at line.now) }
 {
