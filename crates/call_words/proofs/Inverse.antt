@@ -8,7 +8,7 @@ use borrow.Author.Tests.{eqb-true, eq-eqb}
 use Rattle.rules.specs.Answers.{Call, BeginUpdate, BeginQuery, Read, Write, Commit, Abort, Settle, BeginRelaxed}
 use Rattle.rules.proofs.Tests.{and_left, and_right, is_true}
 use Rattle.call_words.specs.declared.Fields.{Fields}
-use Rattle.call_words.specs.declared.CallOf.TheVariants.{Known, Unknown}
+use Rattle.std.proofs.Common.{Some, None}
 use Rattle.call_words.specs.Calls.{fields_of, call_in, same_fields, is_call, call_of}
 
 -- ---- the same fields
@@ -49,7 +49,7 @@ pub is_call-fields_of : (c : Call) → is_call (fields_of c) ≡ true
 unfolding is_call
 is_call-fields_of c = rw (call_in-fields_of c) (same_self (fields_of c))
 
-pub call_of-fields_of : (c : Call) → call_of (fields_of c) ≡ Known c
+pub call_of-fields_of : (c : Call) → call_of (fields_of c) ≡ Some c
 unfolding call_of
 call_of-fields_of c = rw (is_call-fields_of c, call_in-fields_of c)
 
@@ -60,23 +60,23 @@ unfolding is_call
 fields_of-call_in f h = sym (same_is f (fields_of (call_in f)) h)
 
 -- what is known of words that are a call, and of words that are none
-pub known : (f : Fields) (c : Call) → call_of f ≡ Known c → (is_call f ≡ true) × (call_in f ≡ c)
+pub known : (f : Fields) (c : Call) → call_of f ≡ Some c → (is_call f ≡ true) × (call_in f ≡ c)
 unfolding call_of
 known f c e = go (is_call f) refl
   where
     go : (b : Bool) → is_call f ≡ b → (is_call f ≡ true) × (call_in f ≡ c)
-    go true h = let k : Known (call_in f) ≡ Known c = rw h at e in (h, (cc))
-    go false h = let k : Unknown ≡ Known c = rw h at e in let z : ◌≡◌ {A = ℕ} 0 1 = cc in absurd (omega arith)
+    go true h = let k : Some (call_in f) ≡ Some c = rw h at e in (h, (cc))
+    go false h = let k : None ≡ Some c = rw h at e in let z : ◌≡◌ {A = ℕ} 0 1 = cc in absurd (omega arith)
 
-pub unknown : (f : Fields) → call_of f ≡ Unknown → is_call f ≡ false
+pub unknown : (f : Fields) → call_of f ≡ None → is_call f ≡ false
 unfolding call_of
 unknown f e = go (is_call f) refl
   where
     go : (b : Bool) → is_call f ≡ b → is_call f ≡ false
-    go true h = let k : Known (call_in f) ≡ Unknown = rw h at e in let z : ◌≡◌ {A = ℕ} 0 1 = cc in absurd (omega arith)
+    go true h = let k : Some (call_in f) ≡ None = rw h at e in let z : ◌≡◌ {A = ℕ} 0 1 = cc in absurd (omega arith)
     go false h = h
 
-pub fields_of-call_of : (f : Fields) (c : Call) → call_of f ≡ Known c → fields_of c ≡ f
+pub fields_of-call_of : (f : Fields) (c : Call) → call_of f ≡ Some c → fields_of c ≡ f
 fields_of-call_of f c e =
     let k = known f c e in
     rw (sym k.1) (fields_of-call_in f (subst T (sym k.0) tt))

@@ -2,11 +2,9 @@
 -- fields are 0." Request E6: "A new call (`settle number` in the runner, kind 7 in journals)", and request E11:
 -- "(`relaxed` in the runner, kind 8 ..)". `fields_of` says this of each call;
 -- `call_of` is the call whose fields words are, if there is one.
-use Rattle.std.specs.Prelude.{ℕ, Bool, cond, ◌&&◌, List, [], ◌∷◌, eqb, leb}
+use Rattle.std.specs.Prelude.{ℕ, Bool, cond, ◌&&◌, List, [], ◌∷◌, eqb, leb, Option, Some, None}
 use Rattle.rules.specs.Answers.{Call, BeginUpdate, BeginQuery, Read, Write, Commit, Abort, Settle, BeginRelaxed}
 use Rattle.call_words.specs.declared.Fields.{Fields}
-use Rattle.call_words.specs.declared.CallOf.{CallOf}
-use Rattle.call_words.specs.declared.CallOf.TheVariants.{Known, Unknown}
 
 -- ---- the kinds, in the order of the runner's words
 
@@ -93,5 +91,5 @@ same_fields f g =
 unfoldable pub is_call : Fields → Bool
 is_call f = same_fields f (fields_of (call_in f))
 
-unfoldable pub call_of : Fields → CallOf
-call_of f = cond (is_call f) (Known (call_in f)) Unknown
+unfoldable pub call_of : Fields → Option Call
+call_of f = cond (is_call f) (Some (call_in f)) None

@@ -6,11 +6,12 @@
 #![tactic(auto, unfolding(crate::specs::Calls::fields_of, crate::specs::Calls::call_in))]
 
 ghost use Rattle.std.specs.Prelude.{◌≡◌};
-ghost use Rattle.call_words.specs.Calls.{fields, fields_of, known_kind, call_in, same_fields, call_of};
+ghost use Rattle.call_words.specs.Calls.{fields, fields_of, known_kind, call_in, call_of};
 
 use names::Call;
 
 // The kinds, in the order of the runner's words.
+// (a) numbers, since a journal's file has them as words (`fields_of`, and its bytes).
 pub const BEGIN_UPDATE: u64 = 1;
 
 pub const BEGIN_QUERY: u64 = 2;
@@ -33,19 +34,12 @@ const FIRST: u64 = BEGIN_UPDATE;
 const LAST: u64 = BEGIN_RELAXED;
 
 // The four words of a call.
-#[derive(Clone, Copy)]
+#[derive(Clone, Copy, PartialEq, Eq)]
 pub struct Fields {
     pub kind: u64,
     pub number: u64,
     pub item: u64,
     pub value: u64,
-}
-
-// What four words say.
-#[derive(Clone, Copy)]
-pub enum CallOf {
-    Known(Call),
-    Unknown,
 }
 
 fn words(kind: u64, number: u64, item: u64, value: u64) -> Fields
@@ -111,20 +105,15 @@ pub fn call_in(fields: Fields) -> Call
     }
 }
 
-fn same_fields(a: Fields, b: Fields) -> bool
-    ensures { result ≡ same_fields a b }
-{
-    (a.kind == b.kind) & ((a.number == b.number) & ((a.item == b.item) & (a.value == b.value)))
-}
-
-// The call whose words these are.
-pub fn call_of(fields: Fields) -> CallOf
+// The call whose words these are, if there is one.
+#[tactic(auto, unfolding(crate::specs::Calls::call_of, crate::specs::Calls::is_call, crate::specs::Calls::same_fields))]
+pub fn call_of(fields: Fields) -> Option<Call>
     ensures { result ≡ call_of fields }
 {
     let call = call_in(fields);
-    if same_fields(fields, fields_of(call)) {
-        CallOf::Known(call)
+    if fields == fields_of(call) {
+        Some(call)
     } else {
-        CallOf::Unknown
+        None
     }
 }

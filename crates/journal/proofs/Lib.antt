@@ -4,6 +4,5 @@ pub mod WordLaws
 pub mod RecordLaws
 pub mod Sections
 pub mod RoundTrip
-pub mod Writing
 pub mod Back
 pub mod Examples

@@ -1,6 +1,6 @@
 -- Records of four words: their length, that they are read back, and which bytes they are read from.
 use Prim.Native.Nat.{ℕ, ◌+◌, ◌*◌, ◌≤◌}
-use mathlib.Core.Path.{◌≡◌, sym, ◌∙◌}
+use mathlib.Core.Path.{◌≡◌, ◌∙◌}
 use mathlib.Core.List.{List, ◌++◌, append_assoc}
 use native.Mathlib.Omega.{arith}
 use lib.ListN.{length, take, drop, length-append}
@@ -124,25 +124,3 @@ answer-piece at k bs h =
       number = word_piece (at + 2 * word_size) k bs (omega arith) i;
       looked = word_piece (at + 3 * word_size) k bs (omega arith) i;
     }
-
--- word by word, from what stands from the place on
-
-pub call-words : (at : ℕ) (bs : List ℕ) {rest : List ℕ} {k n x v : ℕ}
-    → rest ≡ drop at bs
-    → k ≡ word_at 0 rest
-    → n ≡ word_at word_size rest
-    → x ≡ word_at (2 * word_size) rest
-    → v ≡ word_at (3 * word_size) rest
-    → fields k n x v ≡ call_at at bs
-unfolding call_at
-call-words at bs e k n x v = rw (k, n, x, v, e) (sym (call-drop at bs))
-
-pub answer-words : (at : ℕ) (bs : List ℕ) {rest : List ℕ} {k v n l : ℕ}
-    → rest ≡ drop at bs
-    → k ≡ word_at 0 rest
-    → v ≡ word_at word_size rest
-    → n ≡ word_at (2 * word_size) rest
-    → l ≡ word_at (3 * word_size) rest
-    → record { code = k; value = v; number = n; looked = l } ≡ answer_at at bs
-unfolding answer_at
-answer-words at bs e k v n l = rw (k, v, n, l, e) (sym (answer-drop at bs))

@@ -4,8 +4,10 @@ use mathlib.Core.Path.{◌≡◌, refl, sym, ap, ◌∙◌}
 use mathlib.Core.List.{List, [], ◌∷◌, ◌++◌}
 use native.Mathlib.Nat.{pow-suc, le_of_suc-le-suc, not-suc-le-zero}
 use native.Mathlib.Omega.{arith}
-use lib.ListN.{length, get_or, take, drop}
+use lib.ListN.{length, take, drop, replicate}
 use lib.Seq.{get_or-drop, drop-drop, drop_at}
+use Rattle.std.specs.Int.{from_le_bytes, to_le_bytes}
+use Rattle.std.proofs.Common.{w64}
 use Rattle.journal.proofs.Lists.{drop-take}
 use Rattle.journal.specs.Words.{word_size, bytes_of, number_in, word_bytes, word_at, greatest}
 
@@ -59,21 +61,32 @@ pub word_piece : (at k : ℕ) (bs : List ℕ) → at + word_size ≤ k → word_
 unfolding word_at
 word_piece at k bs h = rw (drop-take at k bs) (number_in-take word_size (k - at) (drop at bs) (omega arith))
 
--- byte by byte
-pub word-bytes : (bs : List ℕ)
-    → word_at 0 (get_or bs 0 0 ∷ get_or bs 1 0 ∷ get_or bs 2 0 ∷ get_or bs 3 0 ∷ get_or bs 4 0 ∷ get_or bs 5 0 ∷ get_or bs 6 0 ∷ get_or bs 7 0 ∷ [])
-    ≡ word_at 0 bs
-unfolding word_at number_in
-word-bytes bs = simp (get_or-drop, drop-drop)
+-- the library's words for a word's bytes and for the word of bytes
 
-pub word-joined : (bs : List ℕ) {a b c d e f g h : ℕ}
-    → a ≡ get_or bs 0 0
-    → b ≡ get_or bs 1 0
-    → c ≡ get_or bs 2 0
-    → d ≡ get_or bs 3 0
-    → e ≡ get_or bs 4 0
-    → f ≡ get_or bs 5 0
-    → g ≡ get_or bs 6 0
-    → h ≡ get_or bs 7 0
-    → word_at 0 (a ∷ b ∷ c ∷ d ∷ e ∷ f ∷ g ∷ h ∷ []) ≡ word_at 0 bs
-word-joined bs a b c d e f g h = rw (a, b, c, d, e, f, g, h) (word-bytes bs)
+pub word-of_le : (bs : List ℕ) → from_le_bytes w64 bs ≡ word_at 0 bs
+unfolding word_at number_in
+word-of_le bs = simp (get_or-drop, drop-drop) (omega arith)
+
+pub word-as_le : (w : ℕ) → to_le_bytes w64 w ≡ word_bytes w
+unfolding word_bytes bytes_of
+word-as_le w =
+    let two : w / 256 / 256 ≡ w / 256 ^ 2 = omega arith in
+    let three : w / 256 ^ 2 / 256 ≡ w / 256 ^ 3 = omega arith in
+    let four : w / 256 ^ 3 / 256 ≡ w / 256 ^ 4 = omega arith in
+    let five : w / 256 ^ 4 / 256 ≡ w / 256 ^ 5 = omega arith in
+    let six : w / 256 ^ 5 / 256 ≡ w / 256 ^ 6 = omega arith in
+    let seven : w / 256 ^ 6 / 256 ≡ w / 256 ^ 7 = omega arith in
+    rw (two, three, four, five, six, seven)
+
+-- bytes that are too few, filled up with 0
+
+number_in-zeros : (n k : ℕ) (bs : List ℕ) → number_in n (bs ++ replicate k 0) ≡ number_in n bs
+unfolding number_in
+number_in-zeros zero k bs = refl
+number_in-zeros (suc n) zero [] = refl
+number_in-zeros (suc n) (suc k) [] = ap (λ (m : ℕ). 0 + 256 * m) (number_in-zeros n k [])
+number_in-zeros (suc n) k (b ∷ bs) = ap (λ (m : ℕ). b + 256 * m) (number_in-zeros n k bs)
+
+pub word-zeros : (k : ℕ) (bs : List ℕ) → word_at 0 (bs ++ replicate k 0) ≡ word_at 0 bs
+unfolding word_at
+word-zeros k bs = number_in-zeros word_size k bs

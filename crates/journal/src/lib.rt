@@ -26,5 +26,5 @@ const PIECE: u64 = 2048;
 pub fn next_piece(left: u64) -> u64
     ensures { result ≡ next_piece left }
 {
-    if left < PIECE { left } else { PIECE }
+    left.min(PIECE)
 }

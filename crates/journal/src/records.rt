@@ -1,6 +1,6 @@
 // Calls and answers as bytes: four words each.
-ghost use Rattle.std.specs.Prelude.{◌≡◌, ◌++◌};
-ghost use Rattle.journal.specs.Words.{word_bytes};
+ghost use Rattle.std.specs.Prelude.{◌≡◌, [], ◌∷◌, ◌+◌, ◌*◌, ◌++◌};
+ghost use Rattle.journal.specs.Words.{word_size, word_bytes, word_at};
 ghost use Rattle.journal.specs.Format.{call_bytes, answer_bytes, call_at, answer_at};
 ghost use Rattle.texts.specs.Written.{buffer, put};
 
@@ -16,29 +16,44 @@ const THIRD: usize = 2 * WORD;
 
 const FOURTH: usize = 3 * WORD;
 
+// The four words at a place; a byte that is missing counts as 0.
+fn four(bytes: &[u8], at: usize) -> [u64; 4]
+    ensures { result ≡ word_at at bytes.now ∷ word_at (at + word_size) bytes.now ∷ word_at (at + 2 * word_size) bytes.now ∷ word_at (at + 3 * word_size) bytes.now ∷ [] }
+{
+    let rest = from(bytes, at);
+    [
+        word(rest, 0),
+        word(rest, SECOND),
+        word(rest, THIRD),
+        word(rest, FOURTH),
+    ]
+}
+
 // The call at a place; a byte that is missing counts as 0.
+#[tactic(auto, unfolding(crate::specs::Format::call_at))]
 pub fn call(bytes: &[u8], at: usize) -> Fields
     ensures { result ≡ call_at at bytes.now }
 {
-    let rest = from(bytes, at);
+    let [kind, number, item, value] = four(bytes, at);
     Fields {
-        kind: word(rest, 0),
-        number: word(rest, SECOND),
-        item: word(rest, THIRD),
-        value: word(rest, FOURTH),
+        kind,
+        number,
+        item,
+        value,
     }
 }
 
 // The answer at a place; a byte that is missing counts as 0.
+#[tactic(auto, unfolding(crate::specs::Format::answer_at))]
 pub fn answer(bytes: &[u8], at: usize) -> Answer
     ensures { result ≡ answer_at at bytes.now }
 {
-    let rest = from(bytes, at);
+    let [code, value, number, looked] = four(bytes, at);
     Answer {
-        code: word(rest, 0),
-        value: word(rest, SECOND),
-        number: word(rest, THIRD),
-        looked: word(rest, FOURTH),
+        code,
+        value,
+        number,
+        looked,
     }
 }
 
@@ -58,6 +73,7 @@ fn put_four(out: &mut [u8], at: usize, a: u64, b: u64, c: u64, d: u64) -> usize
 
 // Puts a call into a buffer at a place, and answers the next place; where there is no room, nothing
 // is written and the place is answered.
+#[tactic(auto, unfolding(crate::specs::Format::call_bytes))]
 pub fn put_call(out: &mut [u8], at: usize, fields: Fields) -> usize
     ensures { buffer out.new result ≡ put (call_bytes fields) (buffer out.old at) }
 {
@@ -73,6 +89,7 @@ pub fn put_call(out: &mut [u8], at: usize, fields: Fields) -> usize
 
 // Puts an answer into a buffer at a place, and answers the next place; where there is no room,
 // nothing is written and the place is answered.
+#[tactic(auto, unfolding(crate::specs::Format::answer_bytes))]
 pub fn put_answer(out: &mut [u8], at: usize, answer: Answer) -> usize
     ensures { buffer out.new result ≡ put (answer_bytes answer) (buffer out.old at) }
 {

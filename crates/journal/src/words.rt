@@ -1,52 +1,22 @@
 // Words as bytes, the lowest first.
-ghost use Rattle.std.specs.Prelude.{◌≡◌, [], ◌∷◌, ◌+◌, ◌≤◌, leb, length, get_or, drop};
+ghost use Rattle.std.specs.Prelude.{◌≡◌, ◌+◌, ◌<◌, leb, length, drop};
 ghost use Rattle.journal.specs.Words.{word_size, word_bytes, word_at};
 ghost use Rattle.texts.specs.Written.{buffer, put};
 
 use super::WORD;
 
-// The word of eight bytes.
-fn joined(a: u8, b: u8, c: u8, d: u8, e: u8, f: u8, g: u8, h: u8) -> u64
-    ensures { result ≡ word_at 0 (a ∷ b ∷ c ∷ d ∷ e ∷ f ∷ g ∷ h ∷ []) }
+// Bytes that are too few for a word, filled up with 0.
+fn filled_up(bytes: &[u8]) -> [u8; WORD]
+    requires { length bytes.now < word_size }
+    ensures { word_at 0 result ≡ word_at 0 bytes.now }
 {
-    let high = e as u64 + 256 * (f as u64 + 256 * (g as u64 + 256 * (h as u64)));
-    a as u64 + 256 * (b as u64 + 256 * (c as u64 + 256 * (d as u64 + 256 * high)))
-}
-
-// The word at the start of bytes that have it whole.
-fn whole(bytes: &[u8]) -> u64
-    requires { word_size ≤ length bytes.now }
-    ensures { result ≡ word_at 0 bytes.now }
-{
-    joined(
-        bytes[0], bytes[1], bytes[2], bytes[3], bytes[4], bytes[5], bytes[6], bytes[7],
-    )
-}
-
-// A byte, or 0 where it is missing.
-fn byte(bytes: &[u8], at: usize) -> u8
-    ensures { result ≡ get_or bytes.now at 0 }
-{
-    if at < bytes.len() { bytes[at] } else { 0 }
-}
-
-// The word at the start of bytes that may be too few.
-fn short(bytes: &[u8]) -> u64
-    ensures { result ≡ word_at 0 bytes.now }
-{
-    joined(
-        byte(bytes, 0),
-        byte(bytes, 1),
-        byte(bytes, 2),
-        byte(bytes, 3),
-        byte(bytes, 4),
-        byte(bytes, 5),
-        byte(bytes, 6),
-        byte(bytes, 7),
-    )
+    let mut word = [0; WORD];
+    word[..bytes.len()].copy_from_slice(bytes);
+    word
 }
 
 // What stands from a place on.
+#[tactic(auto, using(crate::proofs::Lists::take_rest))]
 pub(crate) fn from(bytes: &[u8], at: usize) -> &[u8]
     ensures { result.now ≡ drop at bytes.now }
 {
@@ -62,10 +32,11 @@ pub fn word(bytes: &[u8], at: usize) -> u64
     ensures { result ≡ word_at at bytes.now }
 {
     let rest = from(bytes, at);
-    if rest.len() < WORD {
-        return short(rest);
-    }
-    whole(rest)
+    let word = match rest.first_chunk() {
+        Some(word) => *word,
+        None => filled_up(rest),
+    };
+    u64::from_le_bytes(word)
 }
 
 // Whether so many bytes have room from a place on.
@@ -78,20 +49,6 @@ pub(crate) fn room(size: usize, at: usize, need: usize) -> bool
     need <= size - at
 }
 
-// Fills eight bytes with a word's.
-fn fill(out: &mut [u8], w: u64)
-    requires { length out.old ≡ word_size }
-    ensures { out.new ≡ word_bytes w }
-{
-    let mut rest = w;
-    let mut k: usize = 0;
-    while k < WORD {
-        out[k] = (rest % 256) as u8;
-        rest = rest / 256;
-        k += 1;
-    }
-}
-
 // Puts a word into a buffer at a place, and answers the next place; where there is no room, nothing
 // is written and the place is answered.
 pub fn put_word(out: &mut [u8], at: usize, w: u64) -> usize
@@ -101,6 +58,6 @@ pub fn put_word(out: &mut [u8], at: usize, w: u64) -> usize
         return at;
     }
     let end = at + WORD;
-    fill(&mut out[at..end], w);
+    out[at..end].copy_from_slice(&w.to_le_bytes());
     end
 }

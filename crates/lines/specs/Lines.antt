@@ -1,5 +1,5 @@
 -- How input is cut into lines (`lines_of`), and what is kept of a line that is not ended yet (`Held`): a chunk at a time.
-use Rattle.std.specs.Prelude.{ℕ, ◌<◌, ◌≤◌, ◌≡◌, Bool, true, cond, List, [], ◌∷◌, ◌++◌, eqb, leb, ltb, length, take, drop}
+use Rattle.std.specs.Prelude.{ℕ, ◌<◌, ◌≤◌, ◌≡◌, Bool, true, cond, List, [], ◌∷◌, ◌++◌, eqb, leb, ltb, length, take, drop, Option, Some, None}
 use Rattle.lines.specs.declared.Lines.{Lines}
 use Rattle.lines.specs.declared.Next.{Next}
 
@@ -51,13 +51,17 @@ unfoldable pub gather : Held → List ℕ → Found
 gather h [] = unended h
 gather h (b ∷ bs) = let on = gather (more h b) bs in cond (eqb b 10) (ends h bs) on
 
+abbrev pub found_at : List ℕ → Held → Option ℕ → Found
+found_at chunk h (Some k) = ends h (drop k chunk)
+found_at chunk h None = unended h
+
 unfoldable pub found_by : List ℕ → Next → Found
-found_by chunk r = cond r.ended (ends (held_by r.lines) (drop r.at chunk)) (unended (held_by r.lines))
+found_by chunk r = found_at chunk (held_by r.lines) r.at
 
 -- the right answer, and an index past the line's end
 pub record Goes (h : Held) (chunk : List ℕ) (from : ℕ) (r : Next) : Type 0 where
   pub found : found_by chunk r ≡ gather h (drop from chunk)
-  pub onward : r.ended ≡ true → (from < r.at) × (r.at ≤ length chunk)
+  pub onward : (k : ℕ) → r.at ≡ Some k → (from < k) × (k ≤ length chunk)
 
 -- ---- chunk after chunk
 

@@ -8,19 +8,19 @@ ghost use Rattle.lines.specs.Lines.{short, more, begun, held_by, Goes};
 
 // The bytes of the line that is not ended yet, and how many there are: one more than the longest
 // line has where there are too many to be kept.
+// (a) no heap: a line's bytes stand in the struct, and their count beside them.
 #[derive(Clone, Copy)]
 pub struct Lines {
     pub bytes: [u8; 80],
     pub count: usize,
 }
 
-// Where a line ended: the line, and the index after its byte 10. Where none did, the chunk is used
-// up, and the line goes on in the next one.
+// What stands at the end of a line or of the chunk: the line, and where it ended the index after its
+// byte 10. Where it did not, the chunk is used up, and the line goes on in the next one.
 #[derive(Clone, Copy)]
 pub struct Next {
     pub lines: Lines,
-    pub at: usize,
-    pub ended: bool,
+    pub at: Option<usize>,
 }
 
 // The longest line that is kept.
@@ -30,6 +30,7 @@ const LINE_END: u8 = 10;
 
 impl Lines {
     // No byte yet: the start of the input, or of a line.
+    #[tactic(auto, unfolding(crate::specs::Lines::held_by))]
     pub fn new() -> Self
         ensures { held_by result ≡ short [] }
     {
@@ -40,6 +41,7 @@ impl Lines {
     }
 
     // A byte more.
+    #[tactic(auto, using(crate::proofs::Holding::push_short, crate::proofs::Holding::push_long))]
     pub fn push(self, byte: u8) -> Self
         ensures { held_by result ≡ more (held_by self) byte }
     {
@@ -59,6 +61,7 @@ impl Lines {
     }
 
     // Whether the end of input ends a line here.
+    #[tactic(auto, using(crate::proofs::Holding::begun_is))]
     pub fn begun(self) -> bool
         ensures { result ≡ begun (held_by self) }
     {
@@ -70,23 +73,16 @@ impl Lines {
         ensures { Goes (held_by self) chunk.now from result }
     {
         let mut lines = self;
-        let mut k = from;
-        while k < chunk.len() {
+        for k in from..chunk.len() {
             let byte = chunk[k];
-            k += 1;
             if byte == LINE_END {
                 return Next {
                     lines,
-                    at: k,
-                    ended: true,
+                    at: Some(k + 1),
                 };
             }
             lines = lines.push(byte);
         }
-        Next {
-            lines,
-            at: k,
-            ended: false,
-        }
+        Next { lines, at: None }
     }
 }

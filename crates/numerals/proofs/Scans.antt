@@ -24,10 +24,6 @@ pub digit_high : (b : ℕ) → digit b ≡ true → b ≤ 57
 digit_high b e = leb-true b 57 (and_right (leb 48 b) (leb b 57) e)
 
 module _ (l : List ℕ) (k v : ℕ) where
-  pub digits_end : length l ≤ k → digits_from v (drop k l) ≡ upto v (drop k l)
-  unfolding digits_from
-  digits_end h = rw (ended l k h)
-
   pub digits_stop : k < length l → digit (get_or l k 0) ≡ false → digits_from v (drop k l) ≡ upto v (drop k l)
   unfolding digits_from
   digits_stop h e = rw (opened l k h, e)
@@ -39,6 +35,11 @@ module _ (l : List ℕ) (k v : ℕ) where
   pub digits_more : k < length l → digit (get_or l k 0) ≡ true → v * 10 + (get_or l k 0 - 48) ≤ greatest → digits_from v (drop k l) ≡ digits_from (v * 10 + (get_or l k 0 - 48)) (drop (k + 1) l)
   unfolding digits_from
   digits_more h e g = rw (opened l k h, e, le-leb (v * 10 + (get_or l k 0 - 48)) greatest g)
+
+-- past the end one place is as another
+pub digits_end : (l : List ℕ) (j k v : ℕ) → length l ≤ j → length l ≤ k → upto v (drop j l) ≡ digits_from v (drop k l)
+unfolding digits_from
+digits_end l j k v g h = rw (ended l j g, ended l k h)
 
 module _ (l : List ℕ) (k : ℕ) where
   pub number_end : length l ≤ k → number (drop k l) ≡ no

@@ -1,7 +1,5 @@
 -- "A number is one or more digits, leading zeros allowed": as a relation, and as it is read.
-use Rattle.std.specs.Prelude.{ℕ, ◌+◌, ◌-◌, ◌*◌, ◌<◌, ◌≤◌, ◌≡◌, Bool, true, ◌&&◌, cond, List, [], ◌∷◌, ◌++◌, eqb, leb, length, drop}
-use Rattle.numerals.specs.declared.numbers.Taken.{Taken}
-use Rattle.numerals.specs.declared.numbers.Taken.TheVariants.{Upto, No}
+use Rattle.std.specs.Prelude.{ℕ, ◌+◌, ◌-◌, ◌*◌, ◌<◌, ◌≤◌, ◌≡◌, Bool, true, ◌&&◌, cond, List, [], ◌∷◌, ◌++◌, eqb, leb, length, drop, Option, Some, None}
 
 -- `0` to `9`
 abbrev pub digit : ℕ → Bool
@@ -58,6 +56,6 @@ number [] = no
 number (b ∷ bs) = cond (eqb b 32) (some_digits bs) no
 
 -- what the code says of a line by an index
-abbrev pub taken_by : List ℕ → Taken → Read
-taken_by l (Upto n k) = upto n (drop k l)
-taken_by l No = no
+abbrev pub taken_by : List ℕ → Option (ℕ × ℕ) → Read
+taken_by l (Some p) = upto p.0 (drop p.1 l)
+taken_by l None = no

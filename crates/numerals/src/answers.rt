@@ -4,7 +4,7 @@ ghost use Rattle.numerals.specs.Print.{decimal, followed, answer_line, bad_line}
 ghost use Rattle.texts.specs.Written.{Wrote};
 
 use names::Answer;
-use texts::put;
+use texts::{put, put_text};
 
 fn glyph(digit: u64) -> u8
     requires { digit < 10 }
@@ -51,8 +51,5 @@ pub fn print_bad(out: &mut [u8], at: usize) -> usize
     requires { at + 4 ≤ length out.old }
     ensures { Wrote out.old at bad_line out.new result }
 {
-    let a = put(out, at, b'b');
-    let d = put(out, a, b'a');
-    let end = put(out, d, b'd');
-    put(out, end, b'\n')
+    put_text(out, at, b"bad\n")
 }

@@ -3,20 +3,7 @@ ghost use Rattle.std.specs.Prelude.{◌≡◌, drop};
 ghost use Rattle.numerals.specs.Numbers.{taken_by, number, digits_from};
 ghost use Rattle.numerals.specs.Numbers.{digit as Numbers·digit};
 
-// A number with the index after its last digit, or none.
-#[derive(Clone, Copy)]
-pub enum Taken {
-    Upto(u64, usize),
-    No,
-}
-
 const GREATEST: u64 = 18446744073709551615;
-
-fn wide(byte: u8) -> u64
-    ensures { result ≡ byte }
-{
-    byte as u64
-}
 
 fn digit(byte: u8) -> bool
     ensures { result ≡ Numbers·digit byte }
@@ -24,42 +11,42 @@ fn digit(byte: u8) -> bool
     (48 <= byte) & (byte <= 57)
 }
 
-// The digits from an index on, as far as they go; none where they are too great a number.
-fn digits(line: &[u8], from: usize) -> Taken
+// The digits from an index on, as far as they go, and the index after them; none where they are too
+// great a number.
+fn digits(line: &[u8], from: usize) -> Option<(u64, usize)>
     ensures { taken_by line.now result ≡ digits_from 0 (drop from line.now) }
 {
-    let mut value: u64 = 0;
-    let mut k = from;
-    while k < line.len() {
+    let mut value = 0;
+    for k in from..line.len() {
         if !digit(line[k]) {
-            return Taken::Upto(value, k);
+            return Some((value, k));
         }
-        let d = wide(line[k]) - 48;
+        let d = u64::from(line[k] - 48);
         if (GREATEST - d) / 10 < value {
-            return Taken::No;
+            return None;
         }
         value = value * 10 + d;
-        k += 1;
     }
-    Taken::Upto(value, k)
+    Some((value, line.len()))
 }
 
-// A space and the number after it.
-pub fn number(line: &[u8], at: usize) -> Taken
+// A space and the number after it, with the index after its last digit.
+#[tactic(auto, using(texts::proofs::Places::ended, texts::proofs::Places::opened), unfolding(crate::specs::Numbers::number, crate::specs::Numbers::some_digits))]
+pub fn number(line: &[u8], at: usize) -> Option<(u64, usize)>
     ensures { taken_by line.now result ≡ number (drop at line.now) }
 {
     if line.len() <= at {
-        return Taken::No;
+        return None;
     }
     if line[at] != b' ' {
-        return Taken::No;
+        return None;
     }
     let from = at + 1;
     if line.len() <= from {
-        return Taken::No;
+        return None;
     }
     if !digit(line[from]) {
-        return Taken::No;
+        return None;
     }
     digits(line, from)
 }

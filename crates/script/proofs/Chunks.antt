@@ -10,7 +10,8 @@ use borrow.Author.Tests.{le-leb, lt-leb, lt-ltb, le-ltb, leb-true, leb-false}
 use Rattle.script.specs.Parse.{parsed}
 use Rattle.lines.specs.Lines.{Held, short, long, more, begun, gather, ends, unended, left, joined, lines_from, lines_of}
 use Rattle.script.specs.Inputs.{read_as, reads, last, chunked, parsed_lines}
-use Rattle.script.specs.declared.calls.Parsed.{Parsed}
+use Rattle.rules.specs.Answers.{Call}
+use Rattle.std.proofs.Common.{Option}
 
 -- ---- what is kept of a line is enough
 
@@ -56,7 +57,7 @@ held-begun l = short_or_long l (λ h. rw (held-short l h)) (λ h. rw (held-long 
 
 -- ---- the whole input as one chunk
 
-alone : (g : Bool) (l : List ℕ) → cond {A = List Parsed} g (parsed l ∷ []) [] ≡ map parsed (cond {A = List (List ℕ)} g (l ∷ []) [])
+alone : (g : Bool) (l : List ℕ) → cond {A = List (Option Call)} g (parsed l ∷ []) [] ≡ map parsed (cond {A = List (List ℕ)} g (l ∷ []) [])
 alone true l = refl
 alone false l = refl
 
@@ -72,9 +73,9 @@ whole (b ∷ bs) l = go (eqb b 10) refl (whole bs []) (whole bs (l ++ (b ∷ [])
         → eqb b 10 ≡ g
         → reads (held []) bs ++ last (left (held []) bs) ≡ map parsed (lines_from [] bs)
         → reads (held (l ++ (b ∷ []))) bs ++ last (left (held (l ++ (b ∷ []))) bs) ≡ map parsed (lines_from (l ++ (b ∷ [])) bs)
-        → cond {A = List Parsed} (eqb b 10) (read_as (held l) ∷ reads (short []) bs) (reads (more (held l) b) bs) ++ last (cond (eqb b 10) (left (short []) bs) (left (more (held l) b) bs))
+        → cond {A = List (Option Call)} (eqb b 10) (read_as (held l) ∷ reads (short []) bs) (reads (more (held l) b) bs) ++ last (cond (eqb b 10) (left (short []) bs) (left (more (held l) b) bs))
         ≡ map parsed (cond {A = List (List ℕ)} (eqb b 10) (l ∷ lines_from [] bs) (lines_from (l ++ (b ∷ [])) bs))
-    go true e next on = rw (e, held-read l) (ap (λ (ps : List Parsed). parsed l ∷ ps) (rw none at next))
+    go true e next on = rw (e, held-read l) (ap (λ (ps : List (Option Call)). parsed l ∷ ps) (rw none at next))
     go false e next on = rw (e, held_more l b) on
 
 -- ---- chunk after chunk
@@ -89,7 +90,7 @@ reads-append (b ∷ bs) cs h = go (eqb b 10) refl (reads-append bs cs (short [])
         → reads (short []) (bs ++ cs) ≡ reads (short []) bs ++ reads (left (short []) bs) cs
         → reads (more h b) (bs ++ cs) ≡ reads (more h b) bs ++ reads (left (more h b) bs) cs
         → reads h (b ∷ (bs ++ cs)) ≡ reads h (b ∷ bs) ++ reads (left h (b ∷ bs)) cs
-    go true e next on = rw e (ap (λ (ps : List Parsed). read_as h ∷ ps) next)
+    go true e next on = rw e (ap (λ (ps : List (Option Call)). read_as h ∷ ps) next)
     go false e next on = rw e on
 
 pub left-append : (bs cs : List ℕ) (h : Held) → left h (bs ++ cs) ≡ left (left h bs) cs
@@ -109,9 +110,9 @@ any-cut : (cs : List (List ℕ)) (h : Held) → chunked h cs ≡ reads h (joined
 unfolding chunked joined reads left
 any-cut [] h = refl
 any-cut (c ∷ cs) h =
-    ap (λ (ps : List Parsed). reads h c ++ ps) (any-cut cs (left h c))
+    ap (λ (ps : List (Option Call)). reads h c ++ ps) (any-cut cs (left h c))
     ∙ sym (append_assoc (reads h c) (reads (left h c) (joined cs)) (last (left (left h c) (joined cs))))
-    ∙ ap₂ (λ (ps : List Parsed) (k : Held). ps ++ last k) (sym (reads-append c (joined cs) h)) (sym (left-append c (joined cs) h))
+    ∙ ap₂ (λ (ps : List (Option Call)) (k : Held). ps ++ last k) (sym (reads-append c (joined cs) h)) (sym (left-append c (joined cs) h))
 
 -- whatever way the input is cut into chunks, the lines read are those of the whole input
 pub chunks : (cs : List (List ℕ)) → chunked (short []) cs ≡ parsed_lines (joined cs)

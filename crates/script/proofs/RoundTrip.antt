@@ -8,7 +8,7 @@ use Rattle.script.specs.Says.{Says, word_of, call_line}
 use Rattle.script.specs.Parse.{parsed}
 use Rattle.call_words.specs.Calls.{numbers_of}
 use Rattle.numerals.specs.Print.{spaced, Words}
-use Rattle.script.specs.declared.calls.Parsed.TheVariants as Parsed
+use Rattle.std.proofs.Common.{Some}
 use Rattle.numerals.proofs.Decimals.{spaced-numbers, length-spaced}
 use Rattle.script.proofs.Spoken.{parsed_complete}
 
@@ -31,5 +31,5 @@ length-call_line c = omega (arith, length-append (word_of c) (spaced (numbers_of
     short (Settle n) = omega arith
     short BeginRelaxed = omega arith
 
-pub round_trip : (c : Call) → Words (numbers_of c) → parsed (call_line c) ≡ Parsed.Call c
+pub round_trip : (c : Call) → Words (numbers_of c) → parsed (call_line c) ≡ Some c
 round_trip c w = parsed_complete (call_line c) c (call_line-says c w) (length-call_line c)

@@ -16,8 +16,7 @@ use Rattle.numerals.proofs.Numerals.{Spaced, spaced, number_read, stops}
 use Rattle.script.specs.Words.{starts}
 use Rattle.script.specs.Says.{Says, word_of}
 use Rattle.script.specs.Parse.{bare_of, and_then, one_of, two_of, three_of, Spelled, spelled, first_of, spoken, parsed}
-use Rattle.script.specs.declared.calls.Parsed.{Parsed}
-use Rattle.script.specs.declared.calls.Parsed.TheVariants.{Call, Bad}
+use Rattle.std.proofs.Common.{Option, Some, None}
 
 -- ---- a line that says a call is read so
 
@@ -25,26 +24,26 @@ use Rattle.script.specs.declared.calls.Parsed.TheVariants.{Call, Bad}
 then_read : {bs : List ℕ} {n : ℕ} {ns : List ℕ} → Numbers bs (n ∷ ns) → (rest : List ℕ) × (number bs ≡ upto n rest) × Numbers rest ns
 then_read (Numbers.more {ds} {rest} m r) = (rest, number_read rest m (stops r), r)
 
-then_is : {bs ns : List ℕ} {n : ℕ} (f : ℕ → List ℕ → Parsed) (p : Parsed) → Numbers bs (n ∷ ns) → ((rest : List ℕ) → Numbers rest ns → f n rest ≡ p) → and_then (number bs) f ≡ p
+then_is : {bs ns : List ℕ} {n : ℕ} (f : ℕ → List ℕ → Option rules.Call) (p : Option rules.Call) → Numbers bs (n ∷ ns) → ((rest : List ℕ) → Numbers rest ns → f n rest ≡ p) → and_then (number bs) f ≡ p
 then_is f p r g = let t = then_read r in rw t.1 (g t.0 t.2)
 
-none_read : {bs : List ℕ} (c : rules.Call) → Numbers bs [] → bare_of c bs ≡ Call c
+none_read : {bs : List ℕ} (c : rules.Call) → Numbers bs [] → bare_of c bs ≡ Some c
 unfolding bare_of
 none_read c Numbers.none = refl
 
-one_read : {bs : List ℕ} (c : ℕ → rules.Call) (n : ℕ) → Numbers bs (n ∷ []) → one_of c bs ≡ Call (c n)
+one_read : {bs : List ℕ} (c : ℕ → rules.Call) (n : ℕ) → Numbers bs (n ∷ []) → one_of c bs ≡ Some (c n)
 unfolding one_of
 one_read c n r = then_is _ _ r (λ rest q. none_read (c n) q)
 
-two_read : {bs : List ℕ} (c : ℕ → ℕ → rules.Call) (n x : ℕ) → Numbers bs (n ∷ x ∷ []) → two_of c bs ≡ Call (c n x)
+two_read : {bs : List ℕ} (c : ℕ → ℕ → rules.Call) (n x : ℕ) → Numbers bs (n ∷ x ∷ []) → two_of c bs ≡ Some (c n x)
 unfolding two_of
 two_read c n x r = then_is _ _ r (λ rest q. one_read (c n) x q)
 
-three_read : {bs : List ℕ} (c : ℕ → ℕ → ℕ → rules.Call) (n x v : ℕ) → Numbers bs (n ∷ x ∷ v ∷ []) → three_of c bs ≡ Call (c n x v)
+three_read : {bs : List ℕ} (c : ℕ → ℕ → ℕ → rules.Call) (n x v : ℕ) → Numbers bs (n ∷ x ∷ v ∷ []) → three_of c bs ≡ Some (c n x v)
 unfolding three_of
 three_read c n x v r = then_is _ _ r (λ rest q. two_read (c n) x v q)
 
-pub spoken_complete : (line : List ℕ) (c : rules.Call) → Says line c → spoken line ≡ Call c
+pub spoken_complete : (line : List ℕ) (c : rules.Call) → Says line c → spoken line ≡ Some c
 unfolding spoken first_of starts
 spoken_complete line rules.BeginUpdate s = rw s.word (none_read rules.BeginUpdate s.numbers)
 spoken_complete line rules.BeginQuery s = rw s.word (none_read rules.BeginQuery s.numbers)
@@ -64,48 +63,48 @@ starts_is (w ∷ ws) [] e = absurd (false≢true e)
 starts_is (w ∷ ws) (b ∷ bs) e =
     ap₂ (λ (x : ℕ) (xs : List ℕ). x ∷ xs) (eqb-true b w (and_left (eqb b w) (starts ws bs) e)) (starts_is ws bs (and_right (eqb b w) (starts ws bs) e))
 
-bad_never : (c : rules.Call) → Bad ≡ Call c → ⊥
+bad_never : (c : rules.Call) → None ≡ Some c → ⊥
 bad_never c e = let z : ◌≡◌ {A = ℕ} 0 1 = cc in omega arith
 
 -- what follows a word is the call's numbers, and the word is the call's
 record Sound (w : Spelled) : Type 0 where
-  word : (c : rules.Call) (bs : List ℕ) → w.rest bs ≡ Call c → word_of c ≡ w.word
-  numbers : (c : rules.Call) (bs : List ℕ) → w.rest bs ≡ Call c → Numbers bs (numbers_of c)
+  word : (c : rules.Call) (bs : List ℕ) → w.rest bs ≡ Some c → word_of c ≡ w.word
+  numbers : (c : rules.Call) (bs : List ℕ) → w.rest bs ≡ Some c → Numbers bs (numbers_of c)
 
 more_numbers : {bs rest ns : List ℕ} {n : ℕ} → Spaced bs n rest → Numbers rest ns → Numbers bs (n ∷ ns)
 more_numbers {bs} {rest} {ns} {n} s r = subst (λ (l : List ℕ). Numbers l (n ∷ ns)) (sym s.all) (Numbers.more s.numeral r)
 
 module _ (c : rules.Call) (bs : List ℕ) where
-  none_sound : (d : rules.Call) → bare_of d bs ≡ Call c → (d ≡ c) × Numbers bs []
+  none_sound : (d : rules.Call) → bare_of d bs ≡ Some c → (d ≡ c) × Numbers bs []
   unfolding bare_of
   none_sound d e = go bs refl
     where
       go : (l : List ℕ) → bs ≡ l → (d ≡ c) × Numbers bs []
-      go [] h = let k : Call d ≡ Call c = rw h at e in ((cc), rw h Numbers.none)
+      go [] h = let k : Some d ≡ Some c = rw h at e in ((cc), rw h Numbers.none)
       go (b ∷ l) h = absurd (bad_never c (rw h at e))
 
-then_sound : (c : rules.Call) (bs : List ℕ) (f : ℕ → List ℕ → Parsed) → and_then (number bs) f ≡ Call c → (n : ℕ) × (rest : List ℕ) × Spaced bs n rest × (f n rest ≡ Call c)
+then_sound : (c : rules.Call) (bs : List ℕ) (f : ℕ → List ℕ → Option rules.Call) → and_then (number bs) f ≡ Some c → (n : ℕ) × (rest : List ℕ) × Spaced bs n rest × (f n rest ≡ Some c)
 then_sound c bs f e = go (number bs) refl
   where
-    go : (r : Read) → number bs ≡ r → (n : ℕ) × (rest : List ℕ) × Spaced bs n rest × (f n rest ≡ Call c)
+    go : (r : Read) → number bs ≡ r → (n : ℕ) × (rest : List ℕ) × Spaced bs n rest × (f n rest ≡ Some c)
     go (upto n rest) h = (n, rest, spaced bs n rest h, rw h at e)
     go no h = absurd (bad_never c (rw h at e))
 
-one_sound : (c : rules.Call) (bs : List ℕ) (d : ℕ → rules.Call) → one_of d bs ≡ Call c → (n : ℕ) × (d n ≡ c) × Numbers bs (n ∷ [])
+one_sound : (c : rules.Call) (bs : List ℕ) (d : ℕ → rules.Call) → one_of d bs ≡ Some c → (n : ℕ) × (d n ≡ c) × Numbers bs (n ∷ [])
 unfolding one_of
 one_sound c bs d e =
     let t = then_sound c bs _ e in
     let b = none_sound c t.1 (d t.0) t.3 in
     (t.0, b.0, more_numbers t.2 b.1)
 
-two_sound : (c : rules.Call) (bs : List ℕ) (d : ℕ → ℕ → rules.Call) → two_of d bs ≡ Call c → (n x : ℕ) × (d n x ≡ c) × Numbers bs (n ∷ x ∷ [])
+two_sound : (c : rules.Call) (bs : List ℕ) (d : ℕ → ℕ → rules.Call) → two_of d bs ≡ Some c → (n x : ℕ) × (d n x ≡ c) × Numbers bs (n ∷ x ∷ [])
 unfolding two_of
 two_sound c bs d e =
     let t = then_sound c bs _ e in
     let b = one_sound c t.1 (d t.0) t.3 in
     (t.0, b.0, b.1, more_numbers t.2 b.2)
 
-three_sound : (c : rules.Call) (bs : List ℕ) (d : ℕ → ℕ → ℕ → rules.Call) → three_of d bs ≡ Call c → (n x v : ℕ) × (d n x v ≡ c) × Numbers bs (n ∷ x ∷ v ∷ [])
+three_sound : (c : rules.Call) (bs : List ℕ) (d : ℕ → ℕ → ℕ → rules.Call) → three_of d bs ≡ Some c → (n x v : ℕ) × (d n x v ≡ c) × Numbers bs (n ∷ x ∷ v ∷ [])
 unfolding three_of
 three_sound c bs d e =
     let t = then_sound c bs _ e in
@@ -156,25 +155,25 @@ all_sound =
     (also (by_one _ (λ n. rules.Settle n) (λ n. (refl, refl)))
     (also (by_none rules.BeginRelaxed refl) done)))))))
 
-first-sound : {ws : List Spelled} (line : List ℕ) (c : rules.Call) → AllSound ws → first_of ws line ≡ Call c → Says line c
+first-sound : {ws : List Spelled} (line : List ℕ) (c : rules.Call) → AllSound ws → first_of ws line ≡ Some c → Says line c
 unfolding first_of
 first-sound line c done e = absurd (bad_never c e)
 first-sound line c (also {w} {ws} s r) e = go (starts w.word line) refl (λ f. first-sound line c r f)
   where
-    go : (g : Bool) → starts w.word line ≡ g → (first_of ws line ≡ Call c → Says line c) → Says line c
+    go : (g : Bool) → starts w.word line ≡ g → (first_of ws line ≡ Some c → Says line c) → Says line c
     go true h on =
         let rest = drop (length w.word) line in
-        let q : w.rest rest ≡ Call c = rw h at e in
+        let q : w.rest rest ≡ Some c = rw h at e in
         record { rest = rest; word = rw (s.word c rest q) (starts_is w.word line h); numbers = s.numbers c rest q }
     go false h on = on (rw h at e)
 
-pub spoken-sound : (line : List ℕ) (c : rules.Call) → spoken line ≡ Call c → Says line c
+pub spoken-sound : (line : List ℕ) (c : rules.Call) → spoken line ≡ Some c → Says line c
 unfolding spoken
 spoken-sound line c e = first-sound line c all_sound e
 
 -- ---- with the length
 
-pub parsed-sound : (line : List ℕ) (c : rules.Call) → parsed line ≡ Call c → Says line c × (length line ≤ 80)
+pub parsed-sound : (line : List ℕ) (c : rules.Call) → parsed line ≡ Some c → Says line c × (length line ≤ 80)
 unfolding parsed
 parsed-sound line c e = go (leb (length line) 80) refl
   where
@@ -182,13 +181,13 @@ parsed-sound line c e = go (leb (length line) 80) refl
     go true h = (spoken-sound line c (rw h at e), leb-true (length line) 80 h)
     go false h = absurd (bad_never c (rw h at e))
 
-pub parsed_complete : (line : List ℕ) (c : rules.Call) → Says line c → length line ≤ 80 → parsed line ≡ Call c
+pub parsed_complete : (line : List ℕ) (c : rules.Call) → Says line c → length line ≤ 80 → parsed line ≡ Some c
 unfolding parsed
 parsed_complete line c s h = rw (le-leb (length line) 80 h) (spoken_complete line c s)
 
 -- no line says two calls
 pub says-once : (line : List ℕ) (x y : rules.Call) → Says line x → Says line y → x ≡ y
 says-once line x y p q =
-    let a : spoken line ≡ Call x = spoken_complete line x p in
-    let b : spoken line ≡ Call y = spoken_complete line y q in
+    let a : spoken line ≡ Some x = spoken_complete line x p in
+    let b : spoken line ≡ Some y = spoken_complete line y q in
     cc

@@ -1,38 +1,29 @@
-// A line as a call: its word, then as many numbers as the call has. Here a call goes by its kind.
-ghost use Rattle.std.specs.Prelude.{◌≡◌, drop};
+// A line as a call: its word, then as many numbers as the call has.
+ghost use Rattle.std.specs.Prelude.{◌≡◌, ℕ, drop};
+ghost use Rattle.rules.specs.Answers.{Call as Answers·Call};
 ghost use Rattle.lines.specs.Lines.{held_by};
-ghost use Rattle.call_words.specs.Calls.{fields, call_in};
 ghost use Rattle.script.specs.Parse.{bare_of, one_of, two_of, three_of, spoken, parsed};
 ghost use Rattle.script.specs.Inputs.{read_as};
 
 use crate::words::starts_with;
-use call_words::{
-    ABORT, BEGIN_QUERY, BEGIN_RELAXED, BEGIN_UPDATE, COMMIT, Fields, READ, SETTLE, WRITE, call_in,
-};
 use lines::{LONGEST, Lines};
 use names::Call;
-use numerals::{Taken, number};
+use numerals::number;
 
-// What a line says.
-#[derive(Clone, Copy)]
-pub enum Parsed {
-    Call(Call),
-    Bad,
-}
-
-// The call that the line is. A line over 80 bytes is bad, whatever it says.
-pub fn parse(line: &[u8]) -> Parsed
+// The call that the line is, if it is one. A line over 80 bytes is none, whatever it says.
+#[tactic(auto, unfolding(crate::specs::Parse::parsed))]
+pub fn parse(line: &[u8]) -> Option<Call>
     ensures { result ≡ parsed line.now }
 {
     if line.len() <= LONGEST {
         spoken(line)
     } else {
-        Parsed::Bad
+        None
     }
 }
 
 // What a line is read as, once it is ended.
-pub fn read_as(line: Lines) -> Parsed
+pub fn read_as(line: Lines) -> Option<Call>
     ensures { result ≡ read_as (held_by line) }
 {
     let count = line.count;
@@ -40,118 +31,81 @@ pub fn read_as(line: Lines) -> Parsed
     if count <= LONGEST {
         parse(&bytes[..count])
     } else {
-        Parsed::Bad
+        None
     }
 }
 
-#[tactic(auto, unfolding(crate::specs::Parse::spoken, crate::specs::Parse::first_of, call_words::specs::Calls::call_in))]
-fn spoken(line: &[u8]) -> Parsed
+#[tactic(auto, unfolding(crate::specs::Parse::spoken, crate::specs::Parse::first_of))]
+fn spoken(line: &[u8]) -> Option<Call>
     ensures { result ≡ spoken line.now }
 {
     if starts_with(line, b"update") {
-        return none(line, 6, BEGIN_UPDATE);
+        return bare(line, 6, Call::BeginUpdate);
     }
     if starts_with(line, b"query") {
-        return none(line, 5, BEGIN_QUERY);
+        return bare(line, 5, Call::BeginQuery);
     }
     if starts_with(line, b"read") {
-        return two(line, 4, READ);
+        return two(line, 4, |number, item| Call::Read { number, item });
     }
     if starts_with(line, b"write") {
-        return three(line, 5, WRITE);
+        return three(
+            line,
+            5,
+            |number, item, value| Call::Write {
+                number,
+                item,
+                value,
+            },
+        );
     }
     if starts_with(line, b"commit") {
-        return one(line, 6, COMMIT);
+        return one(line, 6, |number| Call::Commit { number });
     }
     if starts_with(line, b"abort") {
-        return one(line, 5, ABORT);
+        return one(line, 5, |number| Call::Abort { number });
     }
     if starts_with(line, b"settle") {
-        return one(line, 6, SETTLE);
+        return one(line, 6, |number| Call::Settle { number });
     }
     if starts_with(line, b"relaxed") {
-        return none(line, 7, BEGIN_RELAXED);
+        return bare(line, 7, Call::BeginRelaxed);
     }
-    Parsed::Bad
+    None
 }
 
 // The call, where nothing stands from an index on.
-fn bare(line: &[u8], at: usize, call: Call) -> Parsed
+#[tactic(auto, using(texts::proofs::Places::ended, texts::proofs::Places::opened), unfolding(crate::specs::Parse::bare_of))]
+fn bare(line: &[u8], at: usize, call: Call) -> Option<Call>
     ensures { result ≡ bare_of call (drop at line.now) }
 {
-    if line.len() <= at {
-        Parsed::Call(call)
-    } else {
-        Parsed::Bad
-    }
+    if line.len() <= at { Some(call) } else { None }
 }
 
-// The call of a kind with no numbers; with one, two or three.
-fn none(line: &[u8], at: usize, kind: u64) -> Parsed
-    ensures { result ≡ bare_of (call_in (fields kind 0 0 0)) (drop at line.now) }
-{
-    let call = call_in(Fields {
-        kind,
-        number: 0,
-        item: 0,
-        value: 0,
-    });
-    bare(line, at, call)
-}
-
+// The call of one number, of two, of three, where they stand from an index on and nothing more.
 #[tactic(auto, unfolding(crate::specs::Parse::one_of))]
-fn one(line: &[u8], at: usize, kind: u64) -> Parsed
-    ensures { result ≡ one_of (λ n. call_in (fields kind n 0 0)) (drop at line.now) }
+fn one<F: FnOnce(u64) -> Call>(line: &[u8], at: usize, call: F) -> Option<Call>
+    requires { F.IsAlwaysCallable call }
+    ensures { (c : ℕ → Answers·Call) → ((n : ℕ) (m : Answers·Call) → F.post call n m → m ≡ c n) → result ≡ one_of c (drop at line.now) }
 {
-    let Taken::Upto(n, e) = number(line, at) else {
-        return Parsed::Bad;
-    };
-    let call = call_in(Fields {
-        kind,
-        number: n,
-        item: 0,
-        value: 0,
-    });
-    bare(line, e, call)
+    let (n, end) = number(line, at)?;
+    bare(line, end, call(n))
 }
 
-#[tactic(auto, unfolding(crate::specs::Parse::one_of, crate::specs::Parse::two_of))]
-fn two(line: &[u8], at: usize, kind: u64) -> Parsed
-    ensures { result ≡ two_of (λ n x. call_in (fields kind n x 0)) (drop at line.now) }
+#[tactic(auto, unfolding(crate::specs::Parse::two_of))]
+fn two<F: FnOnce(u64, u64) -> Call>(line: &[u8], at: usize, call: F) -> Option<Call>
+    requires { F.IsAlwaysCallable call }
+    ensures { (c : ℕ → ℕ → Answers·Call) → ((n x : ℕ) (m : Answers·Call) → F.post call n x m → m ≡ c n x) → result ≡ two_of c (drop at line.now) }
 {
-    let Taken::Upto(n, k) = number(line, at) else {
-        return Parsed::Bad;
-    };
-    let Taken::Upto(item, e) = number(line, k) else {
-        return Parsed::Bad;
-    };
-    let call = call_in(Fields {
-        kind,
-        number: n,
-        item,
-        value: 0,
-    });
-    bare(line, e, call)
+    let (n, rest) = number(line, at)?;
+    one(line, rest, |item| call(n, item))
 }
 
-#[tactic(auto, unfolding(crate::specs::Parse::one_of, crate::specs::Parse::two_of, crate::specs::Parse::three_of))]
-fn three(line: &[u8], at: usize, kind: u64) -> Parsed
-    ensures { result ≡ three_of (λ n x v. call_in (fields kind n x v)) (drop at line.now) }
+#[tactic(auto, unfolding(crate::specs::Parse::three_of))]
+fn three<F: FnOnce(u64, u64, u64) -> Call>(line: &[u8], at: usize, call: F) -> Option<Call>
+    requires { F.IsAlwaysCallable call }
+    ensures { (c : ℕ → ℕ → ℕ → Answers·Call) → ((n x v : ℕ) (m : Answers·Call) → F.post call n x v m → m ≡ c n x v) → result ≡ three_of c (drop at line.now) }
 {
-    let Taken::Upto(n, k) = number(line, at) else {
-        return Parsed::Bad;
-    };
-    let Taken::Upto(item, m) = number(line, k) else {
-        return Parsed::Bad;
-    };
-    let Taken::Upto(value, e) = number(line, m) else {
-        return Parsed::Bad;
-    };
-    let call = call_in(Fields {
-        kind,
-        number: n,
-        item,
-        value,
-    });
-    bare(line, e, call)
+    let (n, rest) = number(line, at)?;
+    two(line, rest, |item, value| call(n, item, value))
 }

@@ -7,4 +7,4 @@
 mod calls;
 mod words;
 
-pub use calls::{Parsed, parse, read_as};
+pub use calls::{parse, read_as};

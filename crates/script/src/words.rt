@@ -2,18 +2,9 @@
 ghost use Rattle.std.specs.Prelude.{◌≡◌};
 ghost use Rattle.script.specs.Words.{starts};
 
+#[tactic(auto, using(crate::proofs::Scans::starts_is_prefix))]
 pub(crate) fn starts_with(line: &[u8], word: &[u8]) -> bool
     ensures { result ≡ starts word.now line.now }
 {
-    let mut k: usize = 0;
-    while k < word.len() {
-        if line.len() <= k {
-            return false;
-        }
-        if line[k] != word[k] {
-            return false;
-        }
-        k += 1;
-    }
-    true
+    line.starts_with(word)
 }

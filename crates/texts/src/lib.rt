@@ -7,6 +7,7 @@ ghost use Rattle.std.specs.Prelude.{[], ◌∷◌, ◌+◌, ◌<◌, ◌≤◌, 
 ghost use Rattle.texts.specs.Written.{Wrote};
 
 // Writes a byte, and answers the index after it.
+#[tactic(auto, using(crate::proofs::Written::wrote_byte))]
 pub fn put(out: &mut [u8], at: usize, byte: u8) -> usize
     requires { at < length out.old }
     ensures { Wrote out.old at (byte ∷ []) out.new result }
@@ -21,10 +22,8 @@ pub fn put_text(out: &mut [u8], at: usize, text: &[u8]) -> usize
     ensures { Wrote out.old at text.now out.new result }
 {
     let mut end = at;
-    let mut k: usize = 0;
-    while k < text.len() {
-        end = put(out, end, text[k]);
-        k += 1;
+    for &byte in text {
+        end = put(out, end, byte);
     }
     end
 }

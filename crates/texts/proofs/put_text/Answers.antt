@@ -5,28 +5,24 @@ use lib.Seq.{take_all, length-take-le}
 use Rattle.texts.proofs.Written.{wrote_nothing, text_next, wrote_more}
 use Rattle.texts.proofs.put_text.Goals as goal
 
-pub loop-k-init : goal.loop-k-init
-loop-k-init c = (omega arith, refl, wrote_nothing c.args.out.now c.args.at)
+pub loop-byte-init : goal.loop-byte-init
+loop-byte-init c = (refl, wrote_nothing c.args.out.now c.args.at)
 
 pub put-end-requires : goal.put-end-requires
 put-end-requires c =
-    let l = c.loop-k in
-    let a = c.args in
-    omega (arith, c.requires, c.loop-k-test.true, l.invariant.1, l.invariant.2.index, length-take-le l.k a.text.now l.invariant.0)
+    let l = c.loop-byte in
+    omega (arith, c.requires, c.loop-byte-test.true, l.invariant.0, l.invariant.1.index, length-take-le l.byte-index c.args.text.now (omega arith))
 
-pub loop-k-preserved : goal.loop-k-preserved
-loop-k-preserved c =
-    let l = c.loop-k in
+pub loop-byte-preserved : goal.loop-byte-preserved
+loop-byte-preserved c =
+    let l = c.loop-byte in
     let a = c.args in
-    let t = c.loop-k-test.true in
-    (omega (arith, t), omega arith, rw (sym (text_next a.text.now l.k t)) (wrote_more (omega (arith, c.requires, length-take-le l.k a.text.now l.invariant.0)) l.invariant.2 c.put-end.ensures))
-
-pub shape_of-out : goal.shape_of-out
-shape_of-out c = c.loop-k.invariant.1
+    let t = c.loop-byte-test.true in
+    (omega arith, rw (sym (text_next a.text.now l.byte-index t)) (wrote_more (omega (arith, c.requires, length-take-le l.byte-index a.text.now (omega arith))) l.invariant.1 c.put-end.ensures))
 
 pub returns : goal.returns
 returns c =
-    let l = c.loop-k in
+    let l = c.loop-byte in
     let a = c.args in
-    let t : take l.k a.text.now ≡ a.text.now = take_all l.k a.text.now c.loop-k-test.false in
-    rw t at l.invariant.2
+    let t : take l.byte-index a.text.now ≡ a.text.now = take_all l.byte-index a.text.now c.loop-byte-test.false in
+    rw t at l.invariant.1

@@ -5,7 +5,7 @@ use native.Mathlib.Omega.{arith}
 use lib.ListN.{length}
 use borrow.Author.Tests.{leb-true, leb-false}
 use Rattle.journal.specs.Words.{word_size, word_bytes}
-use Rattle.journal.proofs.WordLaws.{length-word_bytes}
+use Rattle.journal.proofs.WordLaws.{length-word_bytes, word-as_le}
 use Rattle.texts.proofs.Buffers.{put_full, put-part}
 use Rattle.journal.proofs.words.put_word.Goals as goal
 
@@ -24,13 +24,13 @@ returns-then-not-room c =
 pub overflow_add-end : goal.overflow_add-end
 overflow_add-end c = let h = fits c in omega arith
 
-pub slice_bounds-fill-end : goal.slice_bounds-fill-end
-slice_bounds-fill-end c = fits c
+pub slice_bounds-copy_from_slice-end : goal.slice_bounds-copy_from_slice-end
+slice_bounds-copy_from_slice-end c = fits c
 
 pub returns : goal.returns
 returns c =
     let a = c.args in
     let fits : a.at + word_size ≤ length a.out.now
     = leb-true (a.at + word_size) (length a.out.now) (sym c.room.ensures ∙ c.if-not-room.false) in
-    rw c.fill.ensures
+    rw (c.copy_from_slice.ensures.after ∙ c.to_le_bytes.ensures ∙ word-as_le a.w)
     (put-part a.out.now (word_bytes a.w) a.at word_size (length-word_bytes a.w) fits)

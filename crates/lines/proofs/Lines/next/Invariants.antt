@@ -1,12 +1,8 @@
 -- `next` goes along the chunk: from each index on, what it gathers after the bytes so far is what was to be gathered.
-use Prim.Native.Nat.{◌-◌, ◌≤◌}
 use mathlib.Core.Path.{◌≡◌}
-use lib.ListN.{length, drop}
+use lib.ListN.{drop}
 use Rattle.lines.specs.Lines.{held_by, gather}
 use Rattle.lines.proofs.Lines.next.Given as goal
 
 abbrev pub invariant-loop-k : goal.invariant-loop-k
-invariant-loop-k l = (l.from ≤ l.k) × (gather (held_by l.lines) (drop l.k l.chunk) ≡ gather (held_by l.initial.lines) (drop l.from l.chunk))
-
-abbrev pub decreases-loop-k : goal.decreases-loop-k
-decreases-loop-k l = length l.chunk - l.k
+invariant-loop-k l = gather (held_by l.lines) (drop l.k l.chunk) ≡ gather (held_by l.initial.lines) (drop l.from l.chunk)

@@ -1,7 +1,7 @@
 use Prim.Native.Nat.{ℕ, ◌+◌, ◌-◌, ◌*◌, ◌≤◌, ◌<◌}
 use mathlib.Core.Path.{◌≡◌, refl, sym, ap, ◌∙◌}
 use mathlib.Core.Bool.{true, false}
-use lib.ListN.{get_or, drop}
+use lib.ListN.{get_or, drop, length}
 use native.Mathlib.Omega.{arith}
 use Rattle.numerals.specs.Numbers.{digit, digits_from, greatest}
 use Rattle.numerals.proofs.Scans.{digits_end, digits_stop, digits_large, digits_more, digit_low, digit_high}
@@ -16,19 +16,13 @@ returns-then-not-digit c =
     let e : digit (get_or a.line.now c.loop-k.k 0) ≡ false = sym c.digit.ensures ∙ c.if-not-digit.true in
     sym (digits_stop a.line.now c.loop-k.k c.loop-k.value c.loop-k-test.true e) ∙ c.loop-k.invariant.1
 
+pub overflow_sub-line : goal.overflow_sub-line
+overflow_sub-line c = digit_low _ (sym c.digit.ensures ∙ c.if-not-digit.false)
+
 pub overflow_sub-d : goal.overflow_sub-d
 overflow_sub-d c =
-    let a = c.args in
-    let e : digit (get_or a.line.now c.loop-k.k 0) ≡ true = sym c.digit.ensures ∙ c.if-not-digit.false in
-    let l : 48 ≤ get_or a.line.now c.loop-k.k 0 = digit_low _ e in
-    omega (arith, l, c.wide-d.ensures)
-
-pub overflow_sub-d-in-loop-k : goal.overflow_sub-d-in-loop-k
-overflow_sub-d-in-loop-k c =
-    let a = c.args in
-    let e : digit (get_or a.line.now c.loop-k.k 0) ≡ true = sym c.digit.ensures ∙ c.if-not-digit.false in
-    let h : get_or a.line.now c.loop-k.k 0 ≤ 57 = digit_high _ e in
-    omega (arith, h, c.wide-d.ensures)
+    let h : get_or c.args.line.now c.loop-k.k 0 ≤ 57 = digit_high _ (sym c.digit.ensures ∙ c.if-not-digit.false) in
+    omega (arith, h, c.from-d.ensures)
 
 pub returns-then-d-value : goal.returns-then-d-value
 returns-then-d-value c =
@@ -37,7 +31,7 @@ returns-then-d-value c =
     let v = c.loop-k.value in
     let e : digit (get_or a.line.now k 0) ≡ true = sym c.digit.ensures ∙ c.if-not-digit.false in
     let h : get_or a.line.now k 0 ≤ 57 = digit_high _ e in
-    let w = c.wide-d.ensures in
+    let w = c.from-d.ensures in
     let g : greatest < v * 10 + (get_or a.line.now k 0 - 48) = omega arith in
     sym (digits_large a.line.now k v c.loop-k-test.true e g) ∙ c.loop-k.invariant.1
 
@@ -48,11 +42,12 @@ loop-k-preserved c =
     let v = c.loop-k.value in
     let e : digit (get_or a.line.now k 0) ≡ true = sym c.digit.ensures ∙ c.if-not-digit.false in
     let h : get_or a.line.now k 0 ≤ 57 = digit_high _ e in
-    let w = c.wide-d.ensures in
+    let w = c.from-d.ensures in
     let g : v * 10 + (get_or a.line.now k 0 - 48) ≤ greatest = omega arith in
-    (omega arith, ap (λ (b : ℕ). digits_from (v * 10 + (b - 48)) (drop (k + 1) a.line.now)) w ∙ sym (digits_more a.line.now k v c.loop-k-test.true e g) ∙ c.loop-k.invariant.1)
+    (omega arith, ap (λ (d : ℕ). digits_from (v * 10 + d) (drop (k + 1) a.line.now)) w ∙ sym (digits_more a.line.now k v c.loop-k-test.true e g) ∙ c.loop-k.invariant.1)
 
 pub returns : goal.returns
 returns c =
-    let a = c.args in
-    sym (digits_end a.line.now c.loop-k.k c.loop-k.value c.loop-k-test.false) ∙ c.loop-k.invariant.1
+    let l = c.args.line.now in
+    let v = c.loop-k.value in
+    digits_end l (length l) c.loop-k.k v (omega arith) c.loop-k-test.false ∙ c.loop-k.invariant.1
