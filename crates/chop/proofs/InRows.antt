@@ -21,3 +21,6 @@ length-pieces words = length_tabulate (length words / 3) 0 (piece_in words)
 pub piece_at : (words : List ℕ) (i : ℕ) → i < length words / 3 → piece (pieces_of words) i ≡ piece_in words i
 unfolding pieces_of
 piece_at words i h = get_d_tabulate (length words / 3) 0 (piece_in words) no_piece i h ∙ ap (piece_in words) (zero-add i)
+
+-- for tests of as many as there are rows
+pub ruleset in_rows = (length-pieces)

@@ -5,6 +5,7 @@ ghost use Rattle.chop.specs.Pieces.{pieces_of};
 ghost use Rattle.chop.specs.Verdicts.{said, shows};
 ghost use Rattle.chop.specs.Judgement.{closing as closingAt, turning as turningOf, circle_at, verdict_by};
 ghost use Rattle.chop.specs.Linked.{Linked};
+ghost use Rattle.words.specs.Below.{found_below};
 
 use crate::links::{conflicts_of, others, siblings_of};
 use crate::{Finding, Judged, MOST, plain};
@@ -24,19 +25,16 @@ fn closing(words: &[u64], links: &[u64], b: usize) -> u64
     conflicts_of(words, b) & reached
 }
 
-// The lowest piece at which a circle closes; the number of pieces if there is none.
-fn turning(words: &[u64], links: &[u64]) -> usize
+// The lowest piece at which a circle closes.
+#[tactic(auto, unfolding(crate::specs::Judgement::turning))]
+fn turning(words: &[u64], links: &[u64]) -> Option<u64>
     requires { Linked words.now links.now }
-    ensures { result ≡ turningOf (pieces_of words.now) links.now }
+    ensures { result ≡ found_below (length links.now) (turningOf (pieces_of words.now) links.now) }
 {
-    let mut b: usize = 0;
-    while b < links.len() {
-        if closing(words, links, b) != 0 {
-            return b;
-        }
-        b += 1;
-    }
-    b
+    words::first_below(
+        links.len() as u64,
+        |b| closing(words, links, b as usize) != 0,
+    )
 }
 
 // The refusal with the circle that closes at b.
@@ -63,9 +61,8 @@ pub fn judge_linked(words: &[u64], links: &[u64]) -> Judged
     requires { Linked words.now links.now }
     ensures { result ≡ said (verdict_by (pieces_of words.now) links.now) }
 {
-    let b = turning(words, links);
-    if b < links.len() {
-        return refusal(words, links, b);
+    match turning(words, links) {
+        Some(b) => refusal(words, links, b as usize),
+        None => plain(Finding::Accepted),
     }
-    plain(Finding::Accepted)
 }

@@ -27,47 +27,30 @@ fn are_conflicting(words: &[u64], a: usize, b: usize) -> bool
 }
 
 // The siblings of piece b.
+#[tactic(auto, using(crate::proofs::InRows::in_rows), unfolding(crate::specs::Judgement::siblings_of))]
 pub fn siblings_of(words: &[u64], b: usize) -> u64
     requires { (b < length words.now / 3) × (length words.now / 3 ≤ most) }
     ensures { result ≡ siblings_of (pieces_of words.now) b }
 {
-    let count = words.len() / 3;
-    let mut out: u64 = 0;
-    let mut at: usize = 0;
-    while at < count {
-        out = graph::including(out, at, are_siblings(words, b, at));
-        at += 1;
-    }
-    out
+    graph::those_below(words.len() / 3, |at| are_siblings(words, b, at))
 }
 
 // The pieces in conflict with piece b.
+#[tactic(auto, using(crate::proofs::InRows::in_rows), unfolding(crate::specs::Judgement::conflicts_of))]
 pub fn conflicts_of(words: &[u64], b: usize) -> u64
     requires { (b < length words.now / 3) × (length words.now / 3 ≤ most) }
     ensures { result ≡ conflicts_of (pieces_of words.now) b }
 {
-    let count = words.len() / 3;
-    let mut out: u64 = 0;
-    let mut at: usize = 0;
-    while at < count {
-        out = graph::including(out, at, are_conflicting(words, b, at));
-        at += 1;
-    }
-    out
+    graph::those_below(words.len() / 3, |at| are_conflicting(words, b, at))
 }
 
 // All but b of so many pieces.
+#[tactic(auto, unfolding(crate::specs::Judgement::others))]
 pub fn others(count: usize, b: usize) -> u64
     requires { count ≤ most }
     ensures { result ≡ othersThan count b }
 {
-    let mut out: u64 = 0;
-    let mut at: usize = 0;
-    while at < count {
-        out = graph::including(out, at, !(at == b));
-        at += 1;
-    }
-    out
+    graph::those_below(count, |at| at != b)
 }
 
 // For each piece all that it is joined with, in the front of the array.
@@ -75,12 +58,9 @@ pub fn links_of(words: &[u64]) -> [u64; MOST]
     requires { length words.now / 3 ≤ most }
     ensures { take (length words.now / 3) result ≡ links_of (pieces_of words.now) }
 {
-    let count = words.len() / 3;
-    let mut out: [u64; MOST] = [0; MOST];
-    let mut at: usize = 0;
-    while at < count {
+    let mut out = [0; MOST];
+    for at in 0..words.len() / 3 {
         out[at] = siblings_of(words, at) | conflicts_of(words, at);
-        at += 1;
     }
     out
 }

@@ -1,17 +1,18 @@
 -- Pieces that are being put together: the place of a row's piece, a row noted, and that pieces are never fewer.
 use Prim.Native.Nat.{ℕ, zero, suc, ◌+◌, ◌-◌, ◌≤◌, ◌<◌}
-use mathlib.Core.Path.{◌≡◌, refl, sym, ap, ◌∙◌, subst}
-use mathlib.Core.Logic.{◌⊎◌, inl, inr}
+use mathlib.Core.Path.{◌≡◌, refl, sym, ap, ◌∙◌}
 use mathlib.Core.Bool.{Bool, true, false, cond}
 use mathlib.Core.List.{List, [], ◌∷◌, ◌++◌}
 use native.Mathlib.Omega.{arith}
 use native.Mathlib.Numerals.{add-one}
 use lib.ListN.{length, get_or, take, set, length-take, length-set, length-append}
 use lib.Seq.{get_or-take, take-set-lt, take-suc-set}
-use lib.Dec.{T, ltb}
+use lib.Dec.{ltb}
 use borrow.Author.Tests.{lt-ltb, le-ltb}
-use Rattle.rules.specs.Words.{first_from}
-use Rattle.graph.proofs.Sets.{first_is_lem}
+use Rattle.std.specs.Prelude.{Some, None}
+use Rattle.rules.proofs.Counts.{first-le}
+use Rattle.words.specs.Below.{found_below}
+use Rattle.chop.proofs.Verdicts.{found_some, found_none}
 use Rattle.chop_rows.specs.declared.Row.{Row}
 use Rattle.chop_rows.specs.declared.Noted.{Noted}
 use Rattle.chop_rows.specs.declared.Notes.{Notes}
@@ -23,25 +24,27 @@ use Rattle.chop_rows.specs.Notes.{OneMore, NotesOf}
 pub front_length : {A : Type 0} (l : List A) (n : ℕ) → n ≤ length l → length (take n l) ≡ n
 front_length l n h = simp length-take (omega arith)
 
-pub place_is :
-    (r : Row) (l : List Noted) (n k : ℕ) → n ≤ length l → k ≤ n → ((j : ℕ) → j < k → T (is_of r (get_or l j no_noted)) → ⊥)
-    → (k ≡ n) ⊎ ((k < n) × T (is_of r (get_or l k no_noted))) → k ≡ place_in r (take n l)
-unfolding place_in
-place_is r l n k h m none end =
-    first_is_lem p n k m (λ j i t. none j i (subst (λ (x : Noted). T (is_of r x)) (get_or-take n l j no_noted (omega arith)) t)) (go end)
-    ∙ ap (first_from p 0) (sym (front_length l n h))
-  where
-    p : ℕ → Bool
-    p j = is_of r (get_or (take n l) j no_noted)
-
-    go : (k ≡ n) ⊎ ((k < n) × T (is_of r (get_or l k no_noted))) → (k ≡ n) ⊎ T (p k)
-    go (inl e) = inl e
-    go (inr t) = inr (subst (λ (x : Noted). T (is_of r x)) (sym (get_or-take n l k no_noted t.0)) t.1)
-
 -- ---- one row more
 module _ (r : Row) (l : List Noted) (n k : ℕ) (room : length l ≡ most) (h : n ≤ most) (at : k ≡ place_in r (take n l)) where
   size : length (take n l) ≡ n
   size = front_length l n (omega arith)
+
+  within : place_in r (take n l) ≤ length (take n l)
+  unfolding place_in
+  within = let m = first-le (λ j. is_of r (get_or (take n l) j no_noted)) 0 (length (take n l)) in omega arith
+
+  -- a search found the piece, or did not
+  pub place_some : (s : ℕ) → Some s ≡ found_below (length (take n l)) (place_in r (take n l)) → (s ≡ place_in r (take n l)) × (s < n)
+  place_some s e =
+      let f = found_some (length (take n l)) (place_in r (take n l)) s e in
+      let p = f.0 in
+      let d = f.1 in
+      let m = within in
+      let z = size in
+      (p, omega arith)
+
+  pub place_none : None ≡ found_below (length (take n l)) (place_in r (take n l)) → n ≤ k
+  place_none e = let f = found_none (length (take n l)) (place_in r (take n l)) e in let z = size in omega arith
 
   -- the row's piece is there
   pub note_old : k < n → OneMore r (take n l) (record { count = n; pieces = set l k (noting r (get_or l k no_noted)) })
@@ -97,7 +100,6 @@ rows_keep words (suc j) n =
 
 -- what the loop over the rows knows before row i
 pub record Going (words : List ℕ) (n : Notes) (i : ℕ) : Type 0 where
-  pub within : i ≤ row_count words
   pub count : n.count ≤ most
   pub pieces : take n.count n.pieces ≡ noted_by words i
   pub room : length n.pieces ≡ most
@@ -111,7 +113,7 @@ module _ (words : List ℕ) (n m : Notes) (i : ℕ) (G : Going words n i) (M : O
   is = ap (with_row (row_at words i)) G.pieces ∙ sym (noted_more words i)
 
   pub going_on : i < row_count words → m.count ≤ most → Going words m (i + 1)
-  going_on l h = record { within = omega arith; count = h; pieces = M.pieces h ∙ is; room = M.room }
+  going_on l h = record { count = h; pieces = M.pieces h ∙ is; room = M.room }
 
   pub going_out : i < row_count words → most < m.count → NotesOf words m
   going_out l h =
@@ -122,8 +124,6 @@ module _ (words : List ℕ) (n m : Notes) (i : ℕ) (G : Going words n i) (M : O
       let z : length (noted_by words (i + 1 + (row_count words - (i + 1)))) ≡ length (noted_by words (row_count words)) = ap (λ (x : ℕ). length (noted_by words x)) q in
       record { many = λ t. omega arith; few = λ t. absurd (omega arith); room = M.room }
 
-pub going_end : (words : List ℕ) (n : Notes) (i : ℕ) → Going words n i → row_count words ≤ i → NotesOf words n
-going_end words n i G h =
-    let w = G.within in
-    let e : i ≡ row_count words = omega arith in
+pub going_end : (words : List ℕ) (n : Notes) (i : ℕ) → Going words n i → i ≡ row_count words → NotesOf words n
+going_end words n i G e =
     record { many = λ t. absurd (let c = G.count in omega arith); few = λ t. G.pieces ∙ ap (noted_by words) e; room = G.room }

@@ -9,6 +9,7 @@ ghost use Rattle.chop.specs.Pieces.{most, pieces_of};
 ghost use Rattle.chop.specs.Verdicts.{said};
 ghost use Rattle.chop_rows.specs.RowPieces.{row_at, with_item, begun as begunBy, noting as notingRow, place_in, piece_of, some_unknown, some_malformed, rows_judgement};
 ghost use Rattle.chop_rows.specs.Notes.{OneMore, NotesOf};
+ghost use Rattle.words.specs.Below.{found_below};
 
 use chop::{Finding, Judged, MOST, judge, plain};
 
@@ -23,6 +24,7 @@ const WRITE: u64 = 1;
 const WORDS: usize = 96;
 
 // A row by its words.
+// (a) `mode` is a word and not an enum: what is neither 0 nor 1 is malformed, and the definition `row_at` gives the word.
 #[derive(Clone, Copy)]
 pub struct Row {
     pub transaction: u64,
@@ -41,6 +43,7 @@ pub struct Noted {
 }
 
 // How many pieces there are so far, and those that have room, in the front of the array.
+// (a) Fixed memory, no heap; and the count goes one past the room, where a list of at most MOST could not.
 #[derive(Drop)]
 pub struct Notes {
     pub count: usize,
@@ -60,20 +63,15 @@ fn row_at(words: &[u64], at: usize) -> Row
     }
 }
 
-// The place of the row's piece among the first `count`; `count` if it is none of them.
-fn place_of(row: Row, pieces: [Noted; MOST], count: usize) -> usize
-    requires { count ≤ most }
-    ensures { result ≡ place_in row (take count pieces) }
+// The place of the row's piece among those.
+#[tactic(auto, unfolding(crate::specs::RowPieces::place_in))]
+fn place_of(row: Row, pieces: &[Noted]) -> Option<u64>
+    ensures { result ≡ found_below (length pieces.now) (place_in row pieces.now) }
 {
-    let mut at: usize = 0;
-    while at < count {
-        let p = pieces[at];
-        if (row.transaction == p.transaction) & (row.number == p.number) {
-            return at;
-        }
-        at += 1;
-    }
-    at
+    words::first_below(pieces.len() as u64, |at| {
+        let p = pieces[at as usize];
+        (row.transaction == p.transaction) & (row.number == p.number)
+    })
 }
 
 // The set with the row's item, if the row is of that mode; an unknown item is in no set.
@@ -121,10 +119,9 @@ fn note(row: Row, notes: Notes) -> Notes
 {
     let count = notes.count;
     let mut pieces = notes.pieces;
-    let place = place_of(row, pieces, count);
-    if place < count {
-        let p = pieces[place];
-        pieces[place] = noting(row, p);
+    if let Some(at) = place_of(row, &pieces[..count]) {
+        let piece = &mut pieces[at as usize];
+        *piece = noting(row, *piece);
         return Notes { count, pieces };
     }
     if count < MOST {
@@ -150,48 +147,40 @@ fn notes_of(words: &[u64]) -> Notes
         reads: 0,
         writes: 0,
     };
-    let count = words.len() / 4;
     let mut notes = Notes {
         count: 0,
         pieces: [none; MOST],
     };
-    let mut at: usize = 0;
-    while at < count {
+    for at in 0..words.len() / 4 {
         notes = note(row_at(words, at), notes);
         if MOST < notes.count {
             return notes;
         }
-        at += 1;
     }
     notes
 }
 
 // Whether some row has an item above 63.
+#[tactic(auto, unfolding(crate::specs::RowPieces::some_unknown))]
 fn some_unknown(words: &[u64]) -> bool
     ensures { result ≡ some_unknown words.now }
 {
-    let count = words.len() / 4;
-    let mut found = false;
-    let mut at: usize = 0;
-    while at < count {
-        found = !(words[at * 4 + 2] < ITEMS) | found;
-        at += 1;
-    }
-    found
+    words::some_below(
+        words.len() as u64 / 4,
+        |at| ITEMS <= row_at(words, at as usize).item,
+    )
 }
 
 // Whether some row is not whole, or neither reads nor writes.
+#[tactic(auto, unfolding(crate::specs::RowPieces::some_malformed))]
 fn some_malformed(words: &[u64]) -> bool
     ensures { result ≡ some_malformed words.now }
 {
-    let count = words.len() / 4;
-    let mut found = false;
-    let mut at: usize = 0;
-    while at < count {
-        found = (WRITE < words[at * 4 + 3]) | found;
-        at += 1;
-    }
-    !(words.len() % 4 == 0) | found
+    let found = words::some_below(
+        words.len() as u64 / 4,
+        |at| WRITE < row_at(words, at as usize).mode,
+    );
+    (words.len() % 4 != 0) | found
 }
 
 // The pieces as rows of three words, in the front of the array.
@@ -200,14 +189,12 @@ fn words_of(pieces: [Noted; MOST], count: usize) -> [u64; WORDS]
     ensures { (length result ≡ 96) × (pieces_of (take (count * 3) result) ≡ map piece_of (take count pieces)) }
 {
     let mut out: [u64; WORDS] = [0; WORDS];
-    let mut at: usize = 0;
-    while at < count {
+    for at in 0..count {
         let p = pieces[at];
         let first = at * 3;
         out[first] = p.transaction;
         out[first + 1] = p.reads;
         out[first + 2] = p.writes;
-        at += 1;
     }
     out
 }

@@ -57,3 +57,6 @@ module _ (words : List ℕ) (i j : ℕ) (a : i < length words / 4) (b : j < leng
 
       known : (k : ℕ) → k < length words / 4 → bit undo k ≡ may_undo (operations_in words) k
       known k l = ap (λ (u : ℕ). bit u k) e ∙ those_at (length words / 4) (may_undo (operations_in words)) k l
+
+-- for a test of as many as there are rows
+pub ruleset undone = (length-operations, undo_test)

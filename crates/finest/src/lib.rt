@@ -28,6 +28,7 @@ pub enum Finding {
 
 // The answer: what was found, and for each of `count` operations the place of the least operation of its
 // piece, counted from 0; zeros behind them.
+// (a) Fixed memory, no heap; the definitions `shows` and `said` give these three fields.
 #[derive(Drop)]
 pub struct Named {
     pub finding: Finding,
@@ -47,31 +48,26 @@ fn plain(finding: Finding) -> Named
 }
 
 // Whether some row has an item above 63.
+#[tactic(auto, unfolding(crate::specs::Rows::some_unknown))]
 fn some_unknown(words: &[u64]) -> bool
     ensures { result ≡ some_unknown words.now }
 {
-    let count = words.len() / 4;
-    let mut found = false;
-    let mut at: usize = 0;
-    while at < count {
-        found = !(words[at * 4 + 1] < ITEMS) | found;
-        at += 1;
-    }
-    found
+    words::some_below(
+        words.len() as u64 / 4,
+        |at| ITEMS <= words[at as usize * 4 + 1],
+    )
 }
 
 // Whether some row is not whole, or has a mode or a mark other than 0 and 1.
+#[tactic(auto, unfolding(crate::specs::Rows::some_malformed))]
 fn some_malformed(words: &[u64]) -> bool
     ensures { result ≡ some_malformed words.now }
 {
-    let count = words.len() / 4;
-    let mut found = false;
-    let mut at: usize = 0;
-    while at < count {
-        found = ((1 < words[at * 4 + 2]) | (1 < words[at * 4 + 3])) | found;
-        at += 1;
-    }
-    !(words.len() % 4 == 0) | found
+    let found = words::some_below(words.len() as u64 / 4, |i| {
+        let at = i as usize;
+        (1 < words[at * 4 + 2]) | (1 < words[at * 4 + 3])
+    });
+    (words.len() % 4 != 0) | found
 }
 
 // The finest cut of the operations that stand in rows of four words.

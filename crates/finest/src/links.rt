@@ -19,20 +19,17 @@ fn conflicting(words: &[u64], i: usize, j: usize) -> bool
 }
 
 // Whether operation i, or one behind it in its program, is marked.
+#[tactic(auto, using(crate::proofs::InRows::undone), unfolding(crate::specs::Operations::may_undo))]
 fn may_undo(words: &[u64], i: usize) -> bool
     requires { i < length words.now / 4 }
     ensures { result ≡ may_undo (operations_in words.now) i }
 {
-    let count = words.len() / 4;
-    let mut found = false;
-    let mut at: usize = 0;
-    while at < count {
+    words::some_below(words.len() as u64 / 4, |j| {
+        let at = j as usize;
         let same = words[i * 4] == words[at * 4];
         let marked = words[at * 4 + 3] == 1;
-        found = ((i <= at) & (same & marked)) | found;
-        at += 1;
-    }
-    found
+        (i <= at) & (same & marked)
+    })
 }
 
 // All such operations.
@@ -40,14 +37,7 @@ pub fn undoable(words: &[u64]) -> u64
     requires { length words.now / 4 ≤ most }
     ensures { result ≡ those (length words.now / 4) (may_undo (operations_in words.now)) }
 {
-    let count = words.len() / 4;
-    let mut out: u64 = 0;
-    let mut at: usize = 0;
-    while at < count {
-        out = graph::including(out, at, may_undo(words, at));
-        at += 1;
-    }
-    out
+    graph::those_below(words.len() / 4, |at| may_undo(words, at))
 }
 
 // Whether i and j are in conflict, or of one block of program t, or of one other program.
@@ -68,14 +58,7 @@ fn links_at(words: &[u64], undo: u64, t: u64, i: usize) -> u64
     requires { (i < length words.now / 4) × (length words.now / 4 ≤ most) × (undo ≡ those (length words.now / 4) (may_undo (operations_in words.now))) }
     ensures { result ≡ those (length words.now / 4) (linked_for (operations_in words.now) t i) }
 {
-    let count = words.len() / 4;
-    let mut out: u64 = 0;
-    let mut at: usize = 0;
-    while at < count {
-        out = graph::including(out, at, linked(words, undo, t, i, at));
-        at += 1;
-    }
-    out
+    graph::those_below(words.len() / 4, |at| linked(words, undo, t, i, at))
 }
 
 // For each operation all that it is linked with, in the front of the array.
@@ -83,12 +66,9 @@ pub fn links_for(words: &[u64], undo: u64, t: u64) -> [u64; MOST]
     requires { (length words.now / 4 ≤ most) × (undo ≡ those (length words.now / 4) (may_undo (operations_in words.now))) }
     ensures { take (length words.now / 4) result ≡ links_for (operations_in words.now) t }
 {
-    let count = words.len() / 4;
-    let mut out: [u64; MOST] = [0; MOST];
-    let mut at: usize = 0;
-    while at < count {
+    let mut out = [0; MOST];
+    for at in 0..words.len() / 4 {
         out[at] = links_at(words, undo, t, at);
-        at += 1;
     }
     out
 }

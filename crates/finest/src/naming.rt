@@ -9,32 +9,21 @@ use crate::MOST;
 use crate::links::{links_for, undoable};
 
 // So many operations, all of them.
+#[tactic(auto, unfolding(crate::specs::Finest::all))]
 fn all(count: usize) -> u64
     requires { count ≤ most }
     ensures { result ≡ all_of count }
 {
-    let mut out: u64 = 0;
-    let mut at: usize = 0;
-    while at < count {
-        out = graph::including(out, at, true);
-        at += 1;
-    }
-    out
+    graph::those_below(count, |_| true)
 }
 
 // The operations of the program of operation i.
+#[tactic(auto, using(crate::proofs::InRows::same_test))]
 fn program_of(words: &[u64], i: usize) -> u64
     requires { (i < length words.now / 4) × (length words.now / 4 ≤ most) }
     ensures { result ≡ those (length words.now / 4) (same_program (operations_in words.now) i) }
 {
-    let count = words.len() / 4;
-    let mut out: u64 = 0;
-    let mut at: usize = 0;
-    while at < count {
-        out = graph::including(out, at, words[i * 4] == words[at * 4]);
-        at += 1;
-    }
-    out
+    graph::those_below(words.len() / 4, |at| words[i * 4] == words[at * 4])
 }
 
 // The place of the least operation of the piece of operation i.
@@ -53,13 +42,10 @@ pub fn names_of(words: &[u64]) -> [u64; MOST]
     requires { length words.now / 4 ≤ most }
     ensures { result ≡ finest_cut (operations_in words.now) ++ replicate (most - length words.now / 4) 0 }
 {
-    let count = words.len() / 4;
     let undo = undoable(words);
-    let mut out: [u64; MOST] = [0; MOST];
-    let mut at: usize = 0;
-    while at < count {
+    let mut out = [0; MOST];
+    for at in 0..words.len() / 4 {
         out[at] = name_of(words, undo, at);
-        at += 1;
     }
     out
 }

@@ -8,10 +8,10 @@ use native.Mathlib.Numerals.{add-one}
 use lib.Bits.{bit_and, bit_or}
 use lib.Dec.{T, eqb, ltb}
 use borrow.Author.Tests.{ne_eqb, eq-eqb, eqb-true, ltb-true, ltb-false}
-use Rattle.rules.specs.Words.{bit, first_from}
+use Rattle.rules.specs.Words.{bit, first_from, slots_that}
 use Rattle.rules.proofs.Tests.{and_both, and_left, and_right, is_true, true_is, false_is, not_make, not_use}
 use Rattle.rules.proofs.Counts.{split-le, first-le, first_passes, first-least}
-use Rattle.rules.proofs.Bits.{bit_none, below_bits, below_power, one_bit_at}
+use Rattle.rules.proofs.Bits.{bit_none, below_bits, below_power, one_bit_at, or_alone}
 use Rattle.words.proofs.SlotWords.{and_at, or_at, has_bit, no_bit}
 use Rattle.graph.specs.Sets.{those, meets, lowest}
 
@@ -131,3 +131,13 @@ lowest-least m k h t = first-least (bit m) k 0 64 (omega arith) h t
 pub those_turn :
     (p : ℕ → Bool) (n out r : ℕ) → out ≡ those n p → r ≡ cond (p n) (bit_or out (2 ^ n)) out → r ≡ those (n + 1) p
 those_turn p n out r o e = e ∙ ap (λ (m : ℕ). cond (p n) (bit_or m (2 ^ n)) m) o ∙ sym (those-more n p)
+
+-- the word of those that pass, as `words` makes it
+pub slots_those : (n : ℕ) (p : ℕ → Bool) → slots_that n p ≡ those n p
+unfolding slots_that those
+slots_those zero p = refl
+slots_those (suc n) p = go (p n) ∙ ap (λ (m : ℕ). cond (p n) (bit_or m (2 ^ n)) m) (slots_those n p)
+  where
+    go : (b : Bool) → slots_that n p + cond b (2 ^ n) 0 ≡ cond b (bit_or (slots_that n p) (2 ^ n)) (slots_that n p)
+    go true = sym (or_alone n p)
+    go false = omega arith

@@ -4,26 +4,35 @@
 // is a word too: ways stay among its vertices.
 #![tactic(auto)]
 
-ghost use Rattle.std.specs.Prelude.{◌≡◌, ◌++◌, cond, ◌+◌, ◌<◌, ◌≤◌, ◌^◌, length, drop, get_or};
+ghost use Rattle.std.specs.Prelude.{◌≡◌, ℕ, Bool, ◌++◌, cond, ◌+◌, ◌<◌, ◌≤◌, ◌^◌, length, drop, get_or};
 ghost use Rattle.std.specs.Int.Bits.{bit_or};
-ghost use Rattle.graph.specs.Sets.{lowest as lowestOf};
+ghost use Rattle.graph.specs.Sets.{lowest as lowestOf, those};
 ghost use Rattle.graph.specs.Near.{grown as grownFrom, near as nearTo, joined as joinedTo, distance as distanceTo, way_from};
 
 // The lowest vertex of a set; 64 if it is empty.
+#[tactic(auto, unfolding(crate::specs::Sets::lowest, rules::specs::Words::bit, words::specs::Below::found_below))]
 pub fn lowest(set: u64) -> u64
     ensures { result ≡ lowestOf set }
 {
-    let mut at: u64 = 0;
-    while at < 64 {
-        if (set >> at) % 2 == 1 {
-            return at;
-        }
-        at += 1;
-    }
-    at
+    words::first_below(64, |at| (set >> at) % 2 == 1).unwrap_or(64)
 }
 
-// The set, with the number `at` in it if `yes`: what a loop that gathers those that pass does at each.
+// The set of those below n that pass.
+pub fn those_below<F: Fn(usize) -> bool>(n: usize, passes: F) -> u64
+    requires fits { n ≤ 64 }
+    requires callable { (i : ℕ) → i < n → F.pre passes i }
+    ensures { (p : ℕ → Bool) → ((i : ℕ) (b : Bool) → i < n → F.post passes i b → b ≡ p i) → result ≡ those n p }
+{
+    words::those_below(
+        n as u64,
+        |i|
+            requires { F.pre passes i }
+            ensures { F.post passes i result }
+        { passes(i as usize) },
+    )
+}
+
+// The set, with the number `at` in it if `yes`.
 pub fn including(set: u64, at: usize, yes: bool) -> u64
     requires { at < 64 }
     ensures { result ≡ cond yes (bit_or set (2 ^ at)) set }
@@ -35,19 +44,16 @@ pub fn including(set: u64, at: usize, yes: bool) -> u64
 }
 
 // The vertices of `set`, and those of the room that are linked to one of them.
+#[tactic(auto, unfolding(crate::specs::Near::grown, crate::specs::Sets::meets, rules::specs::Words::bit))]
 fn grown(links: &[u64], room: u64, set: u64) -> u64
     requires { length links.now ≤ 64 }
     ensures { result ≡ grownFrom links.now room set }
 {
-    let mut out: u64 = 0;
-    let mut at: usize = 0;
-    while at < links.len() {
+    those_below(links.len(), |at| {
         let in_set = (set >> at) % 2 == 1;
         let in_room = (room >> at) % 2 == 1;
-        out = including(out, at, in_set | (in_room & !((links[at] & set) == 0)));
-        at += 1;
-    }
-    out
+        in_set | (in_room & !((links[at] & set) == 0))
+    })
 }
 
 // The vertices from which a way of at most `most` links leads to the goal, within the room.
@@ -56,10 +62,8 @@ pub fn near(links: &[u64], room: u64, goal: u64, most: usize) -> u64
     ensures { result ≡ nearTo links.now room goal most }
 {
     let mut set: u64 = 1 << goal;
-    let mut turn: usize = 0;
-    while turn < most {
+    for turn in 0..most {
         set = grown(links, room, set);
-        turn += 1;
     }
     set
 }
@@ -79,26 +83,20 @@ pub fn distance(links: &[u64], room: u64, goal: u64, from: u64) -> usize
     ensures { result ≡ distanceTo links.now room goal from }
 {
     let mut set: u64 = 1 << goal;
-    let mut turn: usize = 0;
-    while turn < links.len() {
+    for turn in 0..links.len() {
         if (set >> from) % 2 == 1 {
             return turn;
         }
         set = grown(links, room, set);
-        turn += 1;
     }
-    turn
+    links.len()
 }
 
 // The links of a vertex; none for what is no vertex.
 fn links_at(links: &[u64], at: u64) -> u64
     ensures { result ≡ get_or links.now at 0 }
 {
-    let place = at as usize;
-    if place < links.len() {
-        return links[place];
-    }
-    0
+    links.get(at as usize).copied().unwrap_or(0)
 }
 
 // The chosen way of `count` links from `from` to the goal, put into the front of `out`.
@@ -107,14 +105,10 @@ pub fn put_way(links: &[u64], room: u64, goal: u64, from: u64, count: usize, out
     ensures { out.new ≡ way_from links.now room goal count from ++ drop (count + 1) out.old }
 {
     let mut at = from;
-    let mut left = count;
-    let mut place: usize = 0;
-    while 0 < left {
+    for place in 0..count {
         out[place] = at;
-        place += 1;
-        left -= 1;
-        let nearer = near(links, room, goal, left);
+        let nearer = near(links, room, goal, count - place - 1);
         at = lowest(links_at(links, at) & nearer);
     }
-    out[place] = at;
+    out[count] = at;
 }

@@ -1,18 +1,19 @@
 -- What is kept of a word with a byte more.
 use Prim.Native.Nat.{ℕ, suc, ◌+◌, ◌-◌, ◌*◌, ◌<◌, ◌≤◌}
 use mathlib.Core.Path.{◌≡◌, refl, sym, ap, ap₂, ◌∙◌}
-use mathlib.Core.Bool.{Bool, true, false, ◌&&◌, false≢true}
+use mathlib.Core.Bool.{Bool, true, false, ◌&&◌, cond, false≢true}
 use mathlib.Core.List.{List, [], ◌∷◌, ◌++◌}
 use native.Mathlib.Omega.{arith}
 use lib.Dec.{eqb, leb, ltb}
 use lib.ListN.{length, replicate, set, take}
 use lib.Seq.{take_at}
 use borrow.Author.Tests.{le-leb, lt-leb, leb-true, leb-false, lt-ltb, ne_eqb}
+use Rattle.std.specs.Prelude.{Option, Some, None}
+use Rattle.std.specs.Option.{is_some}
 use Rattle.rules.specs.Words.{every}
 use Rattle.numerals.specs.Numbers.{digit, worth, greatest}
-use Rattle.line_words.specs.Held.{counted, padded, KeepsBytes, KeepsDigits}
+use Rattle.line_words.specs.Held.{counted, padded, KeepsBytes, number_in}
 use Rattle.line_words.specs.declared.kept.Kept.{Kept}
-use Rattle.line_words.specs.declared.digits.Digits.{Digits}
 use Rattle.line_words.proofs.Snoc.{and_false, longer, every_snoc, worth_snoc}
 
 -- ---- the bytes
@@ -124,6 +125,36 @@ module _ (w : List ℕ) (b : ℕ) where
       go true p = rw (every_snoc digit w b, p, d, worth_snoc w 0 b, le-leb (worth 0 w * 10 + (b - 48)) greatest l) refl
       go false p = absurd (false≢true (rw p at e))
 
--- a word that is no number
-pub off : {w : List ℕ} {r : Digits} → r.right ≡ false → (every digit w && leb (worth 0 w) greatest) ≡ false → KeepsDigits w r
-off e q = record { right = e ∙ sym q; value = λ t. absurd (false≢true (sym e ∙ t)) }
+-- a word that is a number, and one that is none
+module _ (w : List ℕ) where
+  pub number : (every digit w && leb (worth 0 w) greatest) ≡ true → number_in w ≡ Some (worth 0 w)
+  unfolding number_in
+  number q = rw q
+
+  pub no_number : (every digit w && leb (worth 0 w) greatest) ≡ false → number_in w ≡ None
+  unfolding number_in
+  no_number q = rw q
+
+  pub is_number : {v : ℕ} → Some v ≡ number_in w → ((every digit w && leb (worth 0 w) greatest) ≡ true) × (v ≡ worth 0 w)
+  unfolding number_in
+  is_number {v} = go (every digit w && leb (worth 0 w) greatest)
+    where
+      go : (c : Bool) → Some v ≡ cond c (Some (worth 0 w)) None → (c ≡ true) × (v ≡ worth 0 w)
+      go true e = (refl, grind arith)
+      go false e = grind arith
+
+  pub is_none : None ≡ number_in w → (every digit w && leb (worth 0 w) greatest) ≡ false
+  unfolding number_in
+  is_none = go (every digit w && leb (worth 0 w) greatest)
+    where
+      go : (c : Bool) → None ≡ cond c (Some (worth 0 w)) None → c ≡ false
+      go true e = grind arith
+      go false e = refl
+
+  pub number_is : {o : Option ℕ} → o ≡ number_in w → is_some o ≡ (every digit w && leb (worth 0 w) greatest)
+  unfolding number_in
+  number_is e = ap is_some e ∙ go (every digit w && leb (worth 0 w) greatest)
+    where
+      go : (c : Bool) → is_some (cond c (Some (worth 0 w)) None) ≡ c
+      go true = refl
+      go false = refl

@@ -1,5 +1,5 @@
 -- What the structs keep of the words of a line that is not ended yet.
-use Rattle.std.specs.Prelude.{ℕ, ◌-◌, ◌≤◌, ◌≡◌, true, false, cond, ◌&&◌, List, ◌++◌, leb, length, replicate}
+use Rattle.std.specs.Prelude.{ℕ, ◌-◌, ◌≤◌, ◌≡◌, true, false, cond, ◌&&◌, List, ◌++◌, leb, length, replicate, Option, Some, None}
 use Rattle.rules.specs.Words.{every}
 use Rattle.numerals.specs.Numbers.{digit, worth, greatest}
 use Rattle.line_words.specs.Words.{hash, name_byte, longest_name}
@@ -21,9 +21,12 @@ pub record KeepsBytes (w : List ℕ) (s : Kept) : Type 0 where
   pub count : s.count ≡ counted (length w)
   pub bytes : length w ≤ longest_name → s.bytes ≡ padded w
 
+-- what a word's bytes are worth, where they are all digits of a number that is not too great
+unfoldable pub number_in : List ℕ → Option ℕ
+number_in w = cond (every digit w && leb (worth 0 w) greatest) (Some (worth 0 w)) None
+
 pub record KeepsDigits (w : List ℕ) (s : Digits) : Type 0 where
-  pub right : s.right ≡ (every digit w && leb (worth 0 w) greatest)
-  pub value : s.right ≡ true → s.value ≡ worth 0 w
+  pub value : s.value ≡ number_in w
 
 pub record KeepsWord (w : List ℕ) (s : Word) : Type 0 where
   pub bytes : KeepsBytes w s.kept

@@ -1,22 +1,15 @@
-// The bytes of a word as digits: whether they are all digits of a number that is not too great, and
-// what they are worth.
-ghost use Rattle.std.specs.Prelude.{◌≡◌, false, List, [], ◌∷◌, ◌++◌, ℕ};
+// The bytes of a word as digits: what they are worth, where they are all digits of a number that is not
+// too great.
+ghost use Rattle.std.specs.Prelude.{◌≡◌, List, [], ◌∷◌, ◌++◌, ℕ};
 ghost use Rattle.numerals.specs.Numbers.{digit as Numbers·digit};
 ghost use Rattle.line_words.specs.Held.{KeepsDigits};
 
 #[derive(Clone, Copy)]
 pub struct Digits {
-    pub right: bool,
-    pub value: u64,
+    pub value: Option<u64>,
 }
 
 const GREATEST: u64 = 18446744073709551615;
-
-fn wide(byte: u8) -> u64
-    ensures { result ≡ byte }
-{
-    byte as u64
-}
 
 fn digit(byte: u8) -> bool
     ensures { result ≡ Numbers·digit byte }
@@ -28,39 +21,24 @@ impl Digits {
     pub fn new() -> Self
         ensures { KeepsDigits [] result }
     {
-        Digits {
-            right: true,
-            value: 0,
-        }
-    }
-
-    fn none() -> Self
-        ensures { result.right ≡ false }
-    {
-        Digits {
-            right: false,
-            value: 0,
-        }
+        Digits { value: Some(0) }
     }
 
     pub fn push(self, byte: u8) -> Self
         ensures { (w : List ℕ) → KeepsDigits w self → KeepsDigits (w ++ (byte ∷ [])) result }
     {
-        let right = self.right;
-        let value = self.value;
-        if !right {
-            return Digits::none();
-        }
+        let Some(value) = self.value else {
+            return self;
+        };
         if !digit(byte) {
-            return Digits::none();
+            return Digits { value: None };
         }
-        let d = wide(byte) - 48;
+        let d = u64::from(byte - 48);
         if (GREATEST - d) / 10 < value {
-            return Digits::none();
+            return Digits { value: None };
         }
         Digits {
-            right: true,
-            value: value * 10 + d,
+            value: Some(value * 10 + d),
         }
     }
 }

@@ -8,6 +8,7 @@ ghost use Rattle.line_words.specs.Held.{KeepsBytes};
 pub const LONGEST: usize = 32;
 
 // The count is one more than the longest name has where there are too many to be kept.
+// (a) Fixed memory, no heap; the definition `KeepsBytes` gives these two fields, and the count may be past the room.
 #[derive(Clone, Copy)]
 pub struct Kept {
     pub bytes: [u8; 32],
@@ -57,18 +58,9 @@ impl Kept {
 }
 
 // Whether two words are the same.
+#[tactic(auto, using(crate::proofs::Sameness::same_pointwise))]
 pub fn same(a: &[u8], b: &[u8]) -> bool
     ensures { result ≡ Words·same a.now b.now }
 {
-    if a.len() != b.len() {
-        return false;
-    }
-    let mut k: usize = 0;
-    while k < a.len() {
-        if a[k] != b[k] {
-            return false;
-        }
-        k += 1;
-    }
-    true
+    a == b
 }

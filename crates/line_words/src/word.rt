@@ -78,7 +78,6 @@ impl Word {
         let kept = self.kept;
         let count = kept.count;
         let digits = self.digits;
-        let right = digits.right;
-        (0 < count) & right
+        (0 < count) & digits.value.is_some()
     }
 }

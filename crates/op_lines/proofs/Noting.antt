@@ -1,6 +1,6 @@
 -- What a word must be to lead to a stage, and what is noted there.
 use Prim.Native.Nat.{ℕ}
-use mathlib.Core.Path.{◌≡◌, refl, sym, ◌∙◌}
+use mathlib.Core.Path.{◌≡◌, refl, sym, ap, ◌∙◌}
 use mathlib.Core.Bool.{Bool, true, false, cond, ◌||◌}
 use mathlib.Core.List.{List}
 use lib.Dec.{eqb}
@@ -8,7 +8,10 @@ use lib.ListN.{length}
 use Rattle.line_words.specs.Words.{is_name, is_item, same, reads, writes}
 use Rattle.line_words.specs.Held.{KeepsWord}
 use Rattle.line_words.specs.declared.word.Word.{Word}
+use Rattle.std.specs.Prelude.{Option}
+use Rattle.std.specs.Option.{unwrap_or}
 use Rattle.line_words.proofs.Tested.{name-most, item-right}
+use Rattle.line_words.proofs.Keeping.{number}
 use Rattle.op_lines.specs.Says.{Operation, bang}
 use Rattle.op_lines.specs.Read.{onward, noted}
 use Rattle.op_lines.specs.Held.{KeepsOperation}
@@ -52,11 +55,11 @@ module _ {w : List ℕ} {o : Operation} {word : Word} {before : Noted} (k : Keep
   unfolding noted
   note_doing e = record { name = b.name; item = b.item; writes = e; marked = b.marked }
 
-  pub note_item : (s : Stage) → Touched ≡ onward s w → KeepsOperation (noted Touched w o) (record { name = before.name; item = word.digits.value; writes = before.writes; marked = before.marked })
+  pub note_item : {v : ℕ} → v ≡ unwrap_or word.digits.value 0 → (s : Stage) → Touched ≡ onward s w → KeepsOperation (noted Touched w o) (record { name = before.name; item = v; writes = before.writes; marked = before.marked })
   unfolding noted fitting
-  note_item s e =
+  note_item v s e =
       let f : is_item w ≡ true = rw (sym e) at (fits s w) in
-      record { name = b.name; item = k.digits.value (k.digits.right ∙ item-right w f); writes = b.writes; marked = b.marked }
+      record { name = b.name; item = v ∙ ap (λ (o : Option ℕ). unwrap_or o 0) (k.digits.value ∙ number w (item-right w f)); writes = b.writes; marked = b.marked }
 
   pub note_mark : KeepsOperation (noted Marked w o) (record { name = before.name; item = before.item; writes = before.writes; marked = true })
   unfolding noted

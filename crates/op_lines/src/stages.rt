@@ -79,43 +79,26 @@ impl Noted {
 pub(crate) fn note(stage: Stage, word: Word, before: Noted) -> Noted
     ensures { (s : Stage) (w : List ℕ) (o : Operation) → stage ≡ Read·onward s w → KeepsWord w word → KeepsOperation o before → KeepsOperation (noted stage w o) result }
 {
-    let kept = word.kept;
-    let digits = word.digits;
-    let value = digits.value;
-    let names_writing = kept.is(b"writes");
-    let name = before.name;
-    let item = before.item;
-    let writes = before.writes;
-    let marked = before.marked;
+    let value = word.digits.value.unwrap_or(0);
+    let names_writing = word.kept.is(b"writes");
     match stage {
         Stage::Nothing => before,
         Stage::Blank => before,
         Stage::Named => {
-            let fresh = kept.bytes;
-            Noted {
-                name: fresh,
-                item,
-                writes,
-                marked,
-            }
+            let name = word.kept.bytes;
+            Noted { name, ..before }
         }
         Stage::Doing => Noted {
-            name,
-            item,
             writes: names_writing,
-            marked,
+            ..before
         },
         Stage::Touched => Noted {
-            name,
             item: value,
-            writes,
-            marked,
+            ..before
         },
         Stage::Marked => Noted {
-            name,
-            item,
-            writes,
             marked: true,
+            ..before
         },
         Stage::Wrong => before,
     }

@@ -1,13 +1,16 @@
 -- What a word must be to lead to a stage, and what is noted there.
 use Prim.Native.Nat.{ℕ}
-use mathlib.Core.Path.{◌≡◌, refl, sym, ap₂, ◌∙◌}
+use mathlib.Core.Path.{◌≡◌, refl, sym, ap, ap₂, ◌∙◌}
 use mathlib.Core.Bool.{Bool, true, false, cond, ◌||◌}
 use mathlib.Core.List.{List, [], ◌∷◌}
 use lib.Dec.{eqb, ltb}
 use lib.ListN.{length}
 use Rattle.numerals.specs.Numbers.{worth}
 use Rattle.line_words.specs.Words.{is_name, is_item, same, reads, writes}
+use Rattle.std.specs.Prelude.{Option}
+use Rattle.std.specs.Option.{unwrap_or}
 use Rattle.line_words.proofs.Tested.{name-most, item-right}
+use Rattle.line_words.proofs.Keeping.{number}
 use Rattle.piece_lines.specs.Says.{Piece}
 use Rattle.piece_lines.specs.Read.{onward, noted}
 use Rattle.piece_lines.specs.Items.{unknown, word_with, unknown_in}
@@ -68,25 +71,25 @@ module _ {w : List ℕ} {p : Piece} {word : Word} {before : Noted} (k : KeepsWor
       record { name = k.bytes.bytes (name-most w f); reads = b.reads; writes = b.writes; unknown = b.unknown }
 
   module _ (right : is_item w ≡ true) where
-    value_is : word.digits.value ≡ worth 0 w
-    value_is = k.digits.value (k.digits.right ∙ item-right w right)
+    value_is : {v : ℕ} → v ≡ unwrap_or word.digits.value 0 → v ≡ worth 0 w
+    value_is e = e ∙ ap (λ (o : Option ℕ). unwrap_or o 0) (k.digits.value ∙ number w (item-right w right))
 
-    pub note_read : {n : ℕ} → n ≡ word_with before.reads (word.digits.value ∷ []) → KeepsPiece (noted Reading w p) (record { name = before.name; reads = n; writes = before.writes; unknown = before.unknown || ltb 63 word.digits.value })
+    pub note_read : {n v : ℕ} → v ≡ unwrap_or word.digits.value 0 → n ≡ word_with before.reads (v ∷ []) → KeepsPiece (noted Reading w p) (record { name = before.name; reads = n; writes = before.writes; unknown = before.unknown || ltb 63 v })
     unfolding noted
-    note_read e =
+    note_read v e =
         record {
           name = b.name;
-          reads = e ∙ ap₂ (λ (h i : ℕ). word_with h (i ∷ [])) b.reads value_is ∙ sym (word_of_snoc p.reads (worth 0 w));
+          reads = e ∙ ap₂ (λ (h i : ℕ). word_with h (i ∷ [])) b.reads (value_is v) ∙ sym (word_of_snoc p.reads (worth 0 w));
           writes = b.writes;
-          unknown = ap₂ (λ (t : Bool) (i : ℕ). t || unknown i) b.unknown value_is ∙ sym (unknown-read p.name p.reads p.writes (worth 0 w));
+          unknown = ap₂ (λ (t : Bool) (i : ℕ). t || unknown i) b.unknown (value_is v) ∙ sym (unknown-read p.name p.reads p.writes (worth 0 w));
         }
 
-    pub note_written : {n : ℕ} → n ≡ word_with before.writes (word.digits.value ∷ []) → KeepsPiece (noted Writing w p) (record { name = before.name; reads = before.reads; writes = n; unknown = before.unknown || ltb 63 word.digits.value })
+    pub note_written : {n v : ℕ} → v ≡ unwrap_or word.digits.value 0 → n ≡ word_with before.writes (v ∷ []) → KeepsPiece (noted Writing w p) (record { name = before.name; reads = before.reads; writes = n; unknown = before.unknown || ltb 63 v })
     unfolding noted
-    note_written e =
+    note_written v e =
         record {
           name = b.name;
           reads = b.reads;
-          writes = e ∙ ap₂ (λ (h i : ℕ). word_with h (i ∷ [])) b.writes value_is ∙ sym (word_of_snoc p.writes (worth 0 w));
-          unknown = ap₂ (λ (t : Bool) (i : ℕ). t || unknown i) b.unknown value_is ∙ sym (unknown-written p.name p.reads p.writes (worth 0 w));
+          writes = e ∙ ap₂ (λ (h i : ℕ). word_with h (i ∷ [])) b.writes (value_is v) ∙ sym (word_of_snoc p.writes (worth 0 w));
+          unknown = ap₂ (λ (t : Bool) (i : ℕ). t || unknown i) b.unknown (value_is v) ∙ sym (unknown-written p.name p.reads p.writes (worth 0 w));
         }

@@ -91,39 +91,26 @@ impl Noted {
 pub(crate) fn note(stage: Stage, word: Word, before: Noted) -> Noted
     ensures { (s : Stage) (w : List ℕ) (p : Piece) → stage ≡ Read·onward s w → KeepsWord w word → KeepsPiece p before → KeepsPiece (noted stage w p) result }
 {
-    let kept = word.kept;
-    let digits = word.digits;
-    let value = digits.value;
+    let value = word.digits.value.unwrap_or(0);
     let other = 63 < value;
-    let name = before.name;
-    let reads = before.reads;
-    let writes = before.writes;
-    let unknown = before.unknown;
     match stage {
         Stage::Nothing => before,
         Stage::Blank => before,
         Stage::Named => {
-            let fresh = kept.bytes;
-            Noted {
-                name: fresh,
-                reads,
-                writes,
-                unknown,
-            }
+            let name = word.kept.bytes;
+            Noted { name, ..before }
         }
         Stage::ToRead => before,
         Stage::Reading => Noted {
-            name,
-            reads: with_item(reads, value),
-            writes,
-            unknown: unknown | other,
+            reads: with_item(before.reads, value),
+            unknown: before.unknown | other,
+            ..before
         },
         Stage::ToWrite => before,
         Stage::Writing => Noted {
-            name,
-            reads,
-            writes: with_item(writes, value),
-            unknown: unknown | other,
+            writes: with_item(before.writes, value),
+            unknown: before.unknown | other,
+            ..before
         },
         Stage::Wrong => before,
     }

@@ -9,7 +9,7 @@ use Rattle.chop_rows.proofs.notes_of.Goals as goal
 
 pub loop-at-init : goal.loop-at-init
 unfolding noted_by
-loop-at-init c = record { within = omega arith; count = omega arith; pieces = refl; room = refl }
+loop-at-init c = record { count = omega arith; pieces = refl; room = refl }
 
 pub note-notes-requires : goal.note-notes-requires
 note-notes-requires c = (c.loop-at.invariant.count, c.loop-at.invariant.room)
@@ -29,4 +29,4 @@ loop-at-preserved c =
     (subst (λ (r : Row). OneMore r (take at.notes.count at.notes.pieces) c.note-notes.result) c.row_at.ensures c.note-notes.ensures) c.loop-at-test.true c.if-notes-gt-MOST.false
 
 pub returns : goal.returns
-returns c = going_end c.args.words.now c.loop-at.notes c.loop-at.at c.loop-at.invariant c.loop-at-test.false
+returns c = going_end c.args.words.now c.loop-at.notes c.loop-at.at c.loop-at.invariant (omega arith)

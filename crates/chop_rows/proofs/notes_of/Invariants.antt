@@ -1,11 +1,6 @@
--- `chop_rows::notes_of` meets its contract. The invariant is `Going`: the rows below `at` are noted, and there is room for their pieces.
-use Prim.Native.Nat.{◌-◌, ◌/◌}
-use lib.ListN.{length}
+-- The invariant is `Going`: the rows below `at` are noted, and there is room for their pieces.
 use Rattle.chop_rows.proofs.OneMore.{Going}
 use Rattle.chop_rows.proofs.notes_of.Given as goal
 
 abbrev pub invariant-loop-at : goal.invariant-loop-at
 invariant-loop-at l = Going l.words l.notes l.at
-
-abbrev pub decreases-loop-at : goal.decreases-loop-at
-decreases-loop-at l = length l.words / 4 - l.at

@@ -1,14 +1,10 @@
--- `graph::distance` meets its contract. The invariant: the set is what `turn` links reach, and fewer do not reach `from`.
-use Prim.Native.Nat.{ℕ, ◌-◌, ◌≤◌, ◌<◌}
+-- The set is what `turn` links reach, and fewer do not reach `from`.
+use Prim.Native.Nat.{ℕ, ◌<◌}
 use mathlib.Core.Path.{◌≡◌}
-use lib.ListN.{length}
 use lib.Dec.{T}
 use Rattle.rules.specs.Words.{bit}
 use Rattle.graph.specs.Near.{near}
 use Rattle.graph.proofs.distance.Given as goal
 
 abbrev pub invariant-loop-turn : goal.invariant-loop-turn
-invariant-loop-turn l = (l.turn ≤ length l.links) × (l.set ≡ near l.links l.room l.goal l.turn) × ((k : ℕ) → k < l.turn → T (bit (near l.links l.room l.goal k) l.from) → ⊥)
-
-abbrev pub decreases-loop-turn : goal.decreases-loop-turn
-decreases-loop-turn l = length l.links - l.turn
+invariant-loop-turn l = (l.set ≡ near l.links l.room l.goal l.turn) × ((k : ℕ) → k < l.turn → T (bit (near l.links l.room l.goal k) l.from) → ⊥)

@@ -7,17 +7,17 @@ use Rattle.graph.proofs.near.Goals as goal
 
 pub loop-turn-init : goal.loop-turn-init
 unfolding near
-loop-turn-init c = (omega arith, shifted c.args.goal (omega arith))
+loop-turn-init c = shifted c.args.goal (omega arith)
 
 pub loop-turn-preserved : goal.loop-turn-preserved
 loop-turn-preserved c =
     let a = c.args in
     let at = c.loop-turn in
-    (omega arith, c.grown-set.ensures ∙ ap (grown a.links.now a.room) at.invariant.1 ∙ sym (near-more a.links.now a.room a.goal at.turn))
+    c.grown-set.ensures ∙ ap (grown a.links.now a.room) at.invariant ∙ sym (near-more a.links.now a.room a.goal at.turn)
 
 pub returns : goal.returns
 returns c =
     let a = c.args in
     let at = c.loop-turn in
     let e : at.turn ≡ a.most = omega arith in
-    at.invariant.1 ∙ ap (near a.links.now a.room a.goal) e
+    at.invariant ∙ ap (near a.links.now a.room a.goal) e

@@ -1,5 +1,5 @@
--- `chop::links::links_of` meets its contract. The invariant: the links of the pieces below `at` are written.
-use Prim.Native.Nat.{ℕ, ◌-◌, ◌/◌, ◌≤◌}
+-- The links of the pieces below `at` are written.
+use Prim.Native.Nat.{ℕ}
 use mathlib.Core.Path.{◌≡◌}
 use mathlib.Core.List.{List}
 use lib.ListN.{length, take}
@@ -14,7 +14,4 @@ unfoldable pub link_word : List ℕ → ℕ → ℕ
 link_word words a = bit_or (siblings_of (pieces_of words) a) (conflicts_of (pieces_of words) a)
 
 abbrev pub invariant-loop-at : goal.invariant-loop-at
-invariant-loop-at l = (l.at ≤ length l.words / 3) × (length l.out ≡ most) × (take l.at l.out ≡ tabulate_from 0 l.at (link_word l.words))
-
-abbrev pub decreases-loop-at : goal.decreases-loop-at
-decreases-loop-at l = length l.words / 3 - l.at
+invariant-loop-at l = (length l.out ≡ most) × (take l.at l.out ≡ tabulate_from 0 l.at (link_word l.words))

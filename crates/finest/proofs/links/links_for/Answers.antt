@@ -11,7 +11,7 @@ use Rattle.finest.proofs.links.links_for.Goals as goal
 
 pub loop-at-init : goal.loop-at-init
 unfolding tabulate_from
-loop-at-init c = (omega arith, refl, refl)
+loop-at-init c = (refl, refl)
 
 pub loop-at-preserved : goal.loop-at-preserved
 unfolding link_word
@@ -19,7 +19,7 @@ loop-at-preserved c =
     let a = c.args in
     let words = a.words.now in
     let at = c.loop-at in
-    (omega arith, length-set at.out at.at _ ∙ at.invariant.1, tabulate_turn (link_word words a.t (length words / 4)) at.at _ at.out (omega arith) at.invariant.2 c.links_at.ensures)
+    (length-set at.out at.at _ ∙ at.invariant.0, tabulate_turn (link_word words a.t (length words / 4)) at.at _ at.out (omega arith) at.invariant.1 c.links_at.ensures)
 
 pub returns : goal.returns
 unfolding links_for link_word
@@ -29,6 +29,6 @@ returns c =
     let at = c.loop-at in
     let e : at.at ≡ length words / 4 = omega arith in
     ap (λ (n : ℕ). take n at.out) (sym e)
-    ∙ at.invariant.2
+    ∙ at.invariant.1
     ∙ ap (λ (n : ℕ). tabulate_from 0 n (link_word words a.t (length words / 4))) e
     ∙ ap (λ (n : ℕ). tabulate_from 0 n (link_word words a.t n)) (sym (length-operations words))

@@ -1,5 +1,5 @@
--- `finest::links::links_for` meets its contract. The invariant: the links of the operations below `at` are written.
-use Prim.Native.Nat.{ℕ, ◌-◌, ◌/◌, ◌≤◌}
+-- The links of the operations below `at` are written.
+use Prim.Native.Nat.{ℕ, ◌/◌}
 use mathlib.Core.Path.{◌≡◌}
 use mathlib.Core.List.{List}
 use lib.ListN.{length, take}
@@ -16,7 +16,4 @@ link_word words t n i = those n (linked_for (operations_in words) t i)
 
 abbrev pub invariant-loop-at : goal.invariant-loop-at
 invariant-loop-at l =
-    (l.at ≤ length l.words / 4) × (length l.out ≡ most) × (take l.at l.out ≡ tabulate_from 0 l.at (link_word l.words l.t (length l.words / 4)))
-
-abbrev pub decreases-loop-at : goal.decreases-loop-at
-decreases-loop-at l = length l.words / 4 - l.at
+    (length l.out ≡ most) × (take l.at l.out ≡ tabulate_from 0 l.at (link_word l.words l.t (length l.words / 4)))

@@ -1,5 +1,5 @@
--- `finest::naming::names_of` meets its contract. The invariant: the names below `at` are written, and zeros stand behind them.
-use Prim.Native.Nat.{ℕ, ◌-◌, ◌/◌, ◌≤◌}
+-- The names below `at` are written, and zeros stand behind them.
+use Prim.Native.Nat.{ℕ, ◌-◌}
 use mathlib.Core.Path.{◌≡◌}
 use mathlib.Core.List.{List}
 use lib.ListN.{length, take, drop, replicate}
@@ -16,7 +16,4 @@ name words i = lowest (piece_at (operations_in words) i)
 
 abbrev pub invariant-loop-at : goal.invariant-loop-at
 invariant-loop-at l =
-    (l.at ≤ length l.words / 4) × (length l.out ≡ most) × (take l.at l.out ≡ tabulate_from 0 l.at (name l.words)) × (drop l.at l.out ≡ replicate (most - l.at) 0)
-
-abbrev pub decreases-loop-at : goal.decreases-loop-at
-decreases-loop-at l = length l.words / 4 - l.at
+    (length l.out ≡ most) × (take l.at l.out ≡ tabulate_from 0 l.at (name l.words)) × (drop l.at l.out ≡ replicate (most - l.at) 0)

@@ -19,7 +19,7 @@ pub returns-in-Doing : goal.returns-in-Doing
 returns-in-Doing c = λ s w o e k b. rw c.in-Doing.is (note_doing k b (c.is-names_writing.ensures w k.bytes))
 
 pub returns-in-Touched : goal.returns-in-Touched
-returns-in-Touched c = λ s w o e k b. rw c.in-Touched.is (note_item k b s (sym c.in-Touched.is ∙ e))
+returns-in-Touched c = λ s w o e k b. rw c.in-Touched.is (note_item k b c.unwrap_or-value.ensures s (sym c.in-Touched.is ∙ e))
 
 pub returns-in-Marked : goal.returns-in-Marked
 returns-in-Marked c = λ s w o e k b. rw c.in-Marked.is (note_mark k b)

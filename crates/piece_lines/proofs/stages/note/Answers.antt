@@ -20,14 +20,14 @@ unfolding noted
 returns-in-ToRead c = λ s w p e k b. rw c.in-ToRead.is b
 
 pub returns-in-Reading : goal.returns-in-Reading
-returns-in-Reading c = λ s w p e k b. rw c.in-Reading.is (note_read k b (read-item s w (sym c.in-Reading.is ∙ e)) c.with_item.ensures)
+returns-in-Reading c = λ s w p e k b. rw c.in-Reading.is (note_read k b (read-item s w (sym c.in-Reading.is ∙ e)) c.unwrap_or-value.ensures c.with_item.ensures)
 
 pub returns-in-ToWrite : goal.returns-in-ToWrite
 unfolding noted
 returns-in-ToWrite c = λ s w p e k b. rw c.in-ToWrite.is b
 
 pub returns-in-Writing : goal.returns-in-Writing
-returns-in-Writing c = λ s w p e k b. rw c.in-Writing.is (note_written k b (written-item s w (sym c.in-Writing.is ∙ e)) c.with_item-in-Writing.ensures)
+returns-in-Writing c = λ s w p e k b. rw c.in-Writing.is (note_written k b (written-item s w (sym c.in-Writing.is ∙ e)) c.unwrap_or-value.ensures c.with_item-in-Writing.ensures)
 
 pub returns-in-Wrong : goal.returns-in-Wrong
 unfolding noted
