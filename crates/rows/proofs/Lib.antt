@@ -1,4 +1,3 @@
 -- Laws for the loops over rows.
-pub mod Search
 pub mod Bits
 pub mod Rewords

@@ -1,10 +1,10 @@
 // The lock table: a row for each item.
-ghost use Rattle.std.specs.Prelude.{◌≡◌, ◌<◌, length};
+ghost use Rattle.std.specs.Prelude.{◌≡◌, ◌<◌};
 ghost use Rattle.names.specs.Sizes.{base};
-ghost use Rattle.rules.specs.Tables.{lock_words, lock, set_lock};
+ghost use Rattle.rules.specs.Tables.{lock, set_lock};
 ghost use Rattle.rows.specs.Founds.{lock_of};
 
-use names::{Item, LOCK_EXCLUSIVE_AT, LOCK_ROW, LOCK_WORKING_AT};
+use names::{Item, LOCK_EXCLUSIVE_AT, LOCK_ROW, LOCK_WORKING_AT, Locks};
 
 // The words of a lock: shared holders (bit i for slot i), exclusive holder (slot plus 1, 0 for
 // none), working value.
@@ -16,8 +16,8 @@ pub struct LockRow {
 }
 
 // The lock of an item.
-pub fn lock_at(locks: &[u64], item: Item) -> LockRow
-    requires { (length locks.now ≡ lock_words base) × (item.0 < base.items) }
+pub fn lock_at(locks: &Locks, item: Item) -> LockRow
+    requires { item.0 < base.items }
     ensures { lock_of result ≡ lock locks.now item.0 }
 {
     let x = item.0;
@@ -30,8 +30,8 @@ pub fn lock_at(locks: &[u64], item: Item) -> LockRow
 }
 
 // The lock of an item, written.
-pub fn set_lock(locks: &mut [u64], item: Item, row: LockRow)
-    requires { (length locks.old ≡ lock_words base) × (item.0 < base.items) }
+pub fn set_lock(locks: &mut Locks, item: Item, row: LockRow)
+    requires { item.0 < base.items }
     ensures { locks.new ≡ set_lock locks.old item.0 (lock_of row) }
 {
     let x = item.0;

@@ -1,77 +1,69 @@
 // The transaction table: its head, and a row for each slot.
-ghost use Rattle.std.specs.Prelude.{◌≡◌, ◌+◌, ◌<◌, length, get_or, set, eqb, ◌&&◌};
+//
+// (a) Kinds and locks are numbers, not enums, and a slot is below the number of slots by a `requires`, not by its type: any
+// word may stand in a table, and the rules (`Txn`, `Deed`, `awaits_other`, `begin_by`, `item_of`) speak of words.
+ghost use Rattle.std.specs.Prelude.{◌≡◌, ◌+◌, ◌<◌, get_or, set, eqb, ◌&&◌, not};
 ghost use Rattle.names.specs.Sizes.{base};
 ghost use Rattle.names.specs.Layout.{txn_row, txn_rank_at};
-ghost use Rattle.rules.specs.Tables.{txn_words, last_number, clock, txn_at, txn, set_txn, set_awaited, set_reads, set_items_read, set_later_for, no_txn, live, slot_of, free_slot, new_txn, a_settled};
+ghost use Rattle.rules.specs.Tables.{last_number, clock, txn_at, txn, set_txn, set_awaited, set_reads, set_items_read, set_later_for, no_txn, live, slot_of, free_slot, new_txn, a_settled};
 ghost use Rattle.rows.specs.Founds.{found_at};
 
 use names::{
     CLOCK_AT, Item, LAST_NUMBER_AT, Number, SETTLED_KIND, SLOTS, Slot, Stamp, TXN_COUNT_AT,
     TXN_HEAD, TXN_ITEM_AT, TXN_ITEMS_READ_AT, TXN_KIND_AT, TXN_LATER_FOR_AT, TXN_LOCK_AT,
-    TXN_RANK_AT, TXN_ROW, TXN_START_AT, TXN_SUM_AT,
+    TXN_RANK_AT, TXN_ROW, TXN_START_AT, TXN_SUM_AT, Txns,
 };
 
-// Where a search ended.
-#[derive(Clone, Copy)]
-pub enum Found {
-    At(Slot),
-    Nobody,
-}
-
 // The last number given.
-pub fn last_number(txns: &[u64]) -> u64
-    requires { length txns.now ≡ txn_words base }
+pub fn last_number(txns: &Txns) -> u64
     ensures { result ≡ last_number txns.now }
 {
     txns[LAST_NUMBER_AT]
 }
 
 // The stamp that was given last.
-pub fn clock(txns: &[u64]) -> Stamp
-    requires { length txns.now ≡ txn_words base }
+pub fn clock(txns: &Txns) -> Stamp
     ensures { result.0 ≡ clock txns.now }
 {
     Stamp(txns[CLOCK_AT])
 }
 
+// Whether the transaction in a slot lives and has this number.
+fn named(txns: &Txns, slot: Slot, number: Number) -> bool
+    requires { slot.0 < base.slots }
+    ensures { result ≡ (live (txn txns.now slot.0) && eqb (txn txns.now slot.0).number number.0) }
+{
+    let word = txns[TXN_HEAD + TXN_ROW * (slot.0 as usize)];
+    (word != 0) & (word == number.0)
+}
+
 // The slot of the live transaction with this number.
-pub fn slot_of(txns: &[u64], number: Number) -> Found
-    requires { length txns.now ≡ txn_words base }
+#[tactic(auto, unfolding(crate::specs::Founds::found_at, rules::specs::Tables::slot_of, words::specs::Below::found_below))]
+pub fn slot_of(txns: &Txns, number: Number) -> Option<Slot>
     ensures { result ≡ found_at (slot_of base txns.now number.0) }
 {
-    let wanted = number.0;
-    let mut slot: u64 = 0;
-    while slot < SLOTS {
-        let word = txns[TXN_HEAD + TXN_ROW * (slot as usize)];
-        if word != 0 {
-            if word == wanted {
-                return Found::At(Slot(slot));
-            }
-        }
-        slot += 1;
-    }
-    Found::Nobody
+    words::first_below(SLOTS, |slot| named(txns, Slot(slot), number)).map(Slot)
+}
+
+// Whether a slot has no transaction.
+fn free(txns: &Txns, slot: Slot) -> bool
+    requires { slot.0 < base.slots }
+    ensures { result ≡ not (live (txn txns.now slot.0)) }
+{
+    txns[TXN_HEAD + TXN_ROW * (slot.0 as usize)] == 0
 }
 
 // The lowest free slot.
-pub fn free_slot(txns: &[u64]) -> Found
-    requires { length txns.now ≡ txn_words base }
+#[tactic(auto, unfolding(crate::specs::Founds::found_at, rules::specs::Tables::free_slot, words::specs::Below::found_below))]
+pub fn free_slot(txns: &Txns) -> Option<Slot>
     ensures { result ≡ found_at (free_slot base txns.now) }
 {
-    let mut slot: u64 = 0;
-    while slot < SLOTS {
-        let word = txns[TXN_HEAD + TXN_ROW * (slot as usize)];
-        if word == 0 {
-            return Found::At(Slot(slot));
-        }
-        slot += 1;
-    }
-    Found::Nobody
+    words::first_below(SLOTS, |slot| free(txns, Slot(slot))).map(Slot)
 }
 
 // One word of the row of a slot.
-fn row_word(txns: &[u64], slot: Slot, k: usize) -> u64
-    requires { (length txns.now ≡ txn_words base) × (slot.0 < base.slots) × (k < txn_row) }
+fn row_word(txns: &Txns, slot: Slot, k: usize) -> u64
+    requires { (slot.0 < base.slots) × (k < txn_row) }
     ensures { result ≡ get_or txns.now (txn_at slot.0 + k) 0 }
 {
     let at = TXN_HEAD + TXN_ROW * (slot.0 as usize);
@@ -79,48 +71,48 @@ fn row_word(txns: &[u64], slot: Slot, k: usize) -> u64
 }
 
 // Update, query, update past its writing, or relaxed query.
-pub fn kind(txns: &[u64], slot: Slot) -> u64
-    requires { (length txns.now ≡ txn_words base) × (slot.0 < base.slots) }
+pub fn kind(txns: &Txns, slot: Slot) -> u64
+    requires { slot.0 < base.slots }
     ensures { result ≡ (txn txns.now slot.0).kind }
 {
     row_word(txns, slot, TXN_KIND_AT)
 }
 
 // The start of a query; the stamp of one past its writing.
-pub fn start(txns: &[u64], slot: Slot) -> Stamp
-    requires { (length txns.now ≡ txn_words base) × (slot.0 < base.slots) }
+pub fn start(txns: &Txns, slot: Slot) -> Stamp
+    requires { slot.0 < base.slots }
     ensures { result.0 ≡ (txn txns.now slot.0).start }
 {
     Stamp(row_word(txns, slot, TXN_START_AT))
 }
 
 // The lock that is awaited, or 0.
-pub fn awaited_lock(txns: &[u64], slot: Slot) -> u64
-    requires { (length txns.now ≡ txn_words base) × (slot.0 < base.slots) }
+pub fn awaited_lock(txns: &Txns, slot: Slot) -> u64
+    requires { slot.0 < base.slots }
     ensures { result ≡ (txn txns.now slot.0).awaited_lock }
 {
     row_word(txns, slot, TXN_LOCK_AT)
 }
 
 // The word of the item that is awaited.
-pub fn awaited_item(txns: &[u64], slot: Slot) -> u64
-    requires { (length txns.now ≡ txn_words base) × (slot.0 < base.slots) }
+pub fn awaited_item(txns: &Txns, slot: Slot) -> u64
+    requires { slot.0 < base.slots }
     ensures { result ≡ (txn txns.now slot.0).awaited_item }
 {
     row_word(txns, slot, TXN_ITEM_AT)
 }
 
 // The rank on the awaited item, or 0.
-pub fn rank(txns: &[u64], slot: Slot) -> u64
-    requires { (length txns.now ≡ txn_words base) × (slot.0 < base.slots) }
+pub fn rank(txns: &Txns, slot: Slot) -> u64
+    requires { slot.0 < base.slots }
     ensures { result ≡ (txn txns.now slot.0).rank }
 {
     row_word(txns, slot, TXN_RANK_AT)
 }
 
 // The rank, written.
-pub fn set_rank(txns: &mut [u64], slot: Slot, rank: u64)
-    requires { (length txns.old ≡ txn_words base) × (slot.0 < base.slots) }
+pub fn set_rank(txns: &mut Txns, slot: Slot, rank: u64)
+    requires { slot.0 < base.slots }
     ensures { txns.new ≡ set txns.old (txn_at slot.0 + txn_rank_at) rank }
 {
     let at = TXN_HEAD + TXN_ROW * (slot.0 as usize);
@@ -129,8 +121,8 @@ pub fn set_rank(txns: &mut [u64], slot: Slot, rank: u64)
 
 // The awaited lock and item of a slot, and its rank there; where nothing is awaited, the item 0 and
 // the rank 0.
-pub fn set_awaited(txns: &mut [u64], slot: Slot, lock: u64, item: Item, rank: u64)
-    requires { (length txns.old ≡ txn_words base) × (slot.0 < base.slots) }
+pub fn set_awaited(txns: &mut Txns, slot: Slot, lock: u64, item: Item, rank: u64)
+    requires { slot.0 < base.slots }
     ensures { txns.new ≡ set_awaited txns.old slot.0 lock item.0 rank }
 {
     let at = TXN_HEAD + TXN_ROW * (slot.0 as usize);
@@ -140,24 +132,24 @@ pub fn set_awaited(txns: &mut [u64], slot: Slot, lock: u64, item: Item, rank: u6
 }
 
 // How many reads of a query were counted.
-pub fn read_count(txns: &[u64], slot: Slot) -> u64
-    requires { (length txns.now ≡ txn_words base) × (slot.0 < base.slots) }
+pub fn read_count(txns: &Txns, slot: Slot) -> u64
+    requires { slot.0 < base.slots }
     ensures { result ≡ (txn txns.now slot.0).read_count }
 {
     row_word(txns, slot, TXN_COUNT_AT)
 }
 
 // The sum of the weights of these reads.
-pub fn weight_sum(txns: &[u64], slot: Slot) -> u64
-    requires { (length txns.now ≡ txn_words base) × (slot.0 < base.slots) }
+pub fn weight_sum(txns: &Txns, slot: Slot) -> u64
+    requires { slot.0 < base.slots }
     ensures { result ≡ (txn txns.now slot.0).weight_sum }
 {
     row_word(txns, slot, TXN_SUM_AT)
 }
 
 // The count and the sum, written.
-pub fn set_reads(txns: &mut [u64], slot: Slot, count: u64, sum: u64)
-    requires { (length txns.old ≡ txn_words base) × (slot.0 < base.slots) }
+pub fn set_reads(txns: &mut Txns, slot: Slot, count: u64, sum: u64)
+    requires { slot.0 < base.slots }
     ensures { txns.new ≡ set_reads txns.old slot.0 count sum }
 {
     let at = TXN_HEAD + TXN_ROW * (slot.0 as usize);
@@ -166,16 +158,16 @@ pub fn set_reads(txns: &mut [u64], slot: Slot, count: u64, sum: u64)
 }
 
 // The items that a relaxed query has read.
-pub fn items_read(txns: &[u64], slot: Slot) -> u64
-    requires { (length txns.now ≡ txn_words base) × (slot.0 < base.slots) }
+pub fn items_read(txns: &Txns, slot: Slot) -> u64
+    requires { slot.0 < base.slots }
     ensures { result ≡ (txn txns.now slot.0).items_read }
 {
     row_word(txns, slot, TXN_ITEMS_READ_AT)
 }
 
 // The items read, written.
-pub fn set_items_read(txns: &mut [u64], slot: Slot, word: u64)
-    requires { (length txns.old ≡ txn_words base) × (slot.0 < base.slots) }
+pub fn set_items_read(txns: &mut Txns, slot: Slot, word: u64)
+    requires { slot.0 < base.slots }
     ensures { txns.new ≡ set_items_read txns.old slot.0 word }
 {
     let at = TXN_HEAD + TXN_ROW * (slot.0 as usize);
@@ -183,16 +175,16 @@ pub fn set_items_read(txns: &mut [u64], slot: Slot, word: u64)
 }
 
 // The relaxed queries for which an update is a later one.
-pub fn later_for(txns: &[u64], slot: Slot) -> u64
-    requires { (length txns.now ≡ txn_words base) × (slot.0 < base.slots) }
+pub fn later_for(txns: &Txns, slot: Slot) -> u64
+    requires { slot.0 < base.slots }
     ensures { result ≡ (txn txns.now slot.0).later_for }
 {
     row_word(txns, slot, TXN_LATER_FOR_AT)
 }
 
 // These, written.
-pub fn set_later_for(txns: &mut [u64], slot: Slot, word: u64)
-    requires { (length txns.old ≡ txn_words base) × (slot.0 < base.slots) }
+pub fn set_later_for(txns: &mut Txns, slot: Slot, word: u64)
+    requires { slot.0 < base.slots }
     ensures { txns.new ≡ set_later_for txns.old slot.0 word }
 {
     let at = TXN_HEAD + TXN_ROW * (slot.0 as usize);
@@ -200,8 +192,8 @@ pub fn set_later_for(txns: &mut [u64], slot: Slot, word: u64)
 }
 
 // Whether a slot has a live transaction of this kind.
-pub fn lives_as(txns: &[u64], slot: Slot, kind: u64) -> bool
-    requires { (length txns.now ≡ txn_words base) × (slot.0 < base.slots) }
+pub fn lives_as(txns: &Txns, slot: Slot, kind: u64) -> bool
+    requires { slot.0 < base.slots }
     ensures { result ≡ (live (txn txns.now slot.0) && eqb (txn txns.now slot.0).kind kind) }
 {
     let at = TXN_HEAD + TXN_ROW * (slot.0 as usize);
@@ -209,21 +201,17 @@ pub fn lives_as(txns: &[u64], slot: Slot, kind: u64) -> bool
 }
 
 // The row of a slot goes: each of its words becomes 0.
-pub fn leave(txns: &mut [u64], slot: Slot)
-    requires { (length txns.old ≡ txn_words base) × (slot.0 < base.slots) }
+pub fn leave(txns: &mut Txns, slot: Slot)
+    requires { slot.0 < base.slots }
     ensures { txns.new ≡ set_txn txns.old slot.0 no_txn }
 {
     let at = TXN_HEAD + TXN_ROW * (slot.0 as usize);
-    let mut k: usize = 0;
-    while k < TXN_ROW {
-        txns[at + k] = 0;
-        k += 1;
-    }
+    txns[at..at + TXN_ROW].fill(0);
 }
 
 // A new row: the number, the kind and the start; its other words are 0.
-fn put_row(txns: &mut [u64], slot: Slot, number: Number, kind: u64, start: Stamp)
-    requires { (length txns.old ≡ txn_words base) × (slot.0 < base.slots) }
+fn put_row(txns: &mut Txns, slot: Slot, number: Number, kind: u64, start: Stamp)
+    requires { slot.0 < base.slots }
     ensures { txns.new ≡ set_txn txns.old slot.0 (new_txn number.0 kind start.0) }
 {
     let n = number.0;
@@ -236,8 +224,8 @@ fn put_row(txns: &mut [u64], slot: Slot, number: Number, kind: u64, start: Stamp
 }
 
 // The row of one that begins: its number is now the last one given.
-pub fn begin(txns: &mut [u64], slot: Slot, number: Number, kind: u64, start: Stamp)
-    requires { (length txns.old ≡ txn_words base) × (slot.0 < base.slots) }
+pub fn begin(txns: &mut Txns, slot: Slot, number: Number, kind: u64, start: Stamp)
+    requires { slot.0 < base.slots }
     ensures { txns.new ≡ set_txn (set txns.old 0 number.0) slot.0 (new_txn number.0 kind start.0) }
 {
     let n = number.0;
@@ -246,8 +234,7 @@ pub fn begin(txns: &mut [u64], slot: Slot, number: Number, kind: u64, start: Sta
 }
 
 // The clock, written.
-pub fn set_clock(txns: &mut [u64], stamp: Stamp)
-    requires { length txns.old ≡ txn_words base }
+pub fn set_clock(txns: &mut Txns, stamp: Stamp)
     ensures { txns.new ≡ set txns.old 1 stamp.0 }
 {
     let c = stamp.0;
@@ -255,11 +242,11 @@ pub fn set_clock(txns: &mut [u64], stamp: Stamp)
 }
 
 // An update takes its stamp, which is now the clock, and is past its writing.
-pub fn settle(txns: &mut [u64], slot: Slot, stamp: Stamp)
-    requires { (length txns.old ≡ txn_words base) × (slot.0 < base.slots) }
+pub fn settle(txns: &mut Txns, slot: Slot, stamp: Stamp)
+    requires { slot.0 < base.slots }
     ensures { txns.new ≡ set_txn (set txns.old 1 stamp.0) slot.0 (new_txn (txn txns.old slot.0).number a_settled stamp.0) }
 {
-    let n = row_word(&txns[..], slot, 0);
+    let n = row_word(&*txns, slot, 0);
     set_clock(txns, stamp);
     put_row(txns, slot, Number(n), SETTLED_KIND, stamp);
 }
