@@ -2,18 +2,15 @@
 use Prim.Native.Nat.{ℕ, zero, suc, ◌+◌, ◌*◌, ◌/◌, ◌%◌, ◌≤◌, ◌<◌}
 use mathlib.Core.Path.{◌≡◌, refl, sym, ap, ◌∙◌, subst}
 use mathlib.Core.Logic.{◌≢◌, ◌⊎◌, inl, inr}
-use mathlib.Core.Bool.{false}
 use mathlib.Core.List.{List}
 use native.Mathlib.Omega.{arith}
 use lib.ListN.{length, get_or}
 use lib.Seq.{ext_get_or}
-use lib.Dec.{T}
 use Rattle.names.specs.Sizes.{base}
 use Rattle.names.specs.declared.Sizes.{Sizes}
-use Rattle.rules.specs.Words.{bit, without_bit}
-use Rattle.rules.specs.Tables.{lock_row, lock_words, Lock, lock, set_lock, holds, holds_shared, holds_exclusive, released, release, unshared, unshare}
-use Rattle.rules.proofs.Tests.{same?, is_false, false_is, or_left, or_right}
-use Rattle.rules.proofs.Views.{lock-set_lock, lock-set_lock-other, length-set_lock, lock-release, length-release, lock-unshare, length-unshare}
+use Rattle.rules.specs.Tables.{lock_row, lock_words, Lock, lock, set_lock}
+use Rattle.rules.proofs.Tests.{same?}
+use Rattle.rules.proofs.Views.{lock-set_lock, lock-set_lock-other, length-set_lock}
 
 -- two lock tables with the same locks are the same
 pub locks-same :
@@ -63,31 +60,13 @@ one_released f before after x h i r e =
         (lock-set_lock after x h base r.size i ∙ e ∙ ap f (r.left x (omega arith)))
     go y b (inr d) = lock-set_lock-other after x h y d ∙ r.done y (omega arith)
 
--- a lock that the slot does not hold is released already, and writing it back changes nothing
-pub not_held : (s : ℕ) (h : Lock) → holds h s ≡ false → released s h ≡ h
-unfolding released holds holds_shared without_bit
-not_held s h e =
-    let n : (T (holds h s) → ⊥) = false_is e in
-    rw (is_false (holds_exclusive h s) (λ t. n (or_right (bit h.shared s) (holds_exclusive h s) t)), is_false (bit h.shared s) (λ t. n (or_left (bit h.shared s) (holds_exclusive h s) t)))
-
-pub lock-back : (l : List ℕ) (x : ℕ) → length l ≡ lock_words base → x < base.items → set_lock l x (lock l x) ≡ l
-lock-back l x e i =
-    locks-same base (set_lock l x (lock l x)) l (length-set_lock l x (lock l x) ∙ e) e (λ y b. go y (same? y x))
+-- a lock that is already as f makes it
+pub one_kept :
+    (f : Lock → Lock) (before after : List ℕ) (x : ℕ) → x < base.items → Released f before after x → lock after x ≡ f (lock after x)
+    → Released f before after (x + 1)
+one_kept f before after x i r e =
+    record { within = omega arith; size = r.size; done = λ y b. go y b (same? y x); left = λ y b. r.left y (omega arith) }
   where
-    go : (y : ℕ) → (y ≡ x) ⊎ (y ≢ x) → lock (set_lock l x (lock l x)) y ≡ lock l y
-    go y (inl q) = subst (λ (z : ℕ). lock (set_lock l x (lock l x)) z ≡ lock l z) (sym q) (lock-set_lock l x (lock l x) base e i)
-    go y (inr d) = lock-set_lock-other l x (lock l x) y d
-
-pub all_released :
-    (s : ℕ) (before after : List ℕ) (x : ℕ) → length before ≡ lock_words base → base.items ≤ x → Released (released s) before after x
-    → after ≡ release base s before
-all_released s before after x e b r =
-    locks-same base after (release base s before) r.size (length-release base s before e)
-    (λ y i. r.done y (omega arith) ∙ sym (lock-release base s before e y i))
-
-pub all_unshared :
-    (s : ℕ) (before after : List ℕ) (x : ℕ) → length before ≡ lock_words base → base.items ≤ x → Released (unshared s) before after x
-    → after ≡ unshare base s before
-all_unshared s before after x e b r =
-    locks-same base after (unshare base s before) r.size (length-unshare base s before e)
-    (λ y i. r.done y (omega arith) ∙ sym (lock-unshare base s before e y i))
+    go : (y : ℕ) → y < x + 1 → (y ≡ x) ⊎ (y ≢ x) → lock after y ≡ f (lock before y)
+    go y b (inl q) = subst (λ (z : ℕ). lock after z ≡ f (lock before z)) (sym q) (e ∙ ap f (r.left x (omega arith)))
+    go y b (inr d) = r.done y (omega arith)

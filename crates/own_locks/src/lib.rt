@@ -2,47 +2,38 @@
 // says.
 #![tactic(auto)]
 
-ghost use Rattle.std.specs.Prelude.{◌≡◌, ◌<◌, length, eqb, not};
+ghost use Rattle.std.specs.Prelude.{◌≡◌, ℕ, ◌<◌, eqb, not};
 ghost use Rattle.names.specs.Sizes.{base};
-ghost use Rattle.rules.specs.Tables.{lock_words, lock, set_lock, holds, exclusives_of, released, release, unshared, unshare};
+ghost use Rattle.rules.specs.Tables.{Lock, lock, holds_exclusive, exclusives_of, released, release, unshared, unshare};
 ghost use Rattle.rows.specs.Founds.{lock_of};
+ghost use Rattle.rows.specs.declared.locks.LockRow.{LockRow};
 
-use names::{ITEMS, Item, Slot};
+use names::{ITEMS, Item, Locks, Slot};
 use rows::LockRow;
 
+// Whether a slot holds an item exclusively.
+fn holds(locks: &Locks, item: Item, slot: Slot) -> bool
+    requires { (item.0 < base.items) × (slot.0 < base.slots) }
+    ensures { result ≡ holds_exclusive (lock locks.now item.0) slot.0 }
+{
+    rows::lock_at(locks, item).exclusive == slot.0 + 1
+}
+
 // How many items a slot holds exclusively.
-pub fn exclusives_of(locks: &[u64], slot: Slot) -> u64
-    requires { (length locks.now ≡ lock_words base) × (slot.0 < base.slots) }
+#[tactic(auto, unfolding(rules::specs::Tables::exclusives_of))]
+pub fn exclusives_of(locks: &Locks, slot: Slot) -> u64
+    requires { slot.0 < base.slots }
     ensures { result ≡ exclusives_of base locks.now slot.0 }
 {
-    let holder = slot.0 + 1;
-    let mut held: u64 = 0;
-    let mut item: u64 = 0;
-    while item < ITEMS {
-        let row = rows::lock_at(locks, Item(item));
-        if row.exclusive == holder {
-            held += 1;
-        }
-        item += 1;
-    }
-    held
+    words::count_below(ITEMS, |item| holds(locks, Item(item), slot))
 }
 
 // Whether a slot holds some item exclusively. A slot that does is found at its first item.
-pub fn holds_some(locks: &[u64], slot: Slot) -> bool
-    requires { (length locks.now ≡ lock_words base) × (slot.0 < base.slots) }
+pub fn holds_some(locks: &Locks, slot: Slot) -> bool
+    requires { slot.0 < base.slots }
     ensures { result ≡ not (eqb (exclusives_of base locks.now slot.0) 0) }
 {
-    let holder = slot.0 + 1;
-    let mut item: u64 = 0;
-    while item < ITEMS {
-        let row = rows::lock_at(locks, Item(item));
-        if row.exclusive == holder {
-            return true;
-        }
-        item += 1;
-    }
-    false
+    words::first_below(ITEMS, |item| holds(locks, Item(item), slot)).is_some()
 }
 
 // A lock that a slot no longer shares.
@@ -76,55 +67,33 @@ fn without(row: LockRow, slot: Slot) -> LockRow
     }
 }
 
-// Whether a slot holds a lock, shared or exclusively.
-fn held_by(row: LockRow, slot: Slot) -> bool
-    requires { slot.0 < base.slots }
-    ensures { result ≡ holds (lock_of row) slot.0 }
+// Every lock as a change makes it. One that stays as it is isn't written.
+fn change<F: Fn(LockRow) -> LockRow>(locks: &mut Locks, changed: F)
+    requires { (row : LockRow) → F.pre changed row }
+    ensures { (f : Lock → Lock) → ((row made : LockRow) → F.post changed row made → lock_of made ≡ f (lock_of row)) → (x : ℕ) → x < base.items → lock locks.new x ≡ f (lock locks.old x) }
 {
-    let s = slot.0;
-    ((row.shared >> s) % 2 == 1) | (row.exclusive == s + 1)
-}
-
-// The lock of an item without a slot. It is written only where the slot holds it.
-fn release_item(locks: &mut [u64], item: Item, slot: Slot)
-    requires { (length locks.old ≡ lock_words base) × (item.0 < base.items) × (slot.0 < base.slots) }
-    ensures { locks.new ≡ set_lock locks.old item.0 (released slot.0 (lock locks.old item.0)) }
-{
-    let row = rows::lock_at(&locks[..], item);
-    if held_by(row, slot) {
-        rows::set_lock(locks, item, without(row, slot));
+    for x in 0..ITEMS {
+        let item = Item(x);
+        let row = rows::lock_at(&*locks, item);
+        let made = changed(row);
+        if made != row {
+            rows::set_lock(locks, item, made);
+        }
     }
 }
 
 // All locks of a slot go.
-pub fn release(locks: &mut [u64], slot: Slot)
-    requires { (length locks.old ≡ lock_words base) × (slot.0 < base.slots) }
+pub fn release(locks: &mut Locks, slot: Slot)
+    requires { slot.0 < base.slots }
     ensures { locks.new ≡ release base slot.0 locks.old }
 {
-    let mut x: u64 = 0;
-    while x < ITEMS {
-        release_item(locks, Item(x), slot);
-        x += 1;
-    }
-}
-
-// The lock of an item that a slot no longer shares.
-fn unshare_item(locks: &mut [u64], item: Item, slot: Slot)
-    requires { (length locks.old ≡ lock_words base) × (item.0 < base.items) × (slot.0 < base.slots) }
-    ensures { locks.new ≡ set_lock locks.old item.0 (unshared slot.0 (lock locks.old item.0)) }
-{
-    let row = rows::lock_at(&locks[..], item);
-    rows::set_lock(locks, item, unshared(row, slot));
+    change(locks, |row| without(row, slot));
 }
 
 // All shared locks of a slot go.
-pub fn unshare(locks: &mut [u64], slot: Slot)
-    requires { (length locks.old ≡ lock_words base) × (slot.0 < base.slots) }
+pub fn unshare(locks: &mut Locks, slot: Slot)
+    requires { slot.0 < base.slots }
     ensures { locks.new ≡ unshare base slot.0 locks.old }
 {
-    let mut x: u64 = 0;
-    while x < ITEMS {
-        unshare_item(locks, Item(x), slot);
-        x += 1;
-    }
+    change(locks, |row| unshared(row, slot));
 }

@@ -8,7 +8,7 @@ use names::{Item, LOCK_EXCLUSIVE_AT, LOCK_ROW, LOCK_WORKING_AT, Locks};
 
 // The words of a lock: shared holders (bit i for slot i), exclusive holder (slot plus 1, 0 for
 // none), working value.
-#[derive(Clone, Copy)]
+#[derive(Clone, Copy, PartialEq, Eq)]
 pub struct LockRow {
     pub shared: u64,
     pub exclusive: u64,

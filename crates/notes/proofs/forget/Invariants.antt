@@ -1,7 +1,6 @@
 -- The sets of the rows passed are rewritten, the others are as they were.
-use Prim.Native.Nat.{ℕ, ◌-◌, ◌≤◌}
+use Prim.Native.Nat.{ℕ}
 use mathlib.Core.Path.{◌≡◌}
-use Rattle.names.specs.Sizes.{base}
 use Rattle.names.specs.Layout.{txn_later_for_at}
 use Rattle.rules.specs.Words.{without_bit}
 use Rattle.rules.specs.Tables.{Txn, reworded}
@@ -12,7 +11,4 @@ abbrev pub left : ℕ → Txn → ℕ
 left q r = without_bit r.later_for q
 
 abbrev pub invariant-loop-slot : goal.invariant-loop-slot
-invariant-loop-slot l = (l.slot ≤ base.slots) × (l.txns ≡ reworded txn_later_for_at l.slot (left l.query.0) l.initial.txns)
-
-abbrev pub decreases-loop-slot : goal.decreases-loop-slot
-decreases-loop-slot l = base.slots - l.slot
+invariant-loop-slot l = l.txns ≡ reworded txn_later_for_at l.slot (left l.query.0) l.initial.txns

@@ -12,7 +12,7 @@ returns-then-holder-ne0 c =
     let d = c in
     let a = d.args in
     c.join.ensures
-    ∙ ap (joined a.txns.now (a.holder - 1)) (shifted a.query.0 (let p = d.requires.2 in omega arith))
+    ∙ ap (joined a.txns.now (a.holder - 1)) (shifted a.query.0 (let p = d.requires.1 in omega arith))
     ∙ holder_some a.holder a.query.0 a.txns.now c.if-holder-ne0.true
 
 pub returns-else-holder-ne0 : goal.returns-else-holder-ne0

@@ -16,7 +16,7 @@ use Rattle.notes.proofs.note_read.Goals as goal
 pub holder_joins-requires : goal.holder_joins-requires
 holder_joins-requires c =
     let p = c.requires in
-    (p.0, subst (λ (h : Lock). h.exclusive ≤ base.slots) (sym c.lock_at-row.ensures) p.4, p.2)
+    (subst (λ (h : Lock). h.exclusive ≤ base.slots) (sym c.lock_at-row.ensures) p.2, p.0)
 
 pub returns-then-kind-eq-RELAXED_KIND : goal.returns-then-kind-eq-RELAXED_KIND
 unfolding read_noted
@@ -27,7 +27,7 @@ returns-then-kind-eq-RELAXED_KIND c =
     let x = d.args.item.0 in
     let h = c in
     let e : c.set_items_read.new.txns ≡ set_items_read h.holder_joins.new.txns s (with_bit h.items_read-word.result x)
-    = rw (sym (set_is h.items_read-word.result x), sym (shifted x (let p = d.requires.3 in omega arith))) c.set_items_read.ensures in
+    = rw (sym (set_is h.items_read-word.result x), sym (shifted x (let p = d.requires.1 in omega arith))) c.set_items_read.ensures in
     rw (eq-eqb (txn t s).kind a_relaxed (sym h.kind-kind.ensures ∙ h.if-kind-eq-RELAXED_KIND.true))
     (e
     ∙ ap₂ (λ (u : List ℕ) (w : ℕ). set_items_read u s (with_bit w x))

@@ -1,26 +1,15 @@
-use Prim.Native.Nat.{ℕ, ◌+◌}
-use mathlib.Core.List.{List}
-use mathlib.Core.Path.{refl, sym, ◌∙◌, subst}
-use native.Mathlib.Omega.{arith}
+-- Every lock is released.
+use mathlib.Core.Path.{sym, ◌∙◌}
+use Rattle.std.proofs.Common.{rules}
+use Rattle.names.specs.Sizes.{base}
 use Rattle.rules.specs.Tables.{released}
-use Rattle.own_locks.proofs.Releases.{Released, none_released, one_released, all_released}
+use Rattle.rules.proofs.Views.{lock-release, length-release}
+use Rattle.own_locks.proofs.Releases.{locks-same}
 use Rattle.own_locks.proofs.release.Goals as goal
 
-pub loop-x-init : goal.loop-x-init
-loop-x-init c = none_released _ _ c.requires.0
-
-pub release_item-requires : goal.release_item-requires
-release_item-requires c = (c.loop-x.invariant.size, omega arith, c.requires.1)
-
-pub loop-x-preserved : goal.loop-x-preserved
-loop-x-preserved c =
-    let a = c.args in
-    let l = c.loop-x in
-    subst (λ (m : List ℕ). Released (released a.slot.0) a.locks.now m (l.x + 1)) (sym c.release_item.ensures)
-    (one_released (released a.slot.0) a.locks.now l.locks l.x _ (omega arith) l.invariant refl)
-
-pub shape_of-locks : goal.shape_of-locks
-shape_of-locks c = c.loop-x.invariant.size ∙ sym c.requires.0
-
 pub returns : goal.returns
-returns c = all_released _ _ _ _ c.requires.0 (omega arith) c.loop-x.invariant
+returns c =
+    let s = c.args.slot.0 in
+    let l = c.args.locks.now in
+    let done = c.change.ensures (released s) (λ row made h. search rules) in
+    locks-same base _ _ c.change.array_long (length-release base s l c.told-locks) (λ y i. done y i ∙ sym (lock-release base s l c.told-locks y i))
