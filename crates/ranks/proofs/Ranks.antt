@@ -1,33 +1,18 @@
--- The rank of a request, and how great ranks are.
-use Prim.Native.Nat.{ℕ, ◌+◌, ◌≤◌, ◌<◌}
+-- How long lines are, and how great ranks.
+use Prim.Native.Nat.{ℕ, ◌≤◌, ◌<◌}
 use mathlib.Core.Path.{◌≡◌}
 use mathlib.Core.Logic.{◌≢◌, ◌⊎◌, inl, inr}
-use mathlib.Core.Bool.{true, false, ◌&&◌}
+use mathlib.Core.Bool.{◌&&◌}
 use mathlib.Core.List.{List}
-use native.Mathlib.Numerals.{add-one}
 use native.Mathlib.Omega.{arith}
 use Rattle.names.specs.Sizes.{base}
 use Rattle.rules.specs.Tables.{Tables, txn, no_lock, lock, holds_shared}
 use Rattle.rules.specs.Good.{Good}
-use Rattle.rules.specs.Waits.{awaits_on, waiters_on, exchangers_on, rank_for}
+use Rattle.rules.specs.Waits.{awaits_on, waiters_on, exchangers_on}
 use Rattle.rules.proofs.Tests.{same?}
 use Rattle.rules.proofs.Counts.{count-le}
 use Rattle.rules.proofs.EqualRanks.{→awaits}
 use Rattle.ranks.specs.Lines.{RanksSmall}
-
--- ---- the rank of a request, by what is known of the slot
-module _ (t l : List ℕ) (s x : ℕ) where
-  pub rank_there : awaits_on x (txn t s) ≡ true → (txn t s).rank ≡ rank_for base t l s x
-  unfolding rank_for
-  rank_there e = rw e
-
-  pub rank-exchange : awaits_on x (txn t s) ≡ false → holds_shared (lock l x) s ≡ true → exchangers_on base t l x + 1 ≡ rank_for base t l s x
-  unfolding rank_for
-  rank-exchange e h = rw (e, h) (add-one (exchangers_on base t l x))
-
-  pub rank-behind : awaits_on x (txn t s) ≡ false → holds_shared (lock l x) s ≡ false → waiters_on base t x + 1 ≡ rank_for base t l s x
-  unfolding rank_for
-  rank-behind e h = rw (e, h) (add-one (waiters_on base t x))
 
 -- no line is longer than there are slots
 pub exchangers_most : (t l : List ℕ) (x : ℕ) → exchangers_on base t l x ≤ base.slots
