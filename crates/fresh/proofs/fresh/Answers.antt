@@ -1,28 +1,18 @@
--- Zeros, then the counts; nothing where a size is not exact.
-use mathlib.Core.Path.{ap, ◌∙◌}
-use mathlib.Core.Bool.{not}
-use Rattle.rules.specs.Tables.{Tables, tables}
-use Rattle.fresh.proofs.Filling.{zeroed_length, refused, exact, filled}
+-- Zeros, and then the counts.
+use Rattle.std.proofs.Common.{ap, sym, ◌∙◌}
+use Rattle.names.specs.Sizes.{base}
+use Rattle.rules.specs.Tables.{tables, with_counts, fresh}
+use Rattle.fresh.proofs.Filling.{zeroed}
+use Rattle.fresh.proofs.Exact.{made_fresh}
 use Rattle.fresh.proofs.fresh.Goals as goal
 
-pub returns-then-not-sizes_exact : goal.returns-then-not-sizes_exact
-returns-then-not-sizes_exact c =
-    let a = c.args in
-    let G : Tables = tables a.txns.now a.locks.now a.versions.now in
-    let both = refused G c.sizes_exact.result c.sizes_exact.ensures (ap not c.if-not-sizes_exact.true) in
-    record { value = both.0; versions_after = both.1 }
-
-pub count-requires : goal.count-requires
-count-requires c =
-    let a = c.args in
-    let G : Tables = tables a.txns.now a.locks.now a.versions.now in
-    let t = c.sizes_exact in
-    zeroed_length G.versions _ c.zero-3.ensures ∙ (exact G t.result t.ensures (ap not c.if-not-sizes_exact.false)).versions_exact
-
-pub returns : goal.returns
-returns c =
-    let a = c.args in
-    let G : Tables = tables a.txns.now a.locks.now a.versions.now in
-    let t = c.sizes_exact in
-    let both = filled G t.result t.ensures (ap not c.if-not-sizes_exact.false) _ _ _ _ c.zero.ensures c.zero-2.ensures c.zero-3.ensures c.count.ensures in
-    record { value = both.0; versions_after = both.1 }
+pub returns-clause-versions_after : goal.returns-clause-versions_after
+unfolding fresh
+returns-clause-versions_after c =
+    let w = c.in-Some.ensures.cases in
+    let x = c.in-Some-as_mut_array.ensures.cases in
+    let y = c.in-Some-as_mut_array-2.ensures.cases in
+    let t = zeroed w (c.fill.ensures.after (λ y h. h)) in
+    let l = zeroed x (c.fill-2.ensures.after (λ y h. h)) in
+    let v = c.count.ensures ∙ ap (with_counts base) (zeroed y (c.fill-3.ensures.after (λ y h. h))) in
+    (λ i. tables (t i) (l i) (v i)) ∙ sym (made_fresh _ _ _ w.long x.long y.long)
