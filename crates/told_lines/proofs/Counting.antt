@@ -1,16 +1,18 @@
 -- Lines counted, the first bad one, and what is said: with a line more.
-use Prim.Native.Nat.{ℕ, zero, suc, ◌+◌, ◌<◌, ◌≤◌}
+use Prim.Native.Nat.{ℕ, suc, ◌+◌, ◌<◌, ◌≤◌}
 use mathlib.Core.Path.{◌≡◌, refl, sym, ap, ap₂, subst, ◌∙◌}
 use mathlib.Core.Bool.{Bool, true, false, cond}
 use mathlib.Core.List.{List, [], ◌∷◌, ◌++◌}
 use native.Mathlib.Omega.{arith}
 use lib.Dec.{eqb, leb}
 use lib.ListN.{length, length-append}
-use borrow.Author.Tests.{le-leb, lt-leb, leb-true, leb-false, eq-eqb, ne_eqb, eqb-true}
+use borrow.Author.Tests.{le-leb, lt-leb, leb-true, leb-false, ne_eqb, eqb-true, eqb-false}
+use Rattle.std.specs.Prelude.{Option, Some, None}
+use Rattle.std.specs.Option.{unwrap_or}
 use Rattle.numerals.specs.Numbers.{greatest}
 use Rattle.numerals.proofs.Decimals.{length-decimal}
 use Rattle.line_words.specs.Said.{Said, comment, says, bad}
-use Rattle.told_lines.specs.Lines.{said_in, bad_from, first_bad, capped, Tallied, bad_text, longest_bad}
+use Rattle.told_lines.specs.Lines.{said_in, bad_from, first_bad, capped, bad_line, Tallied, bad_text, longest_bad}
 
 -- ---- a count up to the greatest number
 
@@ -40,19 +42,6 @@ next-most l n h e =
     low_or_high n
     (λ k. let q = capped-low n k in let g : greatest < suc n = omega arith in let z = capped_high (suc n) g in omega arith)
     (λ k. let q = capped_high n k in let g : greatest < suc n = omega arith in let z = capped_high (suc n) g in omega arith)
-
-pub capped_none : (n : ℕ) → eqb (capped n) 0 ≡ eqb n 0
-capped_none n =
-    low_or_high n
-    (λ k. ap (λ (m : ℕ). eqb m 0) (capped-low n k))
-    (λ k. let q = capped_high n k in ne_eqb (capped n) 0 (λ z. omega arith) ∙ sym (ne_eqb n 0 (λ z. omega arith)))
-
-pub capped_zero : (n : ℕ) → capped n ≡ 0 → n ≡ 0
-capped_zero n e = eqb-true n 0 (sym (capped_none n) ∙ eq-eqb (capped n) 0 e)
-
-pub capped_some : (n : ℕ) → 0 < capped n → 0 < n
-capped_some zero h = let z = capped-low 0 (omega arith) in absurd (omega arith)
-capped_some (suc n) h = omega arith
 
 -- ---- a line more
 
@@ -110,20 +99,41 @@ unfolding first_bad
 first_says ss q = bad-says ss q 0
 
 -- the first bad line, as it is counted
-pub first-bad : {A : Type 0} (ss : List (Said A)) {b n : ℕ} → b ≡ capped (first_bad ss) → n ≡ capped (suc (length ss)) → cond (eqb b 0) n b ≡ capped (first_bad (ss ++ (bad ∷ [])))
-unfolding first_bad
+pub first-bad : {A : Type 0} (ss : List (Said A)) {b : Option ℕ} {n : ℕ} → b ≡ bad_line (first_bad ss) → n ≡ capped (suc (length ss)) → Some (unwrap_or b n) ≡ bad_line (first_bad (ss ++ (bad ∷ [])))
+unfolding first_bad bad_line
 first-bad ss {b} {n} e f =
-    ap₂ (λ (x y : ℕ). cond (eqb x 0) y x) e f
+    ap₂ (λ (x : Option ℕ) (y : ℕ). Some (unwrap_or x y)) e f
     ∙ go (eqb (bad_from 0 ss) 0) refl
   where
-    go : (t : Bool) → eqb (bad_from 0 ss) 0 ≡ t → cond (eqb (capped (bad_from 0 ss)) 0) (capped (suc (length ss))) (capped (bad_from 0 ss)) ≡ capped (bad_from 0 (ss ++ (bad ∷ [])))
+    some : (k : ℕ) → bad_line (suc k) ≡ Some (capped (suc k))
+    some k = rw (ne_eqb (suc k) 0 (λ z. omega arith))
+
+    go : (t : Bool) → eqb (bad_from 0 ss) 0 ≡ t
+        → Some (unwrap_or (cond (eqb (bad_from 0 ss) 0) None (Some (capped (bad_from 0 ss)))) (capped (suc (length ss)))) ≡ bad_line (bad_from 0 (ss ++ (bad ∷ [])))
     go true q =
-        rw (capped_none (bad_from 0 ss), bad-bad ss 0, q) (ap capped (let z : suc (length ss) ≡ suc (0 + length ss) = omega arith in z))
-    go false q = rw (capped_none (bad_from 0 ss), bad-bad ss 0, q) refl
+        rw (bad-bad ss 0, q) (sym (ap bad_line (let z : suc (0 + length ss) ≡ suc (length ss) = omega arith in z) ∙ some (length ss)))
+    go false q = rw (bad-bad ss 0, q, q) refl
+
+-- a bad line is said, or none was
+pub bad_some : (k : ℕ) {b : ℕ} → Some b ≡ bad_line k → (0 < k) × (b ≡ capped k)
+unfolding bad_line
+bad_some k {b} = go (eqb k 0) refl
+  where
+    go : (t : Bool) → eqb k 0 ≡ t → Some b ≡ cond t None (Some (capped k)) → (0 < k) × (b ≡ capped k)
+    go true q e = grind arith
+    go false q e = let d = eqb-false k 0 q in (omega arith, grind arith)
+
+pub bad_none : (k : ℕ) → None ≡ bad_line k → k ≡ 0
+unfolding bad_line
+bad_none k = go (eqb k 0) refl
+  where
+    go : (t : Bool) → eqb k 0 ≡ t → None ≡ cond t None (Some (capped k)) → k ≡ 0
+    go true q e = eqb-true k 0 q
+    go false q e = grind arith
 
 -- ---- what is kept of lines, with one more
 
-module _ {A S : Type 0} {Kept : List A → S → Type 0} {ss : List (Said A)} {n b : ℕ} {s : S} (k : Tallied Kept ss n b s) {m : ℕ} (next : m ≡ capped (suc (length ss))) where
+module _ {A S : Type 0} {Kept : List A → S → Type 0} {ss : List (Said A)} {n : ℕ} {b : Option ℕ} {s : S} (k : Tallied Kept ss n b s) {m : ℕ} (next : m ≡ capped (suc (length ss))) where
   count_of : (x : Said A) → m ≡ capped (length (ss ++ (x ∷ [])))
   count_of x = next ∙ ap capped (sym (more-lines ss x))
 
@@ -131,11 +141,11 @@ module _ {A S : Type 0} {Kept : List A → S → Type 0} {ss : List (Said A)} {n
   tally-comment =
       record {
         lines = count_of comment;
-        bad = k.bad ∙ ap capped (sym (first-comment ss));
+        bad = k.bad ∙ ap bad_line (sym (first-comment ss));
         kept = subst (λ (ps : List A). Kept ps s) (sym (said-comment ss)) k.kept;
       }
 
-  pub tally-bad : {c : ℕ} → c ≡ cond (eqb b 0) m b → Tallied Kept (ss ++ (bad ∷ [])) m c s
+  pub tally-bad : {c : Option ℕ} → c ≡ Some (unwrap_or b m) → Tallied Kept (ss ++ (bad ∷ [])) m c s
   tally-bad e =
       record {
         lines = count_of bad;
@@ -147,7 +157,7 @@ module _ {A S : Type 0} {Kept : List A → S → Type 0} {ss : List (Said A)} {n
   tally-says p {t} q =
       record {
         lines = count_of (says p);
-        bad = k.bad ∙ ap capped (sym (first_says ss p));
+        bad = k.bad ∙ ap bad_line (sym (first_says ss p));
         kept = subst (λ (ps : List A). Kept ps t) (sym (said_more ss p)) q;
       }
 

@@ -5,7 +5,6 @@ use mathlib.Core.Bool.{Bool, true, false, cond, ◌&&◌, false≢true}
 use mathlib.Core.List.{List, [], ◌∷◌, ◌++◌, append-nil, append_assoc}
 use mathlib.Core.Logic.{⊎_elim}
 use native.Mathlib.Nat.{eq-or-lt_of_le}
-use native.Mathlib.Numerals.{add-one}
 use native.Mathlib.Omega.{arith}
 use lib.ListN.{length, get_or, take, drop, replicate, length-append, length-replicate}
 use borrow.Author.Tests.{eq-eqb, ne_eqb}
@@ -124,29 +123,14 @@ module _ (ns : List (List ℕ)) (names : List ℕ) (k : KeepsNames ns names) (n 
             (eq-or-lt_of_le (let g : i ≤ length ns = omega (arith, length-append ns (n ∷ [])) in g));
       }
 
--- ---- the search, step by step
-
-module _ (p : ℕ → Bool) (i n : ℕ) where
-  open_step : i < n → n - i ≡ suc (n - (i + 1))
-  open_step h = omega arith
-
-  pub first_hit : i < n → p i ≡ true → first_from p i (n - i) ≡ i
-  unfolding first_from
-  first_hit h e = rw (open_step h, e) refl
-
-  pub first_miss : i < n → p i ≡ false → first_from p i (n - i) ≡ first_from p (i + 1) (n - (i + 1))
-  unfolding first_from
-  first_miss h e = ap (first_from p i) (open_step h) ∙ rw (e, add-one i) refl
-
-  pub first_none : n ≤ i → first_from p i (n - i) ≡ i
-  unfolding first_from
-  first_none h = let z : n - i ≡ 0 = omega arith in rw z refl
-
 -- a part of the names is a row of them
 pub row-part : (names : List ℕ) (i : ℕ) → take (i * 32 + 32 - i * 32) (drop (i * 32) names) ≡ row 32 i names
 unfolding row
 row-part names i =
     ap₂ (λ (w a : ℕ). take w (drop a names)) (let z : i * 32 + 32 - i * 32 ≡ 32 = omega arith in z) (let z : i * 32 ≡ 32 * i = omega arith in z)
+
+-- for the search
+pub ruleset parts = (row-part)
 
 -- ---- a row's bytes in front of the first zero, byte by byte
 

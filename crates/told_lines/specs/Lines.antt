@@ -1,5 +1,5 @@
 -- What the lines of a text come to, whatever they say: the things said, and the first line that is bad.
-use Rattle.std.specs.Prelude.{ℕ, suc, ◌≡◌, cond, List, [], ◌∷◌, ◌++◌, leb, length}
+use Rattle.std.specs.Prelude.{ℕ, suc, ◌≡◌, cond, List, [], ◌∷◌, ◌++◌, eqb, leb, length, Option, Some, None}
 use Rattle.numerals.specs.Numbers.{greatest}
 use Rattle.numerals.specs.Print.{decimal}
 use Rattle.line_words.specs.Said.{Said, comment, says, bad}
@@ -25,11 +25,15 @@ first_bad ss = bad_from 0 ss
 unfoldable pub capped : ℕ → ℕ
 capped k = cond (leb k greatest) k greatest
 
+-- the first bad line, as it is counted; none for 0
+unfoldable pub bad_line : ℕ → Option ℕ
+bad_line k = cond (eqb k 0) None (Some (capped k))
+
 -- what is kept of lines: how many they are and which is the first bad one, as they are counted, and what they say, kept in a way of its
 -- own
-pub record Tallied {A S : Type 0} (Kept : List A → S → Type 0) (ss : List (Said A)) (n b : ℕ) (s : S) : Type 0 where
+pub record Tallied {A S : Type 0} (Kept : List A → S → Type 0) (ss : List (Said A)) (n : ℕ) (b : Option ℕ) (s : S) : Type 0 where
   pub lines : n ≡ capped (length ss)
-  pub bad : b ≡ capped (first_bad ss)
+  pub bad : b ≡ bad_line (first_bad ss)
   pub kept : Kept (said_in ss) s
 
 -- `bad line`, before its number

@@ -5,5 +5,5 @@
 mod naming;
 mod tally;
 
-pub use naming::{WIDE, place, put_name};
+pub use naming::{Names, WIDE, place, put_name};
 pub use tally::{first, next, say_bad};

@@ -8,21 +8,21 @@ use line_words::same;
 // The bytes of a row.
 pub const WIDE: usize = 32;
 
+// The rows of all names.
+pub type Names = [u8; 1024];
+
 // The first of so many names that is this one, or behind them.
-pub fn place(names: &[u8], count: usize, name: &[u8]) -> u64
-    requires { (count ≤ 32) × (length names.now ≡ 1024) }
+#[tactic(auto, using(crate::proofs::Names::parts), unfolding(crate::specs::Names::first_row, words::specs::Below::found_below))]
+pub fn place(names: &Names, count: usize, name: &[u8]) -> u64
+    requires { count ≤ 32 }
     ensures { result ≡ first_row name.now names.now count }
 {
-    let mut i: usize = 0;
-    while i < count {
-        let from = i * WIDE;
-        let end = from + WIDE;
-        if same(&names[from..end], name) {
-            return i as u64;
-        }
-        i += 1;
-    }
-    i as u64
+    let among = count as u64;
+    words::first_below(among, |i| {
+        let from = i as usize * WIDE;
+        same(&names[from..from + WIDE], name)
+    })
+    .unwrap_or(among)
 }
 
 // Writes the name in a row, without the zeros behind it.
@@ -32,14 +32,11 @@ pub fn put_name(name: &[u8], out: &mut [u8], at: usize) -> usize
     ensures upper_bound { result ≤ at + length name.now }
 {
     let mut end = at;
-    let mut k: usize = 0;
-    while k < name.len() {
-        let byte = name[k];
+    for &byte in name {
         if byte == 0 {
             return end;
         }
         end = texts::put(out, end, byte);
-        k += 1;
     }
     end
 }

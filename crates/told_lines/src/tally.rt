@@ -1,5 +1,6 @@
 // Lines counted, the first bad one, and the line that says which it is.
-ghost use Rattle.std.specs.Prelude.{◌≡◌, cond, ℕ, suc, ◌≤◌, eqb, length};
+ghost use Rattle.std.specs.Prelude.{◌≡◌, ℕ, suc, ◌≤◌, length, Some};
+ghost use Rattle.std.specs.Option.{unwrap_or};
 ghost use Rattle.texts.specs.Written.{Wrote};
 ghost use Rattle.told_lines.specs.Lines.{capped, bad_text, longest_bad};
 
@@ -17,14 +18,11 @@ pub fn next(lines: u64) -> u64
     lines
 }
 
-// The first of two bad lines, where the other one is behind it; 0 for none.
-pub fn first(bad: u64, line: u64) -> u64
-    ensures { result ≡ cond (eqb bad 0) line bad }
+// The first bad line, where this one is bad too and behind the others.
+pub fn first(bad: Option<u64>, line: u64) -> Option<u64>
+    ensures { result ≡ Some (unwrap_or bad line) }
 {
-    if bad == 0 {
-        return line;
-    }
-    bad
+    bad.or(Some(line))
 }
 
 // The line that says which is the first bad one.
