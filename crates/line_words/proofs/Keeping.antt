@@ -11,7 +11,7 @@ use borrow.Author.Tests.{le-leb, lt-leb, leb-true, leb-false, lt-ltb, ne_eqb}
 use Rattle.std.specs.Prelude.{Option, Some, None}
 use Rattle.std.specs.Option.{is_some}
 use Rattle.rules.specs.Words.{every}
-use Rattle.numerals.specs.Numbers.{digit, worth, greatest}
+use Rattle.numerals.specs.Numbers.{digit, worth, greatest, with_digit}
 use Rattle.line_words.specs.Held.{counted, padded, KeepsBytes, number_in}
 use Rattle.line_words.specs.declared.kept.Kept.{Kept}
 use Rattle.line_words.proofs.Snoc.{and_false, longer, every_snoc, worth_snoc}
@@ -158,3 +158,15 @@ module _ (w : List ℕ) where
       go : (c : Bool) → is_some (cond c (Some (worth 0 w)) None) ≡ c
       go true = refl
       go false = refl
+
+-- a number with a byte more, as it is computed
+pub number_on : (w : List ℕ) (b : ℕ) {v : ℕ} → Some v ≡ number_in w → with_digit v b ≡ number_in (w ++ (b ∷ []))
+unfolding with_digit
+number_on w b e = let q = is_number w e in ap (λ (n : ℕ). with_digit n b) q.1 ∙ go (digit b) refl (leb (worth 0 w * 10 + (b - 48)) greatest) refl q.0
+  where
+    go : (d : Bool) → digit b ≡ d → (f : Bool) → leb (worth 0 w * 10 + (b - 48)) greatest ≡ f → (every digit w && leb (worth 0 w) greatest) ≡ true → with_digit (worth 0 w) b ≡ number_in (w ++ (b ∷ []))
+    go false d f g t = rw d (sym (no_number (w ++ (b ∷ [])) (digits-other w b d)))
+    go true d true g t =
+        rw (d, g) (ap Some (sym (worth_snoc w 0 b)) ∙ sym (number (w ++ (b ∷ [])) (digits_more w b t d (leb-true (worth 0 w * 10 + (b - 48)) greatest g))))
+    go true d false g t =
+        rw (d, g) (sym (no_number (w ++ (b ∷ [])) (digits_large w b (leb-false (worth 0 w * 10 + (b - 48)) greatest g))))

@@ -1,20 +1,13 @@
 // The bytes of a word as digits: what they are worth, where they are all digits of a number that is not
 // too great.
 ghost use Rattle.std.specs.Prelude.{◌≡◌, List, [], ◌∷◌, ◌++◌, ℕ};
-ghost use Rattle.numerals.specs.Numbers.{digit as Numbers·digit};
 ghost use Rattle.line_words.specs.Held.{KeepsDigits};
+
+use numerals::with_digit;
 
 #[derive(Clone, Copy)]
 pub struct Digits {
     pub value: Option<u64>,
-}
-
-const GREATEST: u64 = 18446744073709551615;
-
-fn digit(byte: u8) -> bool
-    ensures { result ≡ Numbers·digit byte }
-{
-    (48 <= byte) & (byte <= 57)
 }
 
 impl Digits {
@@ -30,15 +23,8 @@ impl Digits {
         let Some(value) = self.value else {
             return self;
         };
-        if !digit(byte) {
-            return Digits { value: None };
-        }
-        let d = u64::from(byte - 48);
-        if (GREATEST - d) / 10 < value {
-            return Digits { value: None };
-        }
         Digits {
-            value: Some(value * 10 + d),
+            value: with_digit(value, byte),
         }
     }
 }

@@ -1,13 +1,15 @@
 -- How the numbers of a line are read by an index: what stands from it on.
 use Prim.Native.Nat.{ℕ, ◌+◌, ◌-◌, ◌*◌, ◌<◌, ◌≤◌}
-use mathlib.Core.Path.{◌≡◌, refl}
+use mathlib.Core.Path.{◌≡◌, refl, ap}
 use mathlib.Core.Bool.{Bool, true, false, ◌&&◌, false≢true}
 use mathlib.Core.List.{List}
 use lib.Dec.{leb}
 use lib.ListN.{length, get_or, drop}
 use Rattle.texts.proofs.Places.{ended, opened}
-use borrow.Author.Tests.{eq-eqb, ne_eqb, le-leb, lt-leb, leb-true}
-use Rattle.numerals.specs.Numbers.{upto, no, digit, digits_from, some_digits, number, greatest}
+use borrow.Author.Tests.{eq-eqb, ne_eqb, leb-true}
+use native.Mathlib.Omega.{arith}
+use Rattle.std.specs.Prelude.{Option, Some, None}
+use Rattle.numerals.specs.Numbers.{upto, no, digit, with_digit, digits_from, some_digits, number, greatest}
 
 pub and_left : (a b : Bool) → (a && b) ≡ true → a ≡ true
 and_left true b e = refl
@@ -28,13 +30,22 @@ module _ (l : List ℕ) (k v : ℕ) where
   unfolding digits_from
   digits_stop h e = rw (opened l k h, e)
 
-  pub digits_large : k < length l → digit (get_or l k 0) ≡ true → greatest < v * 10 + (get_or l k 0 - 48) → digits_from v (drop k l) ≡ no
-  unfolding digits_from
-  digits_large h e g = rw (opened l k h, e, lt-leb (v * 10 + (get_or l k 0 - 48)) greatest g)
+  -- a digit more, and where there is no room for it
+  pub digits_on : {n : ℕ} → k < length l → digit (get_or l k 0) ≡ true → Some n ≡ with_digit v (get_or l k 0) → digits_from v (drop k l) ≡ digits_from n (drop (k + 1) l)
+  unfolding digits_from with_digit
+  digits_on {n} h e q = go (leb (v * 10 + (get_or l k 0 - 48)) greatest) refl
+    where
+      go : (c : Bool) → leb (v * 10 + (get_or l k 0 - 48)) greatest ≡ c → digits_from v (drop k l) ≡ digits_from n (drop (k + 1) l)
+      go true p = let m : Some n ≡ Some (v * 10 + (get_or l k 0 - 48)) = rw (e, p) at q in rw (opened l k h, e, p) (ap (λ (m : ℕ). digits_from m (drop (k + 1) l)) (grind arith))
+      go false p = let m : Some n ≡ None = rw (e, p) at q in grind arith
 
-  pub digits_more : k < length l → digit (get_or l k 0) ≡ true → v * 10 + (get_or l k 0 - 48) ≤ greatest → digits_from v (drop k l) ≡ digits_from (v * 10 + (get_or l k 0 - 48)) (drop (k + 1) l)
-  unfolding digits_from
-  digits_more h e g = rw (opened l k h, e, le-leb (v * 10 + (get_or l k 0 - 48)) greatest g)
+  pub digits_none : k < length l → digit (get_or l k 0) ≡ true → None ≡ with_digit v (get_or l k 0) → digits_from v (drop k l) ≡ no
+  unfolding digits_from with_digit
+  digits_none h e q = go (leb (v * 10 + (get_or l k 0 - 48)) greatest) refl
+    where
+      go : (c : Bool) → leb (v * 10 + (get_or l k 0 - 48)) greatest ≡ c → digits_from v (drop k l) ≡ no
+      go true p = let m : ◌≡◌ {A = Option ℕ} None (Some (v * 10 + (get_or l k 0 - 48))) = rw (e, p) at q in grind arith
+      go false p = rw (opened l k h, e, p)
 
 -- past the end one place is as another
 pub digits_end : (l : List ℕ) (j k v : ℕ) → length l ≤ j → length l ≤ k → upto v (drop j l) ≡ digits_from v (drop k l)

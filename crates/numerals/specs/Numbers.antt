@@ -34,6 +34,10 @@ pub data Numbers : List ℕ → List ℕ → Type 0 where
 
 -- ---- as it is read
 
+-- a number with a digit more, where it is one and the number is not too great
+unfoldable pub with_digit : ℕ → ℕ → Option ℕ
+with_digit v b = cond (digit b && leb (v * 10 + (b - 48)) greatest) (Some (v * 10 + (b - 48))) None
+
 -- a number and the bytes after it, or no number
 pub data Read : Type 0 where
   upto : ℕ → List ℕ → Read

@@ -5,4 +5,4 @@ mod answers;
 mod numbers;
 
 pub use answers::{decimal, print, print_bad};
-pub use numbers::number;
+pub use numbers::{number, with_digit};

@@ -1,14 +1,23 @@
 // Decimal numbers in a line.
 ghost use Rattle.std.specs.Prelude.{◌≡◌, drop};
 ghost use Rattle.numerals.specs.Numbers.{taken_by, number, digits_from};
-ghost use Rattle.numerals.specs.Numbers.{digit as Numbers·digit};
-
-const GREATEST: u64 = 18446744073709551615;
+ghost use Rattle.numerals.specs.Numbers.{digit as Numbers·digit, with_digit as Numbers·with_digit};
 
 fn digit(byte: u8) -> bool
     ensures { result ≡ Numbers·digit byte }
 {
     (48 <= byte) & (byte <= 57)
+}
+
+// A number with a digit more: none where the byte is no digit, or the number would be too great.
+#[tactic(auto, unfolding(crate::specs::Numbers::with_digit))]
+pub fn with_digit(value: u64, byte: u8) -> Option<u64>
+    ensures { result ≡ Numbers·with_digit value byte }
+{
+    if !digit(byte) {
+        return None;
+    }
+    value.checked_mul(10)?.checked_add(u64::from(byte - b'0'))
 }
 
 // The digits from an index on, as far as they go, and the index after them; none where they are too
@@ -21,11 +30,7 @@ fn digits(line: &[u8], from: usize) -> Option<(u64, usize)>
         if !digit(line[k]) {
             return Some((value, k));
         }
-        let d = u64::from(line[k] - 48);
-        if (GREATEST - d) / 10 < value {
-            return None;
-        }
-        value = value * 10 + d;
+        value = with_digit(value, line[k])?;
     }
     Some((value, line.len()))
 }
