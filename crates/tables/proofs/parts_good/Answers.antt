@@ -69,20 +69,20 @@ parts_here t l v p x =
     }
 
 pub returns-then-not-ok : goal.returns-then-not-ok
-returns-then-not-ok c = fails _ _ _ (λ p. false_is (sym (ap (λ (s : Seen). s.ok) c.rows.ensures) ∙ c.if-not-ok.true) p.rows)
+returns-then-not-ok c = fails _ _ _ (λ p. false_is (sym (ap (λ (s : Seen). s.ok) c.rows-ok.ensures) ∙ c.if-not-ok.true) p.rows)
 
 pub locks_pass-requires : goal.locks_pass-requires
 locks_pass-requires c =
-    let e = ap (λ (s : Seen). s.updates) c.rows.ensures in
-    let f = ap (λ (s : Seen). s.settled) c.rows.ensures in (
+    let e = ap (λ (s : Seen). s.updates) c.rows-ok.ensures in
+    let f = ap (λ (s : Seen). s.settled) c.rows-ok.ensures in (
       subst (λ (u : ℕ). u < 2 ^ base.slots) (sym e) (updates-lt c.args.txns.now),
       subst (λ (u : ℕ). u < 2 ^ base.slots) (sym f) (settled-lt c.args.txns.now),
     )
 
 pub returns-then-not-locks_pass : goal.returns-then-not-locks_pass
 returns-then-not-locks_pass c =
-    let e = ap (λ (s : Seen). s.updates) c.rows.ensures in
-    let f = ap (λ (s : Seen). s.settled) c.rows.ensures in
+    let e = ap (λ (s : Seen). s.updates) c.rows-ok.ensures in
+    let f = ap (λ (s : Seen). s.settled) c.rows-ok.ensures in
     fails _ _ _ (λ p. false_is (sym (c.locks_pass.ensures e f) ∙ c.if-not-locks_pass.true) (and_both (locks_good base _ _) _ p.locks p.quotas))
 
 pub returns-then-not-distinct : goal.returns-then-not-distinct
@@ -92,10 +92,10 @@ pub waits_pass-requires : goal.waits_pass-requires
 waits_pass-requires c =
     let t = c.args.txns.now in
     let l = c.args.locks.now in
-    let rows = rows_passed t _ c.rows.ensures c.if-not-ok.false in
-    let held : T (locks_good base t l && quotas_good base t l) = true_is (sym (c.locks_pass.ensures (ap (λ (s : Seen). s.updates) c.rows.ensures) (ap (λ (s : Seen). s.settled) c.rows.ensures)) ∙ c.if-not-locks_pass.false) in
+    let rows = rows_passed t _ c.rows-ok.ensures c.if-not-ok.false in
+    let held : T (locks_good base t l && quotas_good base t l) = true_is (sym (c.locks_pass.ensures (ap (λ (s : Seen). s.updates) c.rows-ok.ensures) (ap (λ (s : Seen). s.settled) c.rows-ok.ensures)) ∙ c.if-not-locks_pass.false) in
     let can : Readable t l = readable t rows l c.told-txns c.told-locks (and_left (locks_good base t l) _ held) in
-    (can, subst (λ (u : ℕ). Awaiting t u) (sym (ap (λ (s : Seen). s.waiting) c.rows.ensures)) (awaiting t rows))
+    (can, subst (λ (u : ℕ). Awaiting t u) (sym (ap (λ (s : Seen). s.waiting) c.rows-ok.ensures)) (awaiting t rows))
 
 pub returns-then-not-waits_pass : goal.returns-then-not-waits_pass
 returns-then-not-waits_pass c =
@@ -105,13 +105,13 @@ returns-then-not-waits_pass c =
 pub returns-then-not-all_good : goal.returns-then-not-all_good
 returns-then-not-all_good c =
     let t = c.args.txns.now in
-    let e = ap (λ (s : Seen). s.relaxed) c.rows.ensures in
+    let e = ap (λ (s : Seen). s.relaxed) c.rows-ok.ensures in
     fails _ _ _
     (λ p. false_is (sym (versions-are t _ _ e c.starts_in_order-starts.ensures c.all_good.ensures) ∙ c.if-not-all_good.true) p.versions)
 
 pub sets_pass-requires : goal.sets_pass-requires
 sets_pass-requires c =
-    let seen = c.rows.ensures in (
+    let seen = c.rows-ok.ensures in (
       ap (λ (s : Seen). s.settled) seen,
       ap (λ (s : Seen). s.relaxed) seen,
       ap (λ (s : Seen). s.later) seen,
@@ -122,8 +122,8 @@ returns-then-not-sets_pass c =
     let t = c.args.txns.now in
     let l = c.args.locks.now in
     let v = c.args.versions.now in
-    let rows = rows_passed t _ c.rows.ensures c.if-not-ok.false in
-    let vs : T (versions_test t v) = true_is (sym (versions-are t _ _ (ap (λ (s : Seen). s.relaxed) c.rows.ensures) c.starts_in_order-starts.ensures c.all_good.ensures) ∙ c.if-not-all_good.false) in
+    let rows = rows_passed t _ c.rows-ok.ensures c.if-not-ok.false in
+    let vs : T (versions_test t v) = true_is (sym (versions-are t _ _ (ap (λ (s : Seen). s.relaxed) c.rows-ok.ensures) c.starts_in_order-starts.ensures c.all_good.ensures) ∙ c.if-not-all_good.false) in
     fails _ _ _
     (λ p. false_is (sym (c.sets_pass.ensures ∙ sets_are t l v rows vs) ∙ c.if-not-sets_pass.true) (and_both (sets_good base _) _ p.sets p.holders))
 
@@ -132,11 +132,11 @@ returns-then-settled-eq0 c =
     let t = c.args.txns.now in
     let l = c.args.locks.now in
     let v = c.args.versions.now in
-    let rows = rows_passed t _ c.rows.ensures c.if-not-ok.false in
-    let vs : T (versions_test t v) = true_is (sym (versions-are t _ _ (ap (λ (s : Seen). s.relaxed) c.rows.ensures) c.starts_in_order-starts.ensures c.all_good.ensures) ∙ c.if-not-all_good.false) in
-    let held : T (locks_good base t l && quotas_good base t l) = true_is (sym (c.locks_pass.ensures (ap (λ (s : Seen). s.updates) c.rows.ensures) (ap (λ (s : Seen). s.settled) c.rows.ensures)) ∙ c.if-not-locks_pass.false) in
+    let rows = rows_passed t _ c.rows-ok.ensures c.if-not-ok.false in
+    let vs : T (versions_test t v) = true_is (sym (versions-are t _ _ (ap (λ (s : Seen). s.relaxed) c.rows-ok.ensures) c.starts_in_order-starts.ensures c.all_good.ensures) ∙ c.if-not-all_good.false) in
+    let held : T (locks_good base t l && quotas_good base t l) = true_is (sym (c.locks_pass.ensures (ap (λ (s : Seen). s.updates) c.rows-ok.ensures) (ap (λ (s : Seen). s.settled) c.rows-ok.ensures)) ∙ c.if-not-locks_pass.false) in
     let can : Readable t l = readable t rows l c.told-txns c.told-locks (and_left (locks_good base t l) _ held) in
-    let waits : Waits t l = elim c.if-waiting-ne0.branch [ then-waiting-ne0+else-not-waits_pass w ↦ true_is (sym w.waits_pass.ensures ∙ w.if-not-waits_pass.false) | else-waiting-ne0 w ↦ nobody_waits t l _ c.rows.ensures rows can w.if-waiting-ne0.false ] in
+    let waits : Waits t l = elim c.if-waiting-ne0.branch [ then-waiting-ne0+else-not-waits_pass w ↦ true_is (sym w.waits_pass.ensures ∙ w.if-not-waits_pass.false) | else-waiting-ne0 w ↦ nobody_waits t l _ c.rows-ok.ensures rows can w.if-waiting-ne0.false ] in
     let passed : Passed t l v = record {
       txns_exact = c.told-txns;
       locks_exact = c.told-locks;
@@ -148,7 +148,7 @@ returns-then-settled-eq0 c =
       sets = true_is (sym (c.sets_pass.ensures ∙ sets_are t l v rows vs) ∙ c.if-not-sets_pass.false);
       versions = vs;
     } in
-    let x = none_stamped (tables t l v) (sym (ap (λ (s : Seen). s.settled) c.rows.ensures) ∙ c.if-settled-eq0.true) in
+    let x = none_stamped (tables t l v) (sym (ap (λ (s : Seen). s.settled) c.rows-ok.ensures) ∙ c.if-settled-eq0.true) in
     decides _ _ _ (sym (is_true (settled_good base (tables t l v)) x)) (parts_here t l v passed)
 
 pub stamps_pass-requires : goal.stamps_pass-requires
@@ -156,11 +156,11 @@ stamps_pass-requires c =
     let t = c.args.txns.now in
     let l = c.args.locks.now in
     let v = c.args.versions.now in
-    let rows = rows_passed t _ c.rows.ensures c.if-not-ok.false in
-    let vs : T (versions_test t v) = true_is (sym (versions-are t _ _ (ap (λ (s : Seen). s.relaxed) c.rows.ensures) c.starts_in_order-starts.ensures c.all_good.ensures) ∙ c.if-not-all_good.false) in (
+    let rows = rows_passed t _ c.rows-ok.ensures c.if-not-ok.false in
+    let vs : T (versions_test t v) = true_is (sym (versions-are t _ _ (ap (λ (s : Seen). s.relaxed) c.rows-ok.ensures) c.starts_in_order-starts.ensures c.all_good.ensures) ∙ c.if-not-all_good.false) in (
       record {
         txns_exact = c.told-txns;
-        seen = ap (λ (s : Seen). s.settled) c.rows.ensures;
+        seen = ap (λ (s : Seen). s.settled) c.rows-ok.ensures;
       },
       record {
         locks_exact = c.told-locks;
@@ -174,11 +174,11 @@ returns c =
     let t = c.args.txns.now in
     let l = c.args.locks.now in
     let v = c.args.versions.now in
-    let rows = rows_passed t _ c.rows.ensures c.if-not-ok.false in
-    let vs : T (versions_test t v) = true_is (sym (versions-are t _ _ (ap (λ (s : Seen). s.relaxed) c.rows.ensures) c.starts_in_order-starts.ensures c.all_good.ensures) ∙ c.if-not-all_good.false) in
-    let held : T (locks_good base t l && quotas_good base t l) = true_is (sym (c.locks_pass.ensures (ap (λ (s : Seen). s.updates) c.rows.ensures) (ap (λ (s : Seen). s.settled) c.rows.ensures)) ∙ c.if-not-locks_pass.false) in
+    let rows = rows_passed t _ c.rows-ok.ensures c.if-not-ok.false in
+    let vs : T (versions_test t v) = true_is (sym (versions-are t _ _ (ap (λ (s : Seen). s.relaxed) c.rows-ok.ensures) c.starts_in_order-starts.ensures c.all_good.ensures) ∙ c.if-not-all_good.false) in
+    let held : T (locks_good base t l && quotas_good base t l) = true_is (sym (c.locks_pass.ensures (ap (λ (s : Seen). s.updates) c.rows-ok.ensures) (ap (λ (s : Seen). s.settled) c.rows-ok.ensures)) ∙ c.if-not-locks_pass.false) in
     let can : Readable t l = readable t rows l c.told-txns c.told-locks (and_left (locks_good base t l) _ held) in
-    let waits : Waits t l = elim c.if-waiting-ne0.branch [ then-waiting-ne0+else-not-waits_pass w ↦ true_is (sym w.waits_pass.ensures ∙ w.if-not-waits_pass.false) | else-waiting-ne0 w ↦ nobody_waits t l _ c.rows.ensures rows can w.if-waiting-ne0.false ] in
+    let waits : Waits t l = elim c.if-waiting-ne0.branch [ then-waiting-ne0+else-not-waits_pass w ↦ true_is (sym w.waits_pass.ensures ∙ w.if-not-waits_pass.false) | else-waiting-ne0 w ↦ nobody_waits t l _ c.rows-ok.ensures rows can w.if-waiting-ne0.false ] in
     let passed : Passed t l v = record {
       txns_exact = c.told-txns;
       locks_exact = c.told-locks;
