@@ -13,7 +13,9 @@ use Rattle.numerals.specs.Numbers.{greatest}
 use Rattle.texts.proofs.Places.{ended, opened}
 use Rattle.number_lines.specs.Lines.{Held, reads, spoilt, digit_after, ends, after, begun, held_by, gather, unended}
 use Rattle.number_lines.specs.Lines as lines
-use Rattle.number_lines.specs.declared.scan.Scan.{Scan}
+use Rattle.number_lines.specs.declared.scan.Scan.TheVariants.{Reads}
+use Rattle.std.specs.Option.{unwrap_or, is_some}
+use Rattle.std.proofs.Common.{Option, Some, None}
 
 -- ---- a byte
 
@@ -40,72 +42,37 @@ any-taken words n h = go (ltb 0 n) refl
     go true e = e ∙ sym (lt-ltb 0 (length (take n words)) (omega (arith, length-take n words, ltb-true 0 n e)))
     go false e = e ∙ sym (le-ltb 0 (length (take n words)) (omega (arith, length-take n words, ltb-false 0 n e)))
 
-module _ (words : List ℕ) (s : Scan) where
-  -- by whether the line is spoilt
-  either : (A : Type 0) → (s.spoilt ≡ true → A) → (s.spoilt ≡ false → A) → A
-  either A f g = go s.spoilt refl
-    where
-      go : (t : Bool) → s.spoilt ≡ t → A
-      go true e = f e
-      go false e = g e
-
-  pub held-spoilt : s.spoilt ≡ true → held_by words s ≡ spoilt
-  unfolding held_by
-  held-spoilt e = rw e
-
-  pub held_reads : s.spoilt ≡ false → held_by words s ≡ reads (take s.count words) s.value s.begun
-  unfolding held_by
-  held_reads e = rw e
-
+module _ (words : List ℕ) (n : ℕ) where
   -- a digit that makes the number too great
-  pub digit_large : (b : ℕ) → 48 ≤ b → b ≤ 57 → greatest < s.value * 10 + (b - 48) → digit_after b (held_by words s) ≡ spoilt
-  unfolding digit_after
-  digit_large b l m h =
-      either (digit_after b (held_by words s) ≡ spoilt)
-      (λ e. rw (held-spoilt e) refl)
-      (λ e. rw (held_reads e, le-leb 48 b l, le-leb b 57 m, lt-leb (s.value * 10 + (b - 48)) greatest h) refl)
+  pub digit_large : (o : Option ℕ) (b : ℕ) → 48 ≤ b → b ≤ 57 → greatest < unwrap_or o 0 * 10 + (b - 48) → digit_after b (held_by words (Reads o n)) ≡ spoilt
+  unfolding digit_after held_by
+  digit_large (Some v) b l m h = rw (le-leb 48 b l, le-leb b 57 m, lt-leb (v * 10 + (b - 48)) greatest h)
+  digit_large None b l m h = rw (le-leb 48 b l, le-leb b 57 m, lt-leb (0 * 10 + (b - 48)) greatest h)
 
   -- a digit more
-  pub digit-more : (b : ℕ) → 48 ≤ b → b ≤ 57 → s.value * 10 + (b - 48) ≤ greatest → held_by words (record { value = s.value * 10 + (b - 48); begun = true; count = s.count; spoilt = s.spoilt }) ≡ digit_after b (held_by words s)
+  pub digit-more : (o : Option ℕ) (b : ℕ) → 48 ≤ b → b ≤ 57 → unwrap_or o 0 * 10 + (b - 48) ≤ greatest → held_by words (Reads (Some (unwrap_or o 0 * 10 + (b - 48))) n) ≡ digit_after b (held_by words (Reads o n))
   unfolding digit_after held_by
-  digit-more b l m h =
-      either (held_by words (record { value = s.value * 10 + (b - 48); begun = true; count = s.count; spoilt = s.spoilt }) ≡ digit_after b (held_by words s))
-      (λ e. rw e refl)
-      (λ e. rw (e, le-leb 48 b l, le-leb b 57 m, le-leb (s.value * 10 + (b - 48)) greatest h) refl)
+  digit-more (Some v) b l m h = rw (le-leb 48 b l, le-leb b 57 m, le-leb (v * 10 + (b - 48)) greatest h)
+  digit-more None b l m h = rw (le-leb 48 b l, le-leb b 57 m, le-leb (0 * 10 + (b - 48)) greatest h)
 
   -- ---- the end of a number
 
-  pub ends-bare : s.begun ≡ false → (room : ℕ) → ends room (held_by words s) ≡ spoilt
-  unfolding ends
-  ends-bare f room =
-      either (ends room (held_by words s) ≡ spoilt)
-      (λ e. rw (held-spoilt e) refl)
-      (λ e. rw (held_reads e, f) refl)
-
-  pub ends_full : s.begun ≡ true → length words ≤ s.count → ends (length words) (held_by words s) ≡ spoilt
-  unfolding ends
-  ends_full f h =
-      either (ends (length words) (held_by words s) ≡ spoilt)
-      (λ e. rw (held-spoilt e) refl)
-      (λ e. rw (held_reads e, f, le-ltb (length (take s.count words)) (length words) (omega (arith, length-take s.count words))) refl)
-
-  pub ends-kept : s.begun ≡ true → s.count < length words → held_by (set words s.count s.value) (record { value = 0; begun = false; count = s.count + 1; spoilt = s.spoilt }) ≡ ends (length words) (held_by words s)
+  pub ends_full : (v : ℕ) → length words ≤ n → ends (length words) (held_by words (Reads (Some v) n)) ≡ spoilt
   unfolding ends held_by
-  ends-kept f h =
-      let t : take (s.count + 1) (set words s.count s.value) ≡ take s.count words ++ (s.value ∷ [])
-      = rw (add-one s.count) (take-suc-set words s.count s.value h) in
-      let l : length (take s.count words) ≡ s.count = length-take-le s.count words (omega arith) in
-      either (held_by (set words s.count s.value) (record { value = 0; begun = false; count = s.count + 1; spoilt = s.spoilt }) ≡ ends (length words) (held_by words s))
-      (λ e. rw e refl)
-      (λ e. rw (e, f, t, lt-ltb (length (take s.count words)) (length words) (omega arith)) refl)
+  ends_full v h = rw (le-ltb (length (take n words)) (length words) (omega (arith, length-take n words)))
+
+  pub ends-kept : (v : ℕ) → n < length words → held_by (set words n v) (Reads None (n + 1)) ≡ ends (length words) (held_by words (Reads (Some v) n))
+  unfolding ends held_by
+  ends-kept v h =
+      let t : take (n + 1) (set words n v) ≡ take n words ++ (v ∷ []) = rw (add-one n) (take-suc-set words n v h) in
+      let l : length (take n words) ≡ n = length-take-le n words (omega arith) in
+      rw (t, lt-ltb (length (take n words)) (length words) (omega arith))
 
   -- whether the end of input ends a line
-  pub begun_is : 0 < length words → (s.spoilt || (s.begun || ltb 0 s.count)) ≡ begun (held_by words s)
+  pub begun_is : (o : Option ℕ) → 0 < length words → (is_some o || ltb 0 n) ≡ begun (held_by words (Reads o n))
   unfolding begun held_by
-  begun_is h =
-      either ((s.spoilt || (s.begun || ltb 0 s.count)) ≡ begun (held_by words s))
-      (λ e. rw e refl)
-      (λ e. rw (e, any-taken words s.count h) refl)
+  begun_is (Some v) h = refl
+  begun_is None h = any-taken words n h
 
 -- ---- along a chunk
 

@@ -1,7 +1,8 @@
 -- How a line is read as numbers: decimal, with single spaces between.
-use Rattle.std.specs.Prelude.{ℕ, ◌+◌, ◌-◌, ◌*◌, ◌<◌, ◌≤◌, ◌≡◌, Bool, true, false, cond, ◌&&◌, ◌||◌, List, [], ◌∷◌, ◌++◌, eqb, leb, ltb, length, take, drop}
+use Rattle.std.specs.Prelude.{ℕ, ◌+◌, ◌-◌, ◌*◌, ◌<◌, ◌≤◌, ◌≡◌, Bool, true, false, cond, ◌&&◌, ◌||◌, List, [], ◌∷◌, ◌++◌, eqb, leb, ltb, length, take, drop, Option, Some, None}
 use Rattle.numerals.specs.Numbers.{digit, greatest}
 use Rattle.number_lines.specs.declared.scan.Scan.{Scan}
+use Rattle.number_lines.specs.declared.scan.Scan.TheVariants.{Reads, Spoilt}
 use Rattle.number_lines.specs.declared.scan.Next.{Next}
 
 -- what is known of a line so far: the numbers that are ended, what the digits of the next one are worth, and whether it
@@ -36,9 +37,11 @@ unfoldable pub begun : Held → Bool
 begun (reads ns v g) = g || ltb 0 (length ns)
 begun spoilt = true
 
--- what the struct and the words beside it keep
+-- what the scan and the words beside it keep
 unfoldable pub held_by : List ℕ → Scan → Held
-held_by words s = cond s.spoilt spoilt (reads (take s.count words) s.value s.begun)
+held_by words (Reads (Some v) n) = reads (take n words) v true
+held_by words (Reads None n) = reads (take n words) 0 false
+held_by words Spoilt = spoilt
 
 -- ---- along a chunk
 
@@ -51,11 +54,14 @@ unfoldable pub gather : ℕ → Held → List ℕ → Found
 gather room h [] = unended h
 gather room h (b ∷ bs) = let on = gather room (after room h b) bs in cond (eqb b 10) (ended h bs) on
 
+abbrev pub found_at : List ℕ → Held → Option ℕ → Found
+found_at chunk h (Some k) = ended h (drop k chunk)
+found_at chunk h None = unended h
+
 unfoldable pub found_by : List ℕ → List ℕ → Next → Found
-found_by chunk words r =
-    cond r.ended (ended (held_by words r.scan) (drop r.at chunk)) (unended (held_by words r.scan))
+found_by chunk words r = found_at chunk (held_by words r.scan) r.at
 
 -- the right answer, and an index past the line's end
 pub record Goes (room : ℕ) (h : Held) (chunk : List ℕ) (from : ℕ) (words : List ℕ) (r : Next) : Type 0 where
   pub found : found_by chunk words r ≡ gather room h (drop from chunk)
-  pub onward : r.ended ≡ true → (from < r.at) × (r.at ≤ length chunk)
+  pub onward : (k : ℕ) → r.at ≡ Some k → (from < k) × (k ≤ length chunk)

@@ -1,60 +1,39 @@
 // The numbers of a line, read byte by byte: decimal, with single spaces between.
 //
-// What is known of a line is a small struct beside the words that its numbers are kept in, so a
-// line may come in any number of chunks.
+// What is known of a line stands beside the words that its numbers are kept in, so a line may come in
+// any number of chunks.
 ghost use Rattle.std.specs.Prelude.{◌≡◌, List, [], false, ℕ, ◌<◌, length};
-ghost use Rattle.number_lines.specs.Lines.{reads, spoilt, after, digit_after, ends, begun, held_by, Goes};
+ghost use Rattle.number_lines.specs.Lines.{reads, after, digit_after, ends, begun, held_by, Goes};
 
-// The number that is not ended yet and whether it has a digit, how many numbers are kept, and
-// whether the line is no list of numbers at all.
+// The number that is not ended yet, where it has a digit, and how many numbers are kept; or that the
+// line is no list of numbers at all.
 #[derive(Clone, Copy)]
-pub struct Scan {
-    pub value: u64,
-    pub begun: bool,
-    pub count: usize,
-    pub spoilt: bool,
+pub enum Scan {
+    Reads { value: Option<u64>, count: usize },
+    Spoilt,
 }
 
-// Where a line ended: what was read of it, and the index after its byte 10. Where none did, the
-// chunk is used up, and the line goes on in the next one.
+// What stands at the end of a line or of the chunk: what was read, and where the line ended the index
+// after its byte 10. Where it did not, the chunk is used up, and the line goes on in the next one.
 #[derive(Clone, Copy)]
 pub struct Next {
     pub scan: Scan,
-    pub at: usize,
-    pub ended: bool,
+    pub at: Option<usize>,
 }
 
 const LINE_END: u8 = 10;
 
 const GREATEST: u64 = 18446744073709551615;
 
-fn wide(byte: u8) -> u64
-    ensures { result ≡ byte }
-{
-    byte as u64
-}
-
 impl Scan {
     // No byte yet.
+    #[tactic(auto, unfolding(crate::specs::Lines::held_by))]
     pub fn new() -> Self
         ensures { (words : List ℕ) → held_by words result ≡ reads [] 0 false }
     {
-        Scan {
-            value: 0,
-            begun: false,
+        Scan::Reads {
+            value: None,
             count: 0,
-            spoilt: false,
-        }
-    }
-
-    fn spoil(self) -> Self
-        ensures { (words : List ℕ) → held_by words result ≡ spoilt }
-    {
-        Scan {
-            value: 0,
-            begun: false,
-            count: 0,
-            spoilt: true,
         }
     }
 
@@ -62,29 +41,33 @@ impl Scan {
     pub fn any(self) -> bool
         ensures { (words : List ℕ) → 0 < length words → result ≡ begun (held_by words self) }
     {
-        self.spoilt | (self.begun | (0 < self.count))
+        match self {
+            Scan::Reads { value, count } => value.is_some() | (0 < count),
+            Scan::Spoilt => true,
+        }
     }
 
     // A digit more, or a byte that is none.
     fn digit(self, byte: u8) -> Self
         ensures { (words : List ℕ) → held_by words result ≡ digit_after byte (held_by words self) }
     {
-        let value = self.value;
+        let Scan::Reads { value, count } = self else {
+            return Scan::Spoilt;
+        };
         if byte < 48 {
-            return self.spoil();
+            return Scan::Spoilt;
         }
         if 57 < byte {
-            return self.spoil();
+            return Scan::Spoilt;
         }
-        let d = wide(byte) - 48;
-        if (GREATEST - d) / 10 < value {
-            return self.spoil();
+        let before = value.unwrap_or(0);
+        let d = u64::from(byte - 48);
+        if (GREATEST - d) / 10 < before {
+            return Scan::Spoilt;
         }
-        Scan {
-            value: value * 10 + d,
-            begun: true,
-            count: self.count,
-            spoilt: self.spoilt,
+        Scan::Reads {
+            value: Some(before * 10 + d),
+            count,
         }
     }
 
@@ -92,23 +75,24 @@ impl Scan {
     pub fn ended(self, words: &mut [u64]) -> Self
         ensures { held_by words.new result ≡ ends (length words.old) (held_by words.old self) }
     {
-        let count = self.count;
-        if !self.begun {
-            return self.spoil();
-        }
+        let Scan::Reads { value, count } = self else {
+            return Scan::Spoilt;
+        };
+        let Some(value) = value else {
+            return Scan::Spoilt;
+        };
         if words.len() <= count {
-            return self.spoil();
+            return Scan::Spoilt;
         }
-        words[count] = self.value;
-        Scan {
-            value: 0,
-            begun: false,
+        words[count] = value;
+        Scan::Reads {
+            value: None,
             count: count + 1,
-            spoilt: self.spoilt,
         }
     }
 
     // A byte more.
+    #[tactic(auto, unfolding(crate::specs::Lines::after))]
     fn push(self, byte: u8, words: &mut [u64]) -> Self
         ensures { held_by words.new result ≡ after (length words.old) (held_by words.old self) byte }
     {
@@ -124,23 +108,16 @@ impl Scan {
         ensures { Goes (length words.old) (held_by words.old self) chunk.now from words.new result }
     {
         let mut scan = self;
-        let mut k = from;
-        while k < chunk.len() {
+        for k in from..chunk.len() {
             let byte = chunk[k];
-            k += 1;
             if byte == LINE_END {
                 return Next {
                     scan,
-                    at: k,
-                    ended: true,
+                    at: Some(k + 1),
                 };
             }
             scan = scan.push(byte, words);
         }
-        Next {
-            scan,
-            at: k,
-            ended: false,
-        }
+        Next { scan, at: None }
     }
 }

@@ -18,10 +18,8 @@ pub fn print_words(words: &[u64], out: &mut [u8], at: usize) -> usize
     ensures { Wrote out.old at (spaced words.now) out.new result }
 {
     let mut end = at;
-    let mut i: usize = 0;
-    while i < words.len() {
-        end = print_word(words[i], out, end);
-        i += 1;
+    for &word in words {
+        end = print_word(word, out, end);
     }
     end
 }

@@ -8,28 +8,25 @@ use Rattle.texts.proofs.Written.{wrote_more}
 use Rattle.number_lines.proofs.Printed.{spaced-next, wrote_none}
 use Rattle.number_lines.proofs.spaced.print_words.Goals as goal
 
-pub loop-i-init : goal.loop-i-init
-loop-i-init c = (omega arith, refl, wrote_none c.args.out.now c.args.at)
+pub loop-word-init : goal.loop-word-init
+loop-word-init c = (refl, wrote_none c.args.out.now c.args.at)
 
 pub print_word-end-requires : goal.print_word-end-requires
 print_word-end-requires c =
     let ws = c.args.words.now in
-    let i = c.loop-i.i in
-    omega (arith, c.requires, c.loop-i-test.true, c.loop-i.invariant.1, c.loop-i.invariant.2.index, length-spaced (take i ws), length-take i ws)
+    let i = c.loop-word.word-index in
+    omega (arith, c.requires, c.loop-word-test.true, c.loop-word.invariant.0, c.loop-word.invariant.1.index, length-spaced (take i ws), length-take i ws)
 
-pub loop-i-preserved : goal.loop-i-preserved
-loop-i-preserved c =
+pub loop-word-preserved : goal.loop-word-preserved
+loop-word-preserved c =
     let ws = c.args.words.now in
-    let l = c.loop-i in
-    (omega (arith, c.loop-i-test.true), omega arith, rw (← spaced-next ws l.i c.loop-i-test.true) (wrote_more (omega (arith, c.requires, c.loop-i-test.true, length-spaced (take l.i ws), length-take l.i ws)) l.invariant.2 c.print_word-end.ensures))
-
-pub shape_of-out : goal.shape_of-out
-shape_of-out c = c.loop-i.invariant.1
+    let l = c.loop-word in
+    (omega arith, rw (← spaced-next ws l.word-index c.loop-word-test.true) (wrote_more (omega (arith, c.requires, c.loop-word-test.true, length-spaced (take l.word-index ws), length-take l.word-index ws)) l.invariant.1 c.print_word-end.ensures))
 
 pub returns : goal.returns
 returns c =
     let ws = c.args.words.now in
-    let l = c.loop-i in
-    let e : l.i ≡ length ws = omega (arith, l.invariant.0, c.loop-i-test.false) in
-    let t : take l.i ws ≡ ws = ap (λ (n : ℕ). take n ws) e ∙ take_all (length ws) ws (omega arith) in
-    rw t at l.invariant.2
+    let l = c.loop-word in
+    let e : l.word-index ≡ length ws = omega arith in
+    let t : take l.word-index ws ≡ ws = ap (λ (n : ℕ). take n ws) e ∙ take_all (length ws) ws (omega arith) in
+    rw t at l.invariant.1

@@ -1,8 +1,0 @@
--- A new struct has read nothing.
-use mathlib.Core.Path.{refl}
-use Rattle.number_lines.specs.Lines.{held_by}
-use Rattle.number_lines.proofs.scan.Scan.new.Goals as goal
-
-pub returns : goal.returns
-unfolding held_by
-returns c = λ words. refl
