@@ -1,28 +1,26 @@
 -- The search by halving for the version that a reader reads, and the words of that version in the table.
-use Prim.Native.Nat.{ℕ, zero, suc, ◌+◌, ◌-◌, ◌*◌, ◌/◌, ◌%◌, ◌^◌, ◌<◌, ◌≤◌}
+use Prim.Native.Nat.{ℕ, zero, suc, ◌+◌, ◌-◌, ◌/◌, ◌<◌, ◌≤◌}
 use mathlib.Core.Path.{◌≡◌, refl, sym, ap, ◌∙◌, subst}
-use mathlib.Core.Logic.{◌≢◌}
-use mathlib.Core.Bool.{Bool, true, false, ◌&&◌}
+use mathlib.Core.Bool.{Bool, true, false, ◌&&◌, not}
 use mathlib.Core.List.{List}
 use native.Mathlib.Omega.{arith}
 use native.Mathlib.Nat.{not-suc-le-zero}
-use lib.ListN.{get_or, take, drop}
-use lib.Dec.{T, ltb, leb→le, le→leb, eqb→eq}
+use lib.ListN.{get_or}
+use lib.Dec.{T, ltb, leb→le, le→leb}
 use borrow.Author.Tests.{ltb-false}
 use Rattle.names.specs.Sizes.{base}
-use Rattle.rules.specs.Words.{row, bit}
-use Rattle.rules.specs.Tables.{version_row, masks_at, Reader, up_to, outside}
-use Rattle.rules.specs.Versions.{Version, no_version, versions_in, versions_of, sees, place, hidden_now}
-use Rattle.rules.proofs.Tests.{true_is, false_is, and_both, eq_make, not_make, not_use}
+use Rattle.rules.specs.Words.{row}
+use Rattle.rules.specs.Tables.{version_row, Reader, up_to}
+use Rattle.rules.specs.Versions.{Version, no_version, versions_in, versions_of, sees, place, choice}
+use Rattle.rules.proofs.Tests.{true_is, false_is, and_both}
 use Rattle.rules.proofs.Choice.{Falls, Nests, length-versions_in, older_seen, place-fits}
 use Rattle.rules.proofs.Reading.{place_is}
-use Rattle.rules.proofs.Rows.{row_word}
-use Rattle.choices.specs.Pairs.{count_in, stamp_in, hidden_in}
+use Rattle.choices.specs.Pairs.{count_in, stamp_in}
 use Rattle.choices.specs.Choosable.{Choosable, ChoosableIn}
 use Rattle.choices.specs.Looks.{halvings, most_looks}
-use Rattle.choices.proofs.Lent.{lent, length-row}
+use Rattle.choices.proofs.Lent.{length-row}
 use Rattle.choices.proofs.Halvings.{fewer, at_most}
-use Rattle.choices.proofs.Read.{version_in, hidden_in_lem, seen_up_to, seen-outside}
+use Rattle.choices.proofs.Read.{seen_up_to}
 
 -- ---- in one row
 abbrev at : List ℕ → ℕ → Version
@@ -122,14 +120,10 @@ too_new r q k h l t = let m = leb→le (stamp_in r k) q (subst T (seen_up_to r k
 pub old_enough_lem : (r : List ℕ) (q k : ℕ) → k < count_in r → stamp_in r k ≤ q → T (sees (up_to q) (get_or (versions_in base r) k no_version))
 old_enough_lem r q k h l = subst T (sym (seen_up_to r k q h)) (le→leb (stamp_in r k) q l)
 
-pub hidden-from : (r : List ℕ) (s k : ℕ) → k < count_in r → hidden_in r k / 2 ^ s % 2 ≡ 1 → T (sees (outside s) (get_or (versions_in base r) k no_version)) → ⊥
-unfolding bit
-hidden-from r s k h e t = not_use (bit (hidden_in r k) s) (subst T (seen-outside r k s h) t) (eq_make (hidden_in r k / 2 ^ s % 2) 1 e)
-
-pub shown_to_lem : (r : List ℕ) (s k : ℕ) → k < count_in r → hidden_in r k / 2 ^ s % 2 ≢ 1 → T (sees (outside s) (get_or (versions_in base r) k no_version))
-unfolding bit
-shown_to_lem r s k h d =
-    subst T (sym (seen-outside r k s h)) (not_make (bit (hidden_in r k) s) (λ t. d (eqb→eq (hidden_in r k / 2 ^ s % 2) 1 t)))
+-- what is not too new may be read
+pub seen_lem : (b : Bool) → false ≡ not b → T b
+seen_lem true e = tt
+seen_lem false e = absurd (subst T (sym e) tt)
 
 -- the loop ends where one place is left, or no look: then too one place is left
 pub looked_enough :
@@ -151,40 +145,23 @@ unfolding versions_of
 found_in v x q f =
     record { size = length-row x v f.size f.known; sound = f.sound; found = f.found }
 
--- the value at place k
-pub value-word :
-    (v : List ℕ) (x k : ℕ) → k < count_in (row (version_row base) x v) → k < base.places
-    → get_or v (version_row base * x + (k * 2 + 2)) 0 ≡ (get_or (versions_of base v x) k no_version).value
-unfolding versions_of
-value-word v x k h l =
-    sym (row_word (version_row base) x (k * 2 + 2) v (omega arith))
-    ∙ sym (ap (λ (w : Version). w.value) (version_in (row (version_row base) x v) k h))
+-- the place that the search finds is one of the row's
+pub in_row : (r : List ℕ) (q : Reader) → ChoosableIn r q → (k : ℕ) → k ≡ place q (versions_in base r) → (k < count_in r) × (k < base.places)
+in_row r q f k e = let i = within r q f in let m = f.sound.most in (omega arith, omega arith)
 
--- from whom the newest is hidden
-pub hidden-word :
-    (v : List ℕ) (x : ℕ) → 1 ≤ count_in (row (version_row base) x v) → get_or v (version_row base * x + masks_at base) 0 ≡ hidden_now base v x
-unfolding versions_of hidden_now
-hidden-word v x h =
-    sym (row_word (version_row base) x (masks_at base + 0) v (omega arith)) ∙ sym (hidden_in_lem (row (version_row base) x v) 0 (omega arith))
+module _ (v : List ℕ) (x : ℕ) (q : Reader) (r : List ℕ) (is : r ≡ row (version_row base) x v) where
+  -- the row that is lent for an item is as the search asks
+  pub lent_choosable : Choosable v x q → ChoosableIn r q
+  lent_choosable f = subst (λ (r : List ℕ). ChoosableIn r q) (sym is) (found_in v x q f)
 
--- what is known of the place that the search finds in the part of the table that is lent
-pub record Placed (v : List ℕ) (x : ℕ) (q : Reader) (k : ℕ) : Type 0 where
-  pub is : k ≡ place q (versions_of base v x)
-  pub counted : k < count_in (row (version_row base) x v)
-  pub room : k < base.places
+  -- what it finds there is the version of the item that q reads
+  pub chosen-place : (k : ℕ) → k ≡ place q (versions_in base r) → k ≡ place q (versions_of base v x)
+  unfolding versions_of
+  chosen-place k e = e ∙ ap (λ (r : List ℕ). place q (versions_in base r)) is
 
-pub placed :
-    (v : List ℕ) (x : ℕ) (q : Reader) → Choosable v x q → (k : ℕ)
-    → k ≡ place q (versions_in base (take ((version_row base * x + version_row base) - version_row base * x) (drop (version_row base * x) v)))
-    → Placed v x q k
-unfolding versions_of
-placed v x q f k e =
-    let i : k ≡ place q (versions_of base v x) = e ∙ ap (λ (r : List ℕ). place q (versions_in base r)) (lent x v) in
-    let c : k < count_in (row (version_row base) x v) = omega (arith, within (row (version_row base) x v) q (found_in v x q f)) in
-    record { is = i; counted = c; room = let m = f.sound.most in omega arith }
-
--- what the search asks of that part
-pub lent_choosable :
-    (v : List ℕ) (x : ℕ) (q : Reader) → Choosable v x q
-    → ChoosableIn (take ((version_row base * x + version_row base) - version_row base * x) (drop (version_row base * x) v)) q
-lent_choosable v x q f = subst (λ (r : List ℕ). ChoosableIn r q) (sym (lent x v)) (found_in v x q f)
+  pub chosen-value :
+      (k : ℕ) → k ≡ place q (versions_in base r) → (get_or (versions_in base r) k no_version).value ≡ (choice q (versions_of base v x)).value
+  unfolding versions_of choice
+  chosen-value k e =
+      ap (λ (j : ℕ). (get_or (versions_in base r) j no_version).value) e
+      ∙ ap (λ (r : List ℕ). (get_or (versions_in base r) (place q (versions_in base r)) no_version).value) is

@@ -1,15 +1,15 @@
 -- The part of the table that is lent for an item is the item's row.
-use Prim.Native.Nat.{ℕ, ◌+◌, ◌-◌, ◌*◌, ◌<◌}
-use mathlib.Core.Path.{◌≡◌, ap, ◌∙◌}
-use mathlib.Core.List.{List}
+use Prim.Native.Nat.{ℕ, zero, suc, ◌+◌, ◌-◌, ◌*◌, ◌<◌}
+use mathlib.Core.Path.{◌≡◌, sym, ap, ◌∙◌}
+use mathlib.Core.List.{List, []}
 use native.Mathlib.Omega.{arith}
-use native.Mathlib.Nat.{add-zero}
+use native.Mathlib.Nat.{mul-zero, mul-suc}
 use lib.ListN.{get_or, length, take, drop, length-take, length-drop}
+use Rattle.std.specs.Simd.{first_chunks}
+use Rattle.std.proofs.lemmas.List.{drop-drop}
 use Rattle.names.specs.Sizes.{base}
 use Rattle.rules.specs.Words.{row}
 use Rattle.rules.specs.Tables.{version_row, version_words}
-use Rattle.rules.proofs.Rows.{row_word}
-use Rattle.choices.specs.Pairs.{count_in}
 
 -- a part's length is said by its two ends
 pub wide : (x : ℕ) → (version_row base * x + version_row base) - version_row base * x ≡ version_row base
@@ -25,8 +25,14 @@ pub length-row : (x : ℕ) (v : List ℕ) → length v ≡ version_words base �
 unfolding row
 length-row x v l h = simp (length-take, length-drop) (omega arith)
 
--- the row's first word is its count
-pub count-row : (x : ℕ) (v : List ℕ) → count_in (row (version_row base) x v) ≡ get_or v (version_row base * x) 0
-count-row x v =
-    row_word (version_row base) x 0 v (omega arith)
-    ∙ ap (λ (n : ℕ). get_or v n 0) (add-zero (version_row base * x))
+-- a table cut into rows has the item's row at the item's place
+chunk-row : (n k x : ℕ) (v : List ℕ) → x < k → get_or (first_chunks n k v) x [] ≡ take n (drop (n * x) v)
+chunk-row n zero x v h = absurd (omega arith)
+chunk-row n (suc k) zero v h = ap (λ (m : ℕ). take n (drop m v)) (sym (mul-zero n))
+chunk-row n (suc k) (suc x) v h =
+    chunk-row n k x (drop n v) (omega arith)
+    ∙ ap (take n) (drop-drop (n * x) n v ∙ ap (λ (m : ℕ). drop m v) (let e = mul-suc n x in let f : n + n * x ≡ n * suc x = omega arith in f))
+
+pub cut_row : (k x : ℕ) (v : List ℕ) → x < k → get_or (first_chunks (version_row base) k v) x [] ≡ row (version_row base) x v
+unfolding row
+cut_row k x v h = chunk-row (version_row base) k x v h

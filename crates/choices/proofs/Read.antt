@@ -1,13 +1,16 @@
 -- The words of a row as versions.
-use Prim.Native.Nat.{ℕ, zero, suc, ◌+◌, ◌*◌, ◌<◌}
-use mathlib.Core.Path.{◌≡◌, refl, ap, ◌∙◌}
+use Prim.Native.Nat.{ℕ, zero, suc, ◌+◌, ◌*◌, ◌/◌, ◌%◌, ◌^◌, ◌<◌}
+use mathlib.Core.Path.{◌≡◌, refl, sym, ap, ◌∙◌}
 use mathlib.Core.Bool.{not}
 use mathlib.Core.List.{List}
 use native.Mathlib.Omega.{arith}
 use native.Mathlib.Nat.{not-suc-le-zero, le_of_suc-le-suc}
 use lib.ListN.{get_or, drop}
 use lib.Seq.{get_or-drop}
-use lib.Dec.{leb}
+use lib.Dec.{leb, ltb, eqb, ltb→lt, lt→ltb}
+use Rattle.std.proofs.Math.Facts.{leb_no, no_leb}
+use Rattle.std.proofs.Math.Bool.{not-not}
+use Rattle.rules.proofs.Tests.{iff_eq}
 use Rattle.names.specs.Sizes.{base}
 use Rattle.rules.specs.Words.{bit}
 use Rattle.rules.specs.Tables.{masks_at, up_to, outside}
@@ -52,6 +55,9 @@ pub hidden_in_lem : (r : List ℕ) (k : ℕ) → k < count_in r → hidden_at (v
 unfolding hidden_at
 hidden_in_lem r k h = ap (λ (v : Version). v.hidden) (version_in r k h)
 
+pub value_in_lem : (r : List ℕ) (k : ℕ) → k < count_in r → (get_or (versions_in base r) k no_version).value ≡ value_in r k
+value_in_lem r k h = ap (λ (v : Version). v.value) (version_in r k h)
+
 -- ---- who may read it, by its words
 pub seen_up_to : (r : List ℕ) (k q : ℕ) → k < count_in r → sees (up_to q) (get_or (versions_in base r) k no_version) ≡ leb (stamp_in r k) q
 unfolding sees
@@ -60,3 +66,15 @@ seen_up_to r k q h = ap (λ (v : Version). leb v.stamp q) (version_in r k h)
 pub seen-outside : (r : List ℕ) (k s : ℕ) → k < count_in r → sees (outside s) (get_or (versions_in base r) k no_version) ≡ not (bit (hidden_in r k) s)
 unfolding sees
 seen-outside r k s h = ap (λ (v : Version). not (bit v.hidden s)) (version_in r k h)
+
+-- who may not, as the code tests it
+later : (a b : ℕ) → ltb a b ≡ not (leb b a)
+later a b = iff_eq (ltb a b) (not (leb b a)) (λ t. no_leb (ltb→lt a b t)) (λ t. lt→ltb a b (leb_no t))
+
+pub too_late : (r : List ℕ) (k q : ℕ) → k < count_in r → ltb q (stamp_in r k) ≡ not (sees (up_to q) (get_or (versions_in base r) k no_version))
+too_late r k q h = later q (stamp_in r k) ∙ ap not (sym (seen_up_to r k q h))
+
+pub hidden-from :
+    (r : List ℕ) (k s : ℕ) → k < count_in r → eqb (hidden_in r k / 2 ^ s % 2) 1 ≡ not (sees (outside s) (get_or (versions_in base r) k no_version))
+unfolding bit
+hidden-from r k s h = sym (not-not (bit (hidden_in r k) s)) ∙ ap not (sym (seen-outside r k s h))

@@ -1,11 +1,10 @@
 -- Peeling: what one slot peeled, a turn over all slots, and the end say of circles.
-use Prim.Native.Nat.{ℕ, ◌+◌, ◌-◌, ◌^◌, ◌≤◌, ◌<◌}
+use Prim.Native.Nat.{ℕ, ◌^◌, ◌≤◌, ◌<◌}
 use mathlib.Core.Path.{◌≡◌, refl, sym, ap, ◌∙◌, subst}
-use mathlib.Core.Logic.{◌≢◌, ◌⊎◌, inl, inr, ⊎_elim, ◌↔◌}
+use mathlib.Core.Logic.{◌≢◌, ◌⊎◌, ⊎_elim, ◌↔◌}
 use mathlib.Core.Bool.{Bool, true, false, ◌&&◌, not, cond}
 use mathlib.Core.List.{List}
 use native.Mathlib.Omega.{arith}
-use native.Mathlib.Nat.{eq-or-lt_of_le}
 use lib.ListN.{get_or}
 use lib.Bits.{bit_and, bit_xor, and_le_r}
 use lib.Dec.{T, eqb}
@@ -73,9 +72,6 @@ pub record Sweeping (w : List ℕ) (left m : ℕ) (seen : ℕ → Type 0) : Type
   pub stuck : m ≡ left → (a : ℕ) → seen a → T (bit left a) → bit_and (get_or w a 0) left ≡ 0 → ⊥
 
 module _ (w : List ℕ) (left : ℕ) (seen : ℕ → Type 0) where
-  pub sweep_begin : ((a : ℕ) → seen a → ⊥) → Sweeping w left left seen
-  sweep_begin n = record { less = omega arith; keeps = λ k. k; stuck = λ q a s t z. n a s }
-
   pub sweep_end : (m : ℕ) → ((a : ℕ) → a < base.slots → seen a) → Sweeping w left m seen → Swept w left m
   sweep_end m f s = record { less = s.less; keeps = s.keeps; stuck = λ q a l t z. s.stuck q a (f a l) t z }
 
@@ -93,20 +89,6 @@ module _ (w : List ℕ) (left : ℕ) (seen : ℕ → Type 0) where
             c.1 (subst (λ (y : ℕ). T (bit left y)) x t) (ap (λ (y : ℕ). bit_and (get_or w y 0) left) (sym x) ∙ n))
             (λ x. s.stuck c.0 b x t n) (d b h);
       })
-
--- upward the slots below i were peeled, downward those from i on
-abbrev pub Below : ℕ → ℕ → Type 0
-Below i a = a < i
-
-abbrev pub From : ℕ → ℕ → Type 0
-From i a = (i ≤ a) × (a < base.slots)
-
-pub one_up : (i a : ℕ) → Below (i + 1) a → (a ≡ i) ⊎ Below i a
-one_up i a l = eq-or-lt_of_le (let m : a ≤ i = omega arith in m)
-
-pub one_down : (i a : ℕ) → From (i - 1) a → (a ≡ i - 1) ⊎ From i a
-one_down i a (l, m) =
-    ⊎_elim (λ (q : i - 1 ≡ a). inl (sym q)) (λ (k : i - 1 < a). inr (omega arith, m)) (eq-or-lt_of_le l)
 
 -- ---- the beginning and the ends
 pub all_kept : (w : List ℕ) (waiting : ℕ) → Waiting w waiting → Keeps w waiting

@@ -5,7 +5,7 @@
 // where it began. Every function is proved in both directions against the walks of the rules.
 #![tactic(auto)]
 
-ghost use Rattle.std.specs.Prelude.{◌≡◌, ◌↔◌, ◌<◌, ◌^◌, T};
+ghost use Rattle.std.specs.Prelude.{◌≡◌, ◌↔◌, ℕ, ◌<◌, ◌^◌, T};
 ghost use Rattle.names.specs.Sizes.{base};
 ghost use Rattle.rules.specs.Words.{bit};
 ghost use Rattle.circles.specs.Links.{LinkWords, Waiting, NoCircle, Leads};
@@ -19,7 +19,7 @@ const SLOTS: usize = names::SLOTS as usize;
 
 // The slots of `left` without `slot`, if that waits for none of them: such a slot is on no circle
 // among them.
-fn peel(waits: &[u64], left: u64, slot: usize) -> u64
+fn peel(waits: &[u64; SLOTS], left: u64, slot: usize) -> u64
     requires { LinkWords waits.now × (slot < base.slots) }
     ensures { result ≡ peeled waits.now left slot }
 {
@@ -29,51 +29,38 @@ fn peel(waits: &[u64], left: u64, slot: usize) -> u64
     left
 }
 
-// What is left once each slot was peeled, from the lowest to the highest.
-fn peel_up(waits: &[u64], left: u64) -> u64
-    requires { LinkWords waits.now }
+// What is left once each slot was peeled, in the order in which `slot_at` names them.
+fn peel_all<F: Fn(usize) -> usize>(waits: &[u64; SLOTS], left: u64, slot_at: F) -> u64
+    requires links { LinkWords waits.now }
+    requires callable { (k : ℕ) → k < base.slots → F.pre slot_at k }
+    requires within { (k slot : ℕ) → k < base.slots → F.post slot_at k slot → slot < base.slots }
+    requires all { (slot : ℕ) → slot < base.slots → (k : ℕ) × (k < base.slots) × ((s : ℕ) → F.post slot_at k s → s ≡ slot) }
     ensures { Swept waits.now left result }
 {
     let mut rest = left;
-    let mut slot: usize = 0;
-    while slot < SLOTS {
-        rest = peel(waits, rest, slot);
-        slot += 1;
-    }
-    rest
-}
-
-// What is left once each slot was peeled, from the highest to the lowest.
-fn peel_down(waits: &[u64], left: u64) -> u64
-    requires { LinkWords waits.now }
-    ensures { Swept waits.now left result }
-{
-    let mut rest = left;
-    let mut slot: usize = SLOTS;
-    while 0 < slot {
-        slot -= 1;
-        rest = peel(waits, rest, slot);
+    for k in 0..SLOTS {
+        rest = peel(waits, rest, slot_at(k));
     }
     rest
 }
 
 // Is there no circle among the waits? `waiting` holds the slots that wait for somebody, and may
-// hold more. LinkWords that are on no circle are peeled off, upward and downward by turns, since waits
+// hold more. Slots that are on no circle are peeled off, upward and downward by turns, since waits
 // that lead one way are gone after one turn; what resists a turn has a circle.
-pub fn no_circle(waits: &[u64], waiting: u64) -> bool
+pub fn no_circle(waits: &[u64; SLOTS], waiting: u64) -> bool
     requires { LinkWords waits.now × Waiting waits.now waiting }
     ensures { T result ↔ NoCircle waits.now }
 {
     let mut left = waiting;
     while left != 0 {
-        let rest = peel_up(waits, left);
+        let rest = peel_all(waits, left, |k| k);
         if rest == 0 {
             return true;
         }
         if rest == left {
             return false;
         }
-        left = peel_down(waits, rest);
+        left = peel_all(waits, rest, |k| SLOTS - 1 - k);
     }
     true
 }
@@ -83,16 +70,12 @@ fn lowest(word: u64) -> u64
     requires { (0 < word) × (word < 2 ^ base.slots) }
     ensures { (result < base.slots) × T (bit word result) }
 {
-    let mut slot: u64 = 0;
-    while (word >> slot) % 2 == 0 {
-        slot += 1;
-    }
-    slot
+    word.trailing_zeros() as u64
 }
 
 // Is a slot of `todo` the goal, or leads to it? `done` holds the slots that were visited. Each call
 // visits one slot more, so there are at most as many as there are slots, and one.
-fn search(waits: &[u64], done: u64, todo: u64, goal: u64) -> bool
+fn search(waits: &[u64; SLOTS], done: u64, todo: u64, goal: u64) -> bool
     requires { LinkWords waits.now × Open waits.now done todo goal }
     ensures { T result ↔ Leads waits.now todo goal }
 {
@@ -111,7 +94,7 @@ fn search(waits: &[u64], done: u64, todo: u64, goal: u64) -> bool
 
 // Is a slot of `from` the goal, or can one walk from it to the goal? Where `from` holds whom the
 // goal would wait for, this says whether that wait would close a circle.
-pub fn reaches(waits: &[u64], from: u64, goal: Slot) -> bool
+pub fn reaches(waits: &[u64; SLOTS], from: u64, goal: Slot) -> bool
     requires { LinkWords waits.now × (from < 2 ^ base.slots) }
     ensures { T result ↔ Leads waits.now from goal.0 }
 {

@@ -20,7 +20,6 @@ use Rattle.words.proofs.ZeroWords.{no_word}
 
 -- ---- what is known once the locks of the items below i were passed
 pub record Counting (u w : ℕ) (l c : List ℕ) (most : ℕ) (ok : Bool) (i : ℕ) : Type 0 where
-  pub within : i ≤ base.items
   pub size : length c ≡ base.slots
   pub right : ok ≡ every_below i (λ x. lock_ok u w (lock l x))
   pub at : (s : ℕ) → s < base.slots → get_or c s 0 ≡ count_below i (λ x. holds_exclusive (lock l x) s)
@@ -30,7 +29,6 @@ pub counting_begin : (u w : ℕ) (l : List ℕ) → Counting u w l (replicate ba
 unfolding every_below count_below
 counting_begin u w l =
     record {
-      within = omega arith;
       size = refl;
       right = refl;
       at = λ s k. no_word base.slots s;
@@ -53,7 +51,6 @@ module _ (u w : ℕ) (l c : List ℕ) (most : ℕ) (ok : Bool) (i : ℕ) (k : i 
   counting_none e n p q r =
       rw (p, q, r)
       (record {
-        within = omega arith;
         size = h.size;
         right = ap₂ ◌&&◌ e h.right ∙ sym (every_more test i);
         at = λ s j. h.at s j ∙ sym (count_no i (λ x. holds_exclusive (lock l x) s) (ne_eqb (lock l i).exclusive (suc s) (n s j)));
@@ -72,7 +69,6 @@ module _ (u w : ℕ) (l c : List ℕ) (most : ℕ) (ok : Bool) (i : ℕ) (k : i 
       let z = h.size in
       rw (p, q, r)
       (record {
-        within = omega arith;
         size = length-set c a v ∙ h.size;
         right = ap₂ ◌&&◌ e h.right ∙ sym (every_more test i);
         at = λ s j. ⊎_elim
@@ -96,9 +92,9 @@ module _ (u w : ℕ) (l c : List ℕ) (most : ℕ) (ok : Bool) (i : ℕ) (k : i 
 
 -- ---- once all were passed
 module _ (u w : ℕ) (l c : List ℕ) (most : ℕ) (ok : Bool) (h : Counting u w l c most ok base.items) where
-  pub counting_right : ok ≡ locks_ok u w l
+  pub counting_right : {b : Bool} → ok ≡ b → locks_ok u w l ≡ b
   unfolding locks_ok
-  counting_right = h.right
+  counting_right e = sym h.right ∙ e
 
   pub counting_end : Counted l c most
   unfolding exclusives_of

@@ -2,22 +2,20 @@
 // writing, who is a relaxed query, which sets there are, and that no two live transactions have one
 // number.
 //
-// Every function is proved equal to its definition, for tables of the exact size.
+// Every function is proved equal to its definition.
 #![tactic(auto)]
 
-ghost use Rattle.std.specs.Prelude.{◌≡◌, ◌<◌, length};
+ghost use Rattle.std.specs.Prelude.{◌≡◌, ◌<◌};
 ghost use Rattle.names.specs.Sizes.{base};
-ghost use Rattle.rules.specs.Tables.{txn_words, txn};
+ghost use Rattle.rules.specs.Tables.{txn};
 ghost use Rattle.rules.specs.Tested.{distinct};
 ghost use Rattle.shapes.specs.Shape.{txn_of, free_ok, update_ok, query_ok, settled_ok, relaxed_ok, seen, apart_from, distinct_at};
 
 use names::{
     CLOCK_AT, EXCLUSIVE_LOCK, LAST_NUMBER_AT, NO_LOCK, QUERY_KIND, RELAXED_KIND, SETTLED_KIND,
-    TXN_COUNT_AT, TXN_HEAD, TXN_ITEM_AT, TXN_ITEMS_READ_AT, TXN_KIND_AT, TXN_LATER_FOR_AT,
-    TXN_LOCK_AT, TXN_RANK_AT, TXN_ROW, TXN_START_AT, TXN_SUM_AT, UPDATE_KIND,
+    SLOTS, TXN_COUNT_AT, TXN_HEAD, TXN_ITEM_AT, TXN_ITEMS_READ_AT, TXN_KIND_AT, TXN_LATER_FOR_AT,
+    TXN_LOCK_AT, TXN_RANK_AT, TXN_ROW, TXN_START_AT, TXN_SUM_AT, Txns, UPDATE_KIND,
 };
-
-const SLOTS: usize = names::SLOTS as usize;
 
 // A word with a bit for each item.
 const EVERY_ITEM: u64 = 18446744073709551615;
@@ -25,6 +23,7 @@ const EVERY_ITEM: u64 = 18446744073709551615;
 // What one pass over the transaction rows sees: whether each is as the rules ask, but for what the
 // locks have a part in; the slots of the live updates; the slots of those that await a lock; the slots
 // of those past their writing; the slots of the relaxed queries; and whose sets there are.
+// (a) `ok` is no Option: the contract of `rows` says the words of rows that are not as asked, too.
 #[derive(Clone, Copy)]
 pub struct Seen {
     pub ok: bool,
@@ -50,11 +49,12 @@ struct Row {
     later: u64,
 }
 
-fn row_at(txns: &[u64], slot: usize) -> Row
-    requires { (length txns.now ≡ txn_words base) × (slot < base.slots) }
+#[tactic(auto, unfolding(rules::specs::Tables::txn))]
+fn row_at(txns: &Txns, slot: u64) -> Row
+    requires { slot < base.slots }
     ensures { txn_of result ≡ txn txns.now slot }
 {
-    let at = TXN_HEAD + TXN_ROW * slot;
+    let at = TXN_HEAD + TXN_ROW * (slot as usize);
     Row {
         number: txns[at],
         kind: txns[at + TXN_KIND_AT],
@@ -137,77 +137,65 @@ fn settled_ok(last: u64, clock: u64, settled: Row) -> bool
 }
 
 // One pass over the transaction rows.
-pub fn rows(txns: &[u64]) -> Seen
-    requires { length txns.now ≡ txn_words base }
+pub fn rows(txns: &Txns) -> Seen
     ensures { result ≡ seen base txns.now }
 {
     let last = txns[LAST_NUMBER_AT];
     let clock = txns[CLOCK_AT];
-    let mut ok = (last <= names::LAST_WORD) & (clock <= names::LAST_WORD);
-    let mut updates: u64 = 0;
-    let mut waiting: u64 = 0;
-    let mut settled: u64 = 0;
-    let mut relaxed: u64 = 0;
-    let mut later: u64 = 0;
-    let mut slot: usize = 0;
-    while slot < SLOTS {
+    let mut seen = Seen {
+        ok: (last <= names::LAST_WORD) & (clock <= names::LAST_WORD),
+        updates: 0,
+        waiting: 0,
+        settled: 0,
+        relaxed: 0,
+        later: 0,
+    };
+    for slot in 0..SLOTS {
         let row = row_at(txns, slot);
         if row.number == 0 {
-            ok = ok & free_ok(row);
+            seen.ok &= free_ok(row);
         } else {
-            if row.kind == UPDATE_KIND {
-                ok = ok & update_ok(last, row);
-                updates = updates | (1 << slot);
-                if row.wanted != NO_LOCK {
-                    waiting = waiting | (1 << slot);
-                }
-            } else {
-                if row.kind == SETTLED_KIND {
-                    ok = ok & settled_ok(last, clock, row);
-                    settled = settled | (1 << slot);
-                } else {
-                    if row.kind == RELAXED_KIND {
-                        ok = ok & relaxed_ok(last, row);
-                        relaxed = relaxed | (1 << slot);
-                    } else {
-                        ok = ok & query_ok(last, clock, row);
+            match row.kind {
+                UPDATE_KIND => {
+                    seen.ok &= update_ok(last, row);
+                    seen.updates |= 1 << slot;
+                    if row.wanted != NO_LOCK {
+                        seen.waiting |= 1 << slot;
                     }
                 }
+                SETTLED_KIND => {
+                    seen.ok &= settled_ok(last, clock, row);
+                    seen.settled |= 1 << slot;
+                }
+                RELAXED_KIND => {
+                    seen.ok &= relaxed_ok(last, row);
+                    seen.relaxed |= 1 << slot;
+                }
+                _ => seen.ok &= query_ok(last, clock, row),
             }
         }
-        later = later | row.later;
-        slot += 1;
+        seen.later |= row.later;
     }
-    Seen {
-        ok,
-        updates,
-        waiting,
-        settled,
-        relaxed,
-        later,
-    }
+    seen
 }
 
 // No slot below `slot` has this number.
-fn apart(txns: &[u64], slot: usize, number: u64) -> bool
-    requires { (length txns.now ≡ txn_words base) × (slot < base.slots) }
+#[tactic(auto, unfolding(crate::specs::Shape::apart_from, rules::specs::Tables::txn))]
+fn apart(txns: &Txns, slot: u64, number: u64) -> bool
+    requires { slot < base.slots }
     ensures { result ≡ apart_from txns.now slot number }
 {
-    let mut ok = true;
-    let mut below: usize = 0;
-    while below < slot {
-        ok = !(txns[TXN_HEAD + TXN_ROW * below] == number) & ok;
-        below += 1;
-    }
-    ok
+    words::every_below(slot, |below| {
+        txns[TXN_HEAD + TXN_ROW * (below as usize)] != number
+    })
 }
 
 // If the slot is live, no slot below has its number.
-fn distinct_at(txns: &[u64], slot: usize) -> bool
-    requires { (length txns.now ≡ txn_words base) × (slot < base.slots) }
+fn distinct_at(txns: &Txns, slot: u64) -> bool
+    requires { slot < base.slots }
     ensures { result ≡ distinct_at txns.now slot }
 {
-    let number = txns[TXN_HEAD + TXN_ROW * slot];
+    let number = txns[TXN_HEAD + TXN_ROW * (slot as usize)];
     if number == 0 {
         return true;
     }
@@ -215,15 +203,9 @@ fn distinct_at(txns: &[u64], slot: usize) -> bool
 }
 
 // No two live transactions have one number.
-pub fn distinct(txns: &[u64]) -> bool
-    requires { length txns.now ≡ txn_words base }
+#[tactic(auto, unfolding(rules::specs::Tested::distinct, crate::specs::Shape::distinct_at))]
+pub fn distinct(txns: &Txns) -> bool
     ensures { result ≡ distinct base txns.now }
 {
-    let mut ok = true;
-    let mut slot: usize = 0;
-    while slot < SLOTS {
-        ok = distinct_at(txns, slot) & ok;
-        slot += 1;
-    }
-    ok
+    words::every_below(SLOTS, |slot| distinct_at(txns, slot))
 }

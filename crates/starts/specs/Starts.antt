@@ -1,5 +1,5 @@
 -- The starts of those who read by one, and all who read versions: these and the relaxed queries.
-use Rattle.std.specs.Prelude.{ℕ, zero, suc, ◌≡◌, ◌⊎◌, Bool, ◌&&◌, not, cond, T, eqb}
+use Rattle.std.specs.Prelude.{ℕ, zero, suc, ◌≡◌, ◌⊎◌, Bool, ◌&&◌, not, cond, T, eqb, Option, Some, None}
 use mathlib.Core.List.{List, [], ◌∷◌, Memᴰ}
 use Rattle.names.specs.declared.Sizes.{Sizes}
 use Rattle.rules.specs.Words.{bit}
@@ -9,6 +9,10 @@ use Rattle.rules.specs.Tables.{Txn, txn, live, an_update, a_relaxed, Reader, up_
 -- are those for whom the rules' `readers` have a start
 unfoldable pub reads_by_start : Txn → Bool
 reads_by_start r = live r && (not (eqb r.kind an_update) && not (eqb r.kind a_relaxed))
+
+-- the start of such a one
+unfoldable pub start_of : Txn → Option ℕ
+start_of r = cond (reads_by_start r) (Some r.start) None
 
 -- their starts, in n slots from slot s on; in all slots
 unfoldable pub starts_from : List ℕ → ℕ → ℕ → List ℕ

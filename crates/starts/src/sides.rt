@@ -1,12 +1,11 @@
 // What stands on either side of a stamp among the starts of those who read by one.
-ghost use Rattle.std.specs.Prelude.{◌≡◌, List, [], ◌∷◌, ◌++◌, ℕ, length};
+ghost use Rattle.std.specs.Prelude.{◌≡◌, List, [], ◌∷◌, ◌++◌, ℕ};
 ghost use Rattle.names.specs.Sizes.{base};
-ghost use Rattle.rules.specs.Tables.{txn_words};
 ghost use Rattle.starts.specs.Starts.{starts};
 ghost use Rattle.starts.specs.Beside.{Beside};
 
-use super::{GUARD, SLOTS};
-use names::{RELAXED_KIND, TXN_HEAD, TXN_KIND_AT, TXN_ROW, TXN_START_AT, UPDATE_KIND};
+use super::{GUARD, SLOTS, start_in};
+use names::Txns;
 
 // One more than the greatest start below the stamp, 0 where none is below it; and the least start
 // from the stamp on, the greatest word where there is none.
@@ -39,22 +38,17 @@ fn met(known: Neighbours, stamp: u64, start: u64) -> Neighbours
 }
 
 // The neighbours of a stamp among the starts of those who read by one.
-pub fn beside(txns: &[u64], stamp: u64) -> Neighbours
-    requires { length txns.now ≡ txn_words base }
+pub fn beside(txns: &Txns, stamp: u64) -> Neighbours
     ensures { Beside (starts base txns.now) stamp result.below result.next }
 {
     let mut known = Neighbours {
         below: 0,
         next: GUARD,
     };
-    let mut i: usize = 0;
-    while i < SLOTS {
-        let at = TXN_HEAD + TXN_ROW * i;
-        let kind = txns[at + TXN_KIND_AT];
-        if (txns[at] != 0) & ((kind != UPDATE_KIND) & (kind != RELAXED_KIND)) {
-            known = met(known, stamp, txns[at + TXN_START_AT]);
+    for i in 0..SLOTS {
+        if let Some(start) = start_in(txns, i) {
+            known = met(known, stamp, start);
         }
-        i += 1;
     }
     known
 }

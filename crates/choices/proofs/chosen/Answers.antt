@@ -1,41 +1,22 @@
--- The value at the place that the search found.
-use Rattle.std.proofs.Common.{ap, ◌∙◌, suc, ℕ, get_or, arith, add-one}
-use Rattle.names.specs.Sizes.{base}
+-- The version at the place that the search found.
+use mathlib.Core.Path.{◌∙◌, ap}
+use Prim.Native.Nat.{suc}
 use Rattle.rules.specs.Tables.{up_to}
-use Rattle.rules.specs.Versions.{no_version, versions_of, choice}
-use Rattle.choices.proofs.Halved.{placed, lent_choosable, value-word}
+use Rattle.choices.proofs.Halved.{in_row, lent_choosable, chosen-place, chosen-value}
 use Rattle.choices.proofs.chosen.Goals as goal
 
-pub place_in-k-requires : goal.place_in-k-requires
-place_in-k-requires c = lent_choosable c.args.versions.now c.args.item.0 (up_to c.args.start.0) c.requires
+pub place_in-requires : goal.place_in-requires
+place_in-requires c = lent_choosable c.args.versions.now c.args.item.0 (up_to c.args.start.0) _ c.row_at-row.ensures c.requires
 
-pub overflow_mul-result : goal.overflow_mul-result
-overflow_mul-result c = let p = placed c.args.versions.now c.args.item.0 (up_to c.args.start.0) c.requires c.place_in-k.result c.place_in-k.ensures in omega arith
-
-pub overflow_add-result : goal.overflow_add-result
-overflow_add-result c = let p = placed c.args.versions.now c.args.item.0 (up_to c.args.start.0) c.requires c.place_in-k.result c.place_in-k.ensures in omega arith
-
-pub overflow_add-result-2 : goal.overflow_add-result-2
-overflow_add-result-2 c = let p = placed c.args.versions.now c.args.item.0 (up_to c.args.start.0) c.requires c.place_in-k.result c.place_in-k.ensures in omega arith
-
-pub offset_bounds-versions-a-2 : goal.offset_bounds-versions-a-2
-offset_bounds-versions-a-2 c = let p = placed c.args.versions.now c.args.item.0 (up_to c.args.start.0) c.requires c.place_in-k.result c.place_in-k.ensures in omega arith
-
-pub bounds-versions-a : goal.bounds-versions-a
-bounds-versions-a c = let p = placed c.args.versions.now c.args.item.0 (up_to c.args.start.0) c.requires c.place_in-k.result c.place_in-k.ensures in omega arith
-
-pub overflow_add-result-3 : goal.overflow_add-result-3
-overflow_add-result-3 c = let p = placed c.args.versions.now c.args.item.0 (up_to c.args.start.0) c.requires c.place_in-k.result c.place_in-k.ensures in omega arith
+pub choice_at-requires : goal.choice_at-requires
+choice_at-requires c =
+    let q = up_to c.args.start.0 in
+    in_row c.row_at-row.result.now q (lent_choosable c.args.versions.now c.args.item.0 q _ c.row_at-row.ensures c.requires) _ c.place_in.ensures
 
 pub returns-clause-value : goal.returns-clause-value
-unfolding choice
 returns-clause-value c =
-    let v = c.args.versions.now in
-    let x = c.args.item.0 in
-    let p = placed c.args.versions.now c.args.item.0 (up_to c.args.start.0) c.requires c.place_in-k.result c.place_in-k.ensures in
-    value-word v x c.place_in-k.result p.counted p.room ∙ ap (λ (j : ℕ). (get_or (versions_of base v x) j no_version).value) p.is
+    c.choice_at.ensures.value ∙ chosen-value c.args.versions.now c.args.item.0 (up_to c.args.start.0) _ c.row_at-row.ensures _ c.place_in.ensures
 
 pub returns-clause-looked : goal.returns-clause-looked
 returns-clause-looked c =
-    let p = placed c.args.versions.now c.args.item.0 (up_to c.args.start.0) c.requires c.place_in-k.result c.place_in-k.ensures in
-    add-one c.place_in-k.result ∙ ap suc p.is
+    c.choice_at.ensures.looked ∙ ap suc (chosen-place c.args.versions.now c.args.item.0 (up_to c.args.start.0) _ c.row_at-row.ensures _ c.place_in.ensures)

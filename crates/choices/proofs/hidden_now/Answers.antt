@@ -1,11 +1,19 @@
 -- The first word behind the pairs of the row.
+use mathlib.Core.Path.{◌∙◌, ap, sym}
 use native.Mathlib.Omega.{arith}
-use Rattle.rules.specs.Versions.{hidden_now}
-use Rattle.choices.proofs.Halved.{hidden-word}
+use mathlib.Core.List.{List}
+use Prim.Native.Nat.{ℕ}
+use lib.ListN.{get_or}
+use Rattle.names.specs.Sizes.{base}
+use Rattle.rules.specs.Words.{row}
+use Rattle.rules.specs.Tables.{version_row, masks_at}
+use Rattle.rules.specs.Versions.{hidden_now, versions_of}
+use Rattle.choices.proofs.Read.{hidden_in_lem}
 use Rattle.choices.proofs.hidden_now.Goals as goal
 
 pub returns : goal.returns
-unfolding hidden_now
+unfolding hidden_now versions_of
 returns c =
     let a = c.args in
-    hidden-word a.versions.now a.item.0 (let h = c.requires.2 in omega arith)
+    ap (λ (r : List ℕ). get_or r (masks_at base) 0) c.row_at.ensures
+    ∙ sym (hidden_in_lem (row (version_row base) a.item.0 a.versions.now) 0 (let h = c.requires.1 in omega arith))

@@ -1,21 +1,18 @@
-use Prim.Native.Nat.{ℕ, ◌+◌}
+-- `circles::lowest` meets its contract.
 use native.Mathlib.Omega.{arith}
-use borrow.Author.Count.{below_more}
 use lib.Dec.{T}
+use Rattle.std.specs.Int.{trailing_zeros, w64}
+use Rattle.std.proofs.lemmas.Nat.Bits.{bit_at-trailing_zeros}
 use Rattle.names.specs.Sizes.{base}
 use Rattle.rules.specs.Words.{bit}
-use Rattle.words.proofs.SlotWords.{first-within, bit_off, bit_on}
+use Rattle.rules.proofs.Tests.{eq_make}
+use Rattle.rules.proofs.Bits.{bit_below}
 use Rattle.circles.proofs.lowest.Goals as goal
 
-pub loop-slot-init : goal.loop-slot-init
-loop-slot-init c = (omega arith, λ k l. absurd (omega arith))
-
-pub loop-slot-preserved : goal.loop-slot-preserved
-loop-slot-preserved c =
-    let word = c.args.word in
-    let slot = c.loop-slot.slot in
-    let none = below_more (λ (k : ℕ). T (bit word k) → ⊥) slot c.loop-slot.invariant.1 (bit_off word slot c.loop-slot-test.true) in
-    (first-within base.slots word (slot + 1) c.requires.0 c.requires.1 none, none)
-
 pub returns : goal.returns
-returns c = (c.loop-slot.invariant.0, bit_on c.args.word c.loop-slot.slot c.loop-slot-test.false)
+unfolding bit
+returns c =
+    let word = c.args.word in
+    let at = bit_at-trailing_zeros w64 word c.requires.0 (let l = c.requires.1 in omega arith) in
+    let set : T (bit word (trailing_zeros w64 word)) = eq_make _ _ at.1 in
+    (bit_below word _ base.slots c.requires.1 set, set)

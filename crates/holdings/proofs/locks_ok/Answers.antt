@@ -12,12 +12,6 @@ use Rattle.holdings.proofs.locks_ok.Goals.{then-exclusive-ne0+then-exclusive-le-
 pub loop-item-init : goal.loop-item-init
 loop-item-init c = counting_begin _ _ _
 
-pub lock_ok-ok-requires : goal.lock_ok-ok-requires
-lock_ok-ok-requires c = c.requires.1
-
-pub bounds-counts-holder : goal.bounds-counts-holder
-bounds-counts-holder c = let z = c.loop-item.invariant.size in omega arith
-
 pub overflow_add-held : goal.overflow_add-held
 overflow_add-held c =
     let l = c.args.locks.now in
@@ -25,9 +19,6 @@ overflow_add-held c =
     let a = get_or l (lock_row * g.item + lock_exclusive_at) 0 - 1 in
     let n : get_or g.counts a 0 ≤ base.items = few _ _ l g.counts g.most g.ok g.item c.loop-item-test.true g.invariant a (omega arith) in
     omega arith
-
-pub bounds-counts-holder-then-exclusive-le-SLOTS : goal.bounds-counts-holder-then-exclusive-le-SLOTS
-bounds-counts-holder-then-exclusive-le-SLOTS c = let z = c.loop-item.invariant.size in omega arith
 
 pub loop-item-preserved : goal.loop-item-preserved
 unfolding lock
@@ -43,10 +34,17 @@ loop-item-preserved c =
       | else-exclusive-ne0 w ↦ counting_none a.updates a.holders l g.counts g.most g.ok g.item k g.invariant tested (λ s j z. let b = w.if-exclusive-ne0.false in omega arith) w.counts-is w.most-is refl
     ]
 
-pub returns : goal.returns
-returns c =
+pub returns-then-ok-clause-counted : goal.returns-then-ok-clause-counted
+returns-then-ok-clause-counted c =
     let a = c.args in
     let g = c.loop-item in
-    let e : g.item ≡ base.items = (let k = g.invariant.within in omega arith) in
+    let e : g.item ≡ base.items = omega arith in
     let h : Counting a.updates a.holders a.locks.now g.counts g.most g.ok base.items = subst (λ (n : ℕ). Counting a.updates a.holders a.locks.now g.counts g.most g.ok n) e g.invariant in
-    (counting_right a.updates a.holders a.locks.now g.counts g.most g.ok h, counting_end a.updates a.holders a.locks.now g.counts g.most g.ok h)
+    (counting_right _ _ _ _ _ _ h c.if-ok.true, counting_end _ _ _ _ _ _ h)
+
+pub returns-else-ok-clause-refused : goal.returns-else-ok-clause-refused
+returns-else-ok-clause-refused c =
+    let a = c.args in
+    let g = c.loop-item in
+    let e : g.item ≡ base.items = omega arith in
+    counting_right _ _ _ _ _ _ (subst (λ (n : ℕ). Counting a.updates a.holders a.locks.now g.counts g.most g.ok n) e g.invariant) c.if-ok.false

@@ -1,12 +1,7 @@
 -- The neighbours among the starts of the slots passed.
-use Prim.Native.Nat.{◌≤◌, ◌-◌}
-use Rattle.names.specs.Sizes.{base}
 use Rattle.starts.specs.Starts.{starts_from}
 use Rattle.starts.specs.Beside.{Beside}
 use Rattle.starts.proofs.sides.beside.Given as goal
 
 abbrev pub invariant-loop-i : goal.invariant-loop-i
-invariant-loop-i l = (l.i ≤ base.slots) × Beside (starts_from l.txns 0 l.i) l.stamp l.known.below l.known.next
-
-abbrev pub decreases-loop-i : goal.decreases-loop-i
-decreases-loop-i l = base.slots - l.i
+invariant-loop-i l = Beside (starts_from l.txns 0 l.i) l.stamp l.known.below l.known.next
