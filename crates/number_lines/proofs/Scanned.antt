@@ -1,15 +1,15 @@
 -- What is known of a line, byte by byte, in the struct and the words beside it.
 use Prim.Native.Nat.{ℕ, ◌+◌, ◌-◌, ◌*◌, ◌<◌, ◌≤◌}
 use mathlib.Core.Path.{◌≡◌, refl, sym, ap, ◌∙◌}
-use mathlib.Core.Bool.{Bool, true, false, ◌||◌}
+use mathlib.Core.Bool.{Bool, true, false, ◌&&◌, ◌||◌, cond}
 use mathlib.Core.List.{List, [], ◌∷◌, ◌++◌, append-nil}
 use native.Mathlib.Numerals.{add-one}
 use native.Mathlib.Omega.{arith}
-use lib.Dec.{ltb}
+use lib.Dec.{leb, ltb}
 use lib.ListN.{length, take, drop, get_or, set, length-take, take-append-drop}
 use lib.Seq.{take-suc-set, length-take-le}
-use borrow.Author.Tests.{le-leb, lt-leb, lt-ltb, le-ltb, eq-eqb, ne_eqb, ltb-true, ltb-false}
-use Rattle.numerals.specs.Numbers.{greatest}
+use borrow.Author.Tests.{lt-ltb, le-ltb, eq-eqb, ne_eqb, ltb-true, ltb-false}
+use Rattle.numerals.specs.Numbers.{digit, greatest, with_digit}
 use Rattle.texts.proofs.Places.{ended, opened}
 use Rattle.number_lines.specs.Lines.{Held, reads, spoilt, digit_after, ends, after, begun, held_by, gather, unended}
 use Rattle.number_lines.specs.Lines as lines
@@ -18,17 +18,6 @@ use Rattle.std.specs.Option.{unwrap_or, is_some}
 use Rattle.std.proofs.Common.{Option, Some, None}
 
 -- ---- a byte
-
--- a byte that is no digit
-pub digit_below : (b : ℕ) → b < 48 → (h : Held) → digit_after b h ≡ spoilt
-unfolding digit_after
-digit_below b l (reads ns v g) = rw (lt-leb 48 b l)
-digit_below b l spoilt = refl
-
-pub digit_above : (b : ℕ) → 57 < b → (h : Held) → digit_after b h ≡ spoilt
-unfolding digit_after
-digit_above b l (reads ns v g) = rw (le-leb 48 b (omega arith), lt-leb b 57 l)
-digit_above b l spoilt = refl
 
 -- no more is kept than there is
 pub take-over : (l : List ℕ) (n : ℕ) → length l ≤ n → take n l ≡ l
@@ -43,17 +32,32 @@ any-taken words n h = go (ltb 0 n) refl
     go false e = e ∙ sym (le-ltb 0 (length (take n words)) (omega (arith, length-take n words, ltb-false 0 n e)))
 
 module _ (words : List ℕ) (n : ℕ) where
-  -- a digit that makes the number too great
-  pub digit_large : (o : Option ℕ) (b : ℕ) → 48 ≤ b → b ≤ 57 → greatest < unwrap_or o 0 * 10 + (b - 48) → digit_after b (held_by words (Reads o n)) ≡ spoilt
-  unfolding digit_after held_by
-  digit_large (Some v) b l m h = rw (le-leb 48 b l, le-leb b 57 m, lt-leb (v * 10 + (b - 48)) greatest h)
-  digit_large None b l m h = rw (le-leb 48 b l, le-leb b 57 m, lt-leb (0 * 10 + (b - 48)) greatest h)
+  -- a digit more, and a byte with which there is no number
+  pub digit_some : (o : Option ℕ) (b : ℕ) {m : ℕ} → Some m ≡ with_digit (unwrap_or o 0) b → held_by words (Reads (Some m) n) ≡ digit_after b (held_by words (Reads o n))
+  unfolding digit_after held_by with_digit
+  digit_some o b {m} e = go o (digit b && leb (unwrap_or o 0 * 10 + (b - 48)) greatest) refl e
+    where
+      go :
+          (o : Option ℕ) (c : Bool) → (digit b && leb (unwrap_or o 0 * 10 + (b - 48)) greatest) ≡ c
+          → Some m ≡ cond (digit b && leb (unwrap_or o 0 * 10 + (b - 48)) greatest) (Some (unwrap_or o 0 * 10 + (b - 48))) None
+          → held_by words (Reads (Some m) n) ≡ digit_after b (held_by words (Reads o n))
+      go (Some v) true p e = let q : Some m ≡ Some (v * 10 + (b - 48)) = rw p at e in rw p (ap (λ (k : ℕ). reads (take n words) k true) (grind arith))
+      go None true p e = let q : Some m ≡ Some (0 * 10 + (b - 48)) = rw p at e in rw p (ap (λ (k : ℕ). reads (take n words) k true) (grind arith))
+      go (Some v) false p e = let q : Some m ≡ None = rw p at e in grind arith
+      go None false p e = let q : Some m ≡ None = rw p at e in grind arith
 
-  -- a digit more
-  pub digit-more : (o : Option ℕ) (b : ℕ) → 48 ≤ b → b ≤ 57 → unwrap_or o 0 * 10 + (b - 48) ≤ greatest → held_by words (Reads (Some (unwrap_or o 0 * 10 + (b - 48))) n) ≡ digit_after b (held_by words (Reads o n))
-  unfolding digit_after held_by
-  digit-more (Some v) b l m h = rw (le-leb 48 b l, le-leb b 57 m, le-leb (v * 10 + (b - 48)) greatest h)
-  digit-more None b l m h = rw (le-leb 48 b l, le-leb b 57 m, le-leb (0 * 10 + (b - 48)) greatest h)
+  pub digit_none : (o : Option ℕ) (b : ℕ) → None ≡ with_digit (unwrap_or o 0) b → spoilt ≡ digit_after b (held_by words (Reads o n))
+  unfolding digit_after held_by with_digit
+  digit_none o b e = go o (digit b && leb (unwrap_or o 0 * 10 + (b - 48)) greatest) refl e
+    where
+      go :
+          (o : Option ℕ) (c : Bool) → (digit b && leb (unwrap_or o 0 * 10 + (b - 48)) greatest) ≡ c
+          → ◌≡◌ {A = Option ℕ} None (cond (digit b && leb (unwrap_or o 0 * 10 + (b - 48)) greatest) (Some (unwrap_or o 0 * 10 + (b - 48))) None)
+          → spoilt ≡ digit_after b (held_by words (Reads o n))
+      go (Some v) true p e = let q : ◌≡◌ {A = Option ℕ} None (Some (v * 10 + (b - 48))) = rw p at e in grind arith
+      go None true p e = let q : ◌≡◌ {A = Option ℕ} None (Some (0 * 10 + (b - 48))) = rw p at e in grind arith
+      go (Some v) false p e = rw p
+      go None false p e = rw p
 
   -- ---- the end of a number
 

@@ -5,6 +5,8 @@
 ghost use Rattle.std.specs.Prelude.{◌≡◌, List, [], false, ℕ, ◌<◌, length};
 ghost use Rattle.number_lines.specs.Lines.{reads, after, digit_after, ends, begun, held_by, Goes};
 
+use numerals::with_digit;
+
 // The number that is not ended yet, where it has a digit, and how many numbers are kept; or that the
 // line is no list of numbers at all.
 #[derive(Clone, Copy)]
@@ -22,8 +24,6 @@ pub struct Next {
 }
 
 const LINE_END: u8 = 10;
-
-const GREATEST: u64 = 18446744073709551615;
 
 impl Scan {
     // No byte yet.
@@ -54,20 +54,12 @@ impl Scan {
         let Scan::Reads { value, count } = self else {
             return Scan::Spoilt;
         };
-        if byte < 48 {
-            return Scan::Spoilt;
-        }
-        if 57 < byte {
-            return Scan::Spoilt;
-        }
-        let before = value.unwrap_or(0);
-        let d = u64::from(byte - 48);
-        if (GREATEST - d) / 10 < before {
-            return Scan::Spoilt;
-        }
-        Scan::Reads {
-            value: Some(before * 10 + d),
-            count,
+        match with_digit(value.unwrap_or(0), byte) {
+            Some(value) => Scan::Reads {
+                value: Some(value),
+                count,
+            },
+            None => Scan::Spoilt,
         }
     }
 

@@ -1,31 +1,22 @@
 -- `digit` adds a digit, or spoils the line.
-use mathlib.Core.Path.{sym}
-use native.Mathlib.Omega.{arith}
+use Prim.Native.Nat.{ℕ}
+use mathlib.Core.Path.{ap, ◌∙◌}
 use Rattle.number_lines.specs.Lines.{digit_after, held_by}
-use Rattle.number_lines.proofs.Scanned.{digit_below, digit_above, digit_large, digit-more}
+use Rattle.numerals.specs.Numbers.{with_digit}
+use Rattle.number_lines.proofs.Scanned.{digit_some, digit_none}
 use Rattle.number_lines.proofs.scan.Scan.digit.Goals as goal
 
 pub returns-in_default : goal.returns-in_default
 unfolding held_by digit_after
 returns-in_default c = λ words. rw c.in_default.is
 
-pub returns-then-byte-lt48 : goal.returns-then-byte-lt48
-unfolding held_by
-returns-then-byte-lt48 c = λ words. sym (digit_below c.args.byte c.if-byte-lt48.true (held_by words c.args.self))
+pub returns-in-Some : goal.returns-in-Some
+returns-in-Some c = λ words.
+    rw c.in-Reads.is
+    (digit_some words c.in-Reads.count c.in-Reads.value c.args.byte (c.in-Some.ensures ∙ ap (λ (v : ℕ). with_digit v c.args.byte) c.unwrap_or.ensures))
 
-pub returns-then-byte-gt57 : goal.returns-then-byte-gt57
+pub returns-in-None : goal.returns-in-None
 unfolding held_by
-returns-then-byte-gt57 c = λ words. sym (digit_above c.args.byte c.if-byte-gt57.true (held_by words c.args.self))
-
-pub returns-then-d-before : goal.returns-then-d-before
-unfolding held_by
-returns-then-d-before c = λ words.
-    let u = c.unwrap_or-before.ensures in
-    let w = c.from-d.ensures in
-    rw c.in-Reads.is (sym (digit_large words c.in-Reads.count c.in-Reads.value c.args.byte (omega arith) (omega arith) (omega arith)))
-
-pub returns : goal.returns
-returns c = λ words.
-    let u = c.unwrap_or-before.ensures in
-    let w = c.from-d.ensures in
-    rw (c.in-Reads.is, u, w) (digit-more words c.in-Reads.count c.in-Reads.value c.args.byte (omega arith) (omega arith) (omega arith))
+returns-in-None c = λ words.
+    rw c.in-Reads.is
+    (digit_none words c.in-Reads.count c.in-Reads.value c.args.byte (c.in-None.ensures ∙ ap (λ (v : ℕ). with_digit v c.args.byte) c.unwrap_or.ensures))
