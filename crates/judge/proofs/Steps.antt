@@ -21,10 +21,6 @@ pub one_more_lem : (k : ℕ) → k < greatest → one_more k ≡ k + 1
 unfolding one_more
 one_more_lem k h = rw (lt-ltb k greatest h)
 
-pub no_more : (k : ℕ) → greatest ≤ k → one_more k ≡ k
-unfolding one_more
-no_more k h = rw (le-ltb k greatest h)
-
 module _ (f : Fields) (a : Answer) (p : Progress) where
   pub counted : p.wrong ≢ 0 → seen_one f a p ≡ only_counted p
   unfolding seen_one

@@ -1,11 +1,10 @@
 // The calls and their answers, a record of each at a time.
 ghost use Rattle.std.specs.Prelude.{◌≡◌, cond, ◌+◌, ◌*◌, ◌/◌, ◌≤◌, min, length, drop};
 ghost use Rattle.journal.specs.Format.{record_size};
-ghost use Rattle.judge.specs.Verdicts.{same_answer};
 ghost use Rattle.judge.specs.Pieces.{progress, unseen, one_more, seen_one, seen_all, seen_piece};
 
 use crate::Judge;
-use call_words::{CallOf, Fields};
+use call_words::Fields;
 use journal::RECORD;
 use names::Answer;
 
@@ -18,29 +17,18 @@ impl Judge {
     }
 }
 
+#[tactic(auto, unfolding(crate::specs::Pieces::one_more))]
 fn one_more(k: u64) -> u64
     ensures { result ≡ one_more k }
 {
-    if k < u64::MAX {
-        return k + 1;
-    }
-    k
-}
-
-fn same_answer(a: Answer, b: Answer) -> bool
-    ensures { result ≡ same_answer a b }
-{
-    (a.code == b.code) & ((a.value == b.value) & ((a.number == b.number) & (a.looked == b.looked)))
+    k.saturating_add(1)
 }
 
 // The number of a call if it is wrong, else 0.
 fn unless(same: bool, seen: u64) -> u64
     ensures { result ≡ cond same 0 seen }
 {
-    if same {
-        return 0;
-    }
-    seen
+    if same { 0 } else { seen }
 }
 
 // A call and the answer that the file has for it. After the first wrong call the others are counted
@@ -60,13 +48,13 @@ pub fn one(
     if wrong != 0 {
         return Judge { seen, wrong };
     }
-    let CallOf::Known(call) = call_words::call_of(fields) else {
+    let Some(call) = call_words::call_of(fields) else {
         return Judge { seen, wrong: seen };
     };
     let given = keeper::call(call, txns, locks, versions);
     Judge {
         seen,
-        wrong: unless(same_answer(answer, given), seen),
+        wrong: unless(answer == given, seen),
     }
 }
 
@@ -87,13 +75,11 @@ pub(crate) fn all(
     ensures { progress result txns.new locks.new versions.new ≡ seen_all count (drop from calls.now) (drop to answers.now) (progress judge txns.old locks.old versions.old) }
 {
     let mut kept = judge;
-    let mut k: usize = 0;
-    while k < count {
+    for k in 0..count {
         let passed = RECORD * k;
         let fields = journal::call(calls, from + passed);
         let answer = journal::answer(answers, to + passed);
         kept = one(kept, fields, answer, txns, locks, versions);
-        k += 1;
     }
     kept
 }
@@ -102,13 +88,11 @@ pub(crate) fn all(
 fn both_have(calls: usize, answers: usize) -> usize
     ensures { result ≡ min calls answers / record_size }
 {
-    if calls < answers {
-        return calls / RECORD;
-    }
-    answers / RECORD
+    calls.min(answers) / RECORD
 }
 
 // A piece of the calls and a piece of the answers: the records that both have whole.
+#[tactic(auto, unfolding(crate::specs::Pieces::seen_piece))]
 pub fn piece(
     judge: Judge,
     calls: &[u8],

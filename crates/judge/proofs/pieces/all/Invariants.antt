@@ -1,5 +1,4 @@
 -- Each turn sees one record more.
-use Prim.Native.Nat.{◌-◌}
 use mathlib.Core.Path.{◌≡◌}
 use lib.ListN.{length}
 use Rattle.judge.specs.Pieces.{progress}
@@ -12,6 +11,3 @@ invariant-loop-k l =
     × (length l.txns ≡ length l.initial.txns)
     × (length l.locks ≡ length l.initial.locks)
     × (length l.versions ≡ length l.initial.versions)
-
-abbrev pub decreases-loop-k : goal.decreases-loop-k
-decreases-loop-k l = l.count - l.k
