@@ -61,3 +61,6 @@ lead_test words cut i l m e =
     let os = operations_in words in
     ap (λ (s : ℕ). eqb (lowest s) i) e
     ∙ ap (λ (f : ℕ). eqb f i) (lowest-first (length words / 4) (together os cut i) i (omega arith) l (own os cut i) ∙ ap (first_from (together os cut i) 0) (sym (length-operations words)))
+
+-- for a test of as many as there are rows
+pub ruleset touching = (length-operations, touch_test)

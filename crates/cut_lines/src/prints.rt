@@ -10,7 +10,7 @@ ghost use Rattle.cut_lines.specs.Given.{Given, name_in, raised, longest_piece, l
 
 use crate::sets::{items_of, leads, members_of};
 use texts::put_text;
-use told_lines::{WIDE, put_name};
+use told_lines::{Names, WIDE, put_name};
 
 // Writes a space and a number of at most two digits, if `yes`.
 fn put_number(yes: bool, number: u64, out: &mut [u8], at: usize) -> usize
@@ -32,11 +32,9 @@ fn put_set(set: u64, count: usize, more: u64, out: &mut [u8], at: usize) -> usiz
     ensures upper_bound { result ≤ at + 3 * count }
 {
     let mut end = at;
-    let mut x: usize = 0;
-    while x < count {
+    for x in 0..count {
         let yes = (set >> x) % 2 == 1;
         end = put_number(yes, more + x as u64, out, end);
-        x += 1;
     }
     end
 }
@@ -81,8 +79,15 @@ fn put_places(words: &[u64], cut: &[u64], i: usize, out: &mut [u8], at: usize) -
 }
 
 // Writes the line of the piece of operation i.
-fn put_piece(names: &[u8], words: &[u64], cut: &[u64], i: usize, out: &mut [u8], at: usize) -> usize
-    requires { Given words.now cut.now × (i < length words.now / 4) × (length names.now ≡ 1024) × (at + longest_piece ≤ length out.old) }
+fn put_piece(
+    names: &Names,
+    words: &[u64],
+    cut: &[u64],
+    i: usize,
+    out: &mut [u8],
+    at: usize,
+) -> usize
+    requires { Given words.now cut.now × (i < length words.now / 4) × (at + longest_piece ≤ length out.old) }
     ensures wrote { Wrote out.old at (line_at (name_in names.now) (operations_in words.now) cut.now i) out.new result }
     ensures upper_bound { result ≤ at + longest_piece }
 {
@@ -94,8 +99,15 @@ fn put_piece(names: &[u8], words: &[u64], cut: &[u64], i: usize, out: &mut [u8],
 }
 
 // Writes it where operation i is the first of its piece.
-fn put_first(names: &[u8], words: &[u64], cut: &[u64], i: usize, out: &mut [u8], at: usize) -> usize
-    requires { Given words.now cut.now × (i < length words.now / 4) × (length names.now ≡ 1024) × (at + longest_piece ≤ length out.old) }
+fn put_first(
+    names: &Names,
+    words: &[u64],
+    cut: &[u64],
+    i: usize,
+    out: &mut [u8],
+    at: usize,
+) -> usize
+    requires { Given words.now cut.now × (i < length words.now / 4) × (at + longest_piece ≤ length out.old) }
     ensures wrote { Wrote out.old at (cond (leadsIn (operations_in words.now) cut.now i) (line_at (name_in names.now) (operations_in words.now) cut.now i) []) out.new result }
     ensures upper_bound { result ≤ at + longest_piece }
 {
@@ -106,17 +118,14 @@ fn put_first(names: &[u8], words: &[u64], cut: &[u64], i: usize, out: &mut [u8],
 }
 
 // Writes the lines of all pieces, in the order of their first operations.
-pub fn print_cut(names: &[u8], words: &[u64], cut: &[u64], out: &mut [u8]) -> usize
-    requires { Given words.now cut.now × (length names.now ≡ 1024) × (longest_text ≤ length out.old) }
+pub fn print_cut(names: &Names, words: &[u64], cut: &[u64], out: &mut [u8]) -> usize
+    requires { Given words.now cut.now × (longest_text ≤ length out.old) }
     ensures wrote { Wrote out.old 0 (cut_text (name_in names.now) (operations_in words.now) cut.now) out.new result }
     ensures upper_bound { result ≤ longest_text }
 {
-    let count = words.len() / 4;
-    let mut end: usize = 0;
-    let mut i: usize = 0;
-    while i < count {
+    let mut end = 0;
+    for i in 0..words.len() / 4 {
         end = put_first(names, words, cut, i, out, end);
-        i += 1;
     }
     end
 }

@@ -21,14 +21,7 @@ pub(crate) fn members_of(words: &[u64], cut: &[u64], i: usize) -> u64
     requires { Given words.now cut.now × (i < length words.now / 4) }
     ensures { result ≡ those (length words.now / 4) (togetherIn (operations_in words.now) cut.now i) }
 {
-    let count = words.len() / 4;
-    let mut out: u64 = 0;
-    let mut at: usize = 0;
-    while at < count {
-        out = graph::including(out, at, together(words, cut, i, at));
-        at += 1;
-    }
-    out
+    graph::those_below(words.len() / 4, |at| together(words, cut, i, at))
 }
 
 // Whether operation i is the first of its piece.
@@ -41,33 +34,25 @@ pub(crate) fn leads(words: &[u64], cut: &[u64], i: usize) -> bool
 }
 
 // Whether the piece of operation i writes the item, or reads it.
+#[tactic(auto, using(crate::proofs::Touching::touching), unfolding(finest::specs::Choppings::touched))]
 fn touched(words: &[u64], cut: &[u64], i: usize, writing: bool, item: u64) -> bool
     requires { Given words.now cut.now × (i < length words.now / 4) }
     ensures { result ≡ touchedIn (operations_in words.now) cut.now writing i item }
 {
-    let count = words.len() / 4;
-    let mut found = false;
-    let mut at: usize = 0;
-    while at < count {
+    words::some_below(words.len() as u64 / 4, |j| {
+        let at = j as usize;
         let same = together(words, cut, i, at);
         let common = words[at * 4 + 1] == item;
         let writes = words[at * 4 + 2] == 1;
-        found = (same & (common & ((writing & writes) | (!writing & !writes)))) | found;
-        at += 1;
-    }
-    found
+        same & (common & ((writing & writes) | (!writing & !writes)))
+    })
 }
 
 // The items that the piece of operation i writes, or reads.
+#[tactic(auto, unfolding(finest::specs::Choppings::touches))]
 pub(crate) fn items_of(words: &[u64], cut: &[u64], i: usize, writing: bool) -> u64
     requires { Given words.now cut.now × (i < length words.now / 4) }
     ensures { result ≡ touches (operations_in words.now) cut.now writing i }
 {
-    let mut out: u64 = 0;
-    let mut at: usize = 0;
-    while at < ITEMS {
-        out = graph::including(out, at, touched(words, cut, i, writing, at as u64));
-        at += 1;
-    }
-    out
+    graph::those_below(ITEMS, |at| touched(words, cut, i, writing, at as u64))
 }

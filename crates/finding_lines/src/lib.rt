@@ -47,10 +47,8 @@ fn from_one(circle: &[u64]) -> [u64; 32]
     ensures { take (length circle.now) result ≡ map suc circle.now }
 {
     let mut places = [0u64; 32];
-    let mut k: usize = 0;
-    while k < circle.len() {
+    for k in 0..circle.len() {
         places[k] = circle[k] + 1;
-        k += 1;
     }
     places
 }

@@ -4,7 +4,6 @@ use mathlib.Core.Path.{◌≡◌, refl, sym, ap, ◌∙◌, subst}
 use mathlib.Core.Logic.{◌≢◌, ◌⊎◌, inl, inr}
 use mathlib.Core.Bool.{Bool, true, false, ◌&&◌, ◌||◌, cond}
 use native.Mathlib.Omega.{arith}
-use native.Mathlib.Numerals.{add-one}
 use lib.Bits.{bit_and, bit_or}
 use lib.Dec.{T, eqb, ltb}
 use borrow.Author.Tests.{ne_eqb, eq-eqb, eqb-true, ltb-true, ltb-false}
@@ -53,11 +52,6 @@ those_at (suc n) p i h = joined-bit (p n) (those n p) n i ∙ go (split-le i n h
         let e : eqb n i ≡ true = eq-eqb n i (sym q) in
         let r : bit (those n p) i ≡ false = those-out n p i (omega arith) in
         rw (r, e, and_true (p n)) (ap p (sym q))
-
--- one number more
-pub those-more : (n : ℕ) (p : ℕ → Bool) → those (n + 1) p ≡ cond (p n) (bit_or (those n p) (2 ^ n)) (those n p)
-unfolding those
-those-more n p = rw add-one
 
 pub those_below : (n : ℕ) (p : ℕ → Bool) (i : ℕ) → T (bit (those n p) i) → i < n
 those_below n p i t = go (ltb i n) refl
@@ -126,11 +120,6 @@ lowest_in m h d =
 pub lowest-least : (m k : ℕ) → k < 64 → T (bit m k) → lowest m ≤ k
 unfolding lowest
 lowest-least m k h t = first-least (bit m) k 0 64 (omega arith) h t
-
--- one turn of a loop that gathers those that pass
-pub those_turn :
-    (p : ℕ → Bool) (n out r : ℕ) → out ≡ those n p → r ≡ cond (p n) (bit_or out (2 ^ n)) out → r ≡ those (n + 1) p
-those_turn p n out r o e = e ∙ ap (λ (m : ℕ). cond (p n) (bit_or m (2 ^ n)) m) o ∙ sym (those-more n p)
 
 -- the word of those that pass, as `words` makes it
 pub slots_those : (n : ℕ) (p : ℕ → Bool) → slots_that n p ≡ those n p

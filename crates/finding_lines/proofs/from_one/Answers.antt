@@ -8,7 +8,7 @@ use Rattle.finding_lines.proofs.Printed.{one_place}
 use Rattle.finding_lines.proofs.from_one.Goals as goal
 
 pub loop-k-init : goal.loop-k-init
-loop-k-init c = (omega arith, refl, refl)
+loop-k-init c = (refl, refl)
 
 pub overflow_add-places : goal.overflow_add-places
 overflow_add-places c = omega (arith, c.requires.1 c.loop-k.k c.loop-k-test.true)
@@ -21,11 +21,11 @@ loop-k-preserved c =
     let l = c.loop-k in
     let a = c.args.circle.now in
     let t = c.loop-k-test.true in
-    (omega (arith, t), length-set l.places l.k _ ∙ l.invariant.1, one_place a l.places l.k t (omega (arith, t, c.requires.0, l.invariant.1)) l.invariant.2)
+    (length-set l.places l.k _ ∙ l.invariant.0, one_place a l.places l.k t (omega (arith, t, c.requires.0, l.invariant.0)) l.invariant.1)
 
 pub returns : goal.returns
 returns c =
     let l = c.loop-k in
     let a = c.args.circle.now in
-    let e : l.k ≡ length a = omega (arith, l.invariant.0, c.loop-k-test.false) in
-    ap (λ (n : ℕ). take n l.places) (sym e) ∙ l.invariant.2 ∙ ap (map suc) (take_all l.k a c.loop-k-test.false)
+    let e : l.k ≡ length a = omega arith in
+    ap (λ (n : ℕ). take n l.places) (sym e) ∙ l.invariant.1 ∙ ap (map suc) (take_all l.k a (omega arith))

@@ -1,5 +1,5 @@
 -- The lines of the pieces that begin below `i` are written.
-use Prim.Native.Nat.{◌*◌, ◌-◌, ◌/◌, ◌≤◌}
+use Prim.Native.Nat.{◌*◌, ◌≤◌}
 use mathlib.Core.Path.{◌≡◌}
 use lib.ListN.{length}
 use Rattle.texts.specs.Written.{Wrote}
@@ -10,7 +10,4 @@ use Rattle.cut_lines.specs.Given.{name_in, longest_piece}
 use Rattle.cut_lines.proofs.prints.print_cut.Given as goal
 
 abbrev pub invariant-loop-i : goal.invariant-loop-i
-invariant-loop-i l = (l.i ≤ length l.words / 4) × (length l.out ≡ length l.initial.out) × Wrote l.initial.out 0 (lines_at (name_in l.names) (operations_in l.words) l.cut (passing (leads (operations_in l.words) l.cut) 0 l.i)) l.out l.end × (l.end ≤ longest_piece * l.i)
-
-abbrev pub decreases-loop-i : goal.decreases-loop-i
-decreases-loop-i l = length l.words / 4 - l.i
+invariant-loop-i l = (length l.out ≡ length l.initial.out) × Wrote l.initial.out 0 (lines_at (name_in l.names) (operations_in l.words) l.cut (passing (leads (operations_in l.words) l.cut) 0 l.i)) l.out l.end × (l.end ≤ longest_piece * l.i)

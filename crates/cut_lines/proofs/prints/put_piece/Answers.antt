@@ -18,6 +18,6 @@ returns c =
     let w = row_fits a.names.now a.i in
     let e = row-part a.names.now a.i in
     record {
-      wrote = rw e at (wrote_more (omega (arith, one.wrote.index, one.upper_bound, w, p.3)) one.wrote (wrote_more (omega (arith, two.wrote.index, two.upper_bound, one.upper_bound, w, p.3)) two.wrote three.wrote));
+      wrote = rw e at (wrote_more (omega (arith, one.wrote.index, one.upper_bound, w, p.2)) one.wrote (wrote_more (omega (arith, two.wrote.index, two.upper_bound, one.upper_bound, w, p.2)) two.wrote three.wrote));
       upper_bound = omega (arith, one.upper_bound, two.upper_bound, three.upper_bound, w);
     }

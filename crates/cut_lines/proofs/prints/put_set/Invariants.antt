@@ -1,5 +1,5 @@
 -- The numbers of the set below `x` are written, three bytes at most for each.
-use Prim.Native.Nat.{ℕ, ◌+◌, ◌*◌, ◌-◌, ◌≤◌}
+use Prim.Native.Nat.{ℕ, ◌+◌, ◌*◌, ◌≤◌}
 use mathlib.Core.Path.{◌≡◌}
 use mathlib.Core.List.{List}
 use lib.ListN.{length}
@@ -14,7 +14,4 @@ abbrev pub text : ℕ → ℕ → ℕ → List ℕ
 text set more n = spaced (raised more (passing (bit set) 0 n))
 
 abbrev pub invariant-loop-x : goal.invariant-loop-x
-invariant-loop-x l = (l.x ≤ l.count) × (length l.out ≡ length l.initial.out) × Wrote l.initial.out l.at (text l.set l.more l.x) l.out l.end × (l.end ≤ l.at + 3 * l.x)
-
-abbrev pub decreases-loop-x : goal.decreases-loop-x
-decreases-loop-x l = l.count - l.x
+invariant-loop-x l = (length l.out ≡ length l.initial.out) × Wrote l.initial.out l.at (text l.set l.more l.x) l.out l.end × (l.end ≤ l.at + 3 * l.x)
