@@ -13,7 +13,7 @@ use Rattle.rules.specs.Tables.{Tables, Txn, txn, slot_of, query_kind}
 use Rattle.rules.specs.Good.{Good}
 use Rattle.rules.specs.Step.{awaits_other}
 use Rattle.rows.specs.Founds.{found_at}
-use Rattle.rows.specs.declared.txns.Found.TheVariants.{At}
+use Rattle.std.specs.Prelude.{Some}
 use Rattle.callers.specs.Searchable.{Searchable, FreeRows}
 use Rattle.callers.proofs.Founds.{FoundSlot, found-slot, slot-most}
 
@@ -37,7 +37,7 @@ module _ (t : List ℕ) (n : ℕ) where
   found = slot_of base t n
 
   -- it is in slot s
-  module _ (s : Slot) (e : found_at (slot_of base t n) ≡ At s) where
+  module _ (s : Slot) (e : found_at (slot_of base t n) ≡ Some s) where
     pub caller : FoundSlot (slot_of base t n) s
     caller = found-slot (slot_of base t n) s e
 

@@ -4,33 +4,29 @@
 // `query_kind`, `awaits_other`, `writes_further`, `writes_past`, `held_back` and `meets_settled` of the rules.
 #![tactic(auto)]
 
-ghost use Rattle.std.specs.Prelude.{◌≡◌, length, ◌<◌};
+ghost use Rattle.std.specs.Prelude.{◌≡◌, ◌<◌};
 ghost use Rattle.names.specs.Sizes.{base};
-ghost use Rattle.rules.specs.Tables.{lock_words, txn, query_kind, slot_of};
+ghost use Rattle.rules.specs.Tables.{txn, query_kind, slot_of};
 ghost use Rattle.rules.specs.Step.{awaits_other, writes_further, writes_past, held_back, meets_settled};
 ghost use Rattle.rows.specs.Founds.{found_at};
 ghost use Rattle.callers.specs.Searchable.{Searchable, FreeRows};
 
 use names::{
-    Item, NO_LOCK, Number, NumberOf, QUERY_KIND, QUOTA, RELAXED_KIND, SETTLED_KIND, SLOTS, Slot,
+    Item, Locks, NO_LOCK, Number, QUERY_KIND, QUOTA, RELAXED_KIND, SETTLED_KIND, SLOTS, Slot, Txns,
 };
-use rows::Found;
 
 // The slot of the live transaction that a word names.
-pub fn find(txns: &[u64], number: u64) -> Found
+pub fn find(txns: &Txns, number: u64) -> Option<Slot>
     requires { Searchable txns.now }
     ensures { result ≡ found_at (slot_of base txns.now number) }
 {
-    let of = Number::of(number);
-    let NumberOf::Possible(n) = of else {
-        return Found::Nobody;
-    };
-    rows::slot_of(txns, n)
+    rows::slot_of(txns, Number::of(number)?)
 }
 
 // Whether the slot has a query, relaxed or not.
-pub fn is_query(txns: &[u64], slot: Slot) -> bool
-    requires { Searchable txns.now × (slot.0 < base.slots) }
+#[tactic(auto, unfolding(rules::specs::Tables::query_kind))]
+pub fn is_query(txns: &Txns, slot: Slot) -> bool
+    requires { slot.0 < base.slots }
     ensures { result ≡ query_kind (txn txns.now slot.0).kind }
 {
     let kind = rows::kind(txns, slot);
@@ -38,8 +34,8 @@ pub fn is_query(txns: &[u64], slot: Slot) -> bool
 }
 
 // Whether one of this kind may not begin, since somebody is past its writing.
-pub fn meets_settled(txns: &[u64], kind: u64) -> bool
-    requires { Searchable txns.now }
+#[tactic(auto, unfolding(rules::specs::Step::meets_settled))]
+pub fn meets_settled(txns: &Txns, kind: u64) -> bool
     ensures { result ≡ meets_settled base txns.now kind }
 {
     if kind != RELAXED_KIND {
@@ -49,8 +45,9 @@ pub fn meets_settled(txns: &[u64], kind: u64) -> bool
 }
 
 // Whether the slot awaits, and not this lock on this item.
-pub fn awaits_other(txns: &[u64], slot: Slot, lock: u64, item: u64) -> bool
-    requires { Searchable txns.now × (slot.0 < base.slots) }
+#[tactic(auto, unfolding(rules::specs::Step::awaits_other))]
+pub fn awaits_other(txns: &Txns, slot: Slot, lock: u64, item: u64) -> bool
+    requires { slot.0 < base.slots }
     ensures { result ≡ awaits_other txns.now slot.0 lock item }
 {
     let awaited = rows::awaited_lock(txns, slot);
@@ -59,8 +56,8 @@ pub fn awaits_other(txns: &[u64], slot: Slot, lock: u64, item: u64) -> bool
 }
 
 // Whether the slot holds as many items exclusively as it may, and this one not.
-pub fn writes_further(locks: &[u64], slot: Slot, item: Item) -> bool
-    requires { (length locks.now ≡ lock_words base) × (slot.0 < base.slots) × (item.0 < base.items) }
+pub fn writes_further(locks: &Locks, slot: Slot, item: Item) -> bool
+    requires { (slot.0 < base.slots) × (item.0 < base.items) }
     ensures { result ≡ writes_further base locks.now slot.0 item.0 }
 {
     let row = rows::lock_at(locks, item);
@@ -72,8 +69,8 @@ pub fn writes_further(locks: &[u64], slot: Slot, item: Item) -> bool
 }
 
 // Whether the slot is past its writing and does not hold this item exclusively.
-pub fn writes_past(txns: &[u64], locks: &[u64], slot: Slot, item: Item) -> bool
-    requires { Searchable txns.now × (length locks.now ≡ lock_words base) × (slot.0 < base.slots) × (item.0 < base.items) }
+pub fn writes_past(txns: &Txns, locks: &Locks, slot: Slot, item: Item) -> bool
+    requires { (slot.0 < base.slots) × (item.0 < base.items) }
     ensures { result ≡ writes_past txns.now locks.now slot.0 item.0 }
 {
     let kind = rows::kind(txns, slot);
@@ -83,8 +80,8 @@ pub fn writes_past(txns: &[u64], locks: &[u64], slot: Slot, item: Item) -> bool
 
 // Whether another past its writing, whose stamp is at most the slot's start, holds this item exclusively.
 // The lock names its one holder.
-pub fn held_back(txns: &[u64], locks: &[u64], item: Item, slot: Slot) -> bool
-    requires { Searchable txns.now × FreeRows txns.now × (length locks.now ≡ lock_words base) × (slot.0 < base.slots) × (item.0 < base.items) }
+pub fn held_back(txns: &Txns, locks: &Locks, item: Item, slot: Slot) -> bool
+    requires { FreeRows txns.now × (slot.0 < base.slots) × (item.0 < base.items) }
     ensures { result ≡ held_back base txns.now locks.now item.0 slot.0 }
 {
     let row = rows::lock_at(locks, item);

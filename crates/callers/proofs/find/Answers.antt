@@ -8,13 +8,13 @@ use Rattle.rules.specs.Tables.{slot_of}
 use Rattle.callers.proofs.Founds.{impossible, possible}
 use Rattle.callers.proofs.find.Goals as goal
 
-pub returns-in_default : goal.returns-in_default
+pub returns-in_err-of : goal.returns-in_err-of
 unfolding found_at
-returns-in_default c =
-    let e = impossible c.args.txns.now c.requires c.args.number (sym c.of-of.ensures ∙ c.in_default.is) in
-    rw (eq-eqb _ _ e)
+returns-in_err-of c =
+    let e = impossible c.args.txns.now c.requires c.args.number (sym c.of.ensures ∙ c.in_err-of.was) in
+    rw (eq-eqb _ _ e) c.from_residual.ensures
 
 pub returns : goal.returns
 returns c =
-    let e = possible c.args.number _ (sym c.of-of.ensures ∙ c.in-Possible.is) in
+    let e = possible c.args.number _ (sym c.of.ensures ∙ c.in_ok-of.was) in
     c.slot_of.ensures ∙ ap (λ (n : ℕ). found_at (slot_of base c.args.txns.now n)) e

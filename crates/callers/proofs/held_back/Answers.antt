@@ -30,13 +30,6 @@ returns-then-holder-slot c =
     let z = c.if-holder-slot.true in
     back_none a.txns.now a.locks.now a.item.0 a.slot.0 (λ b i d q k. d (omega arith))
 
-pub kind-requires : goal.kind-requires
-kind-requires c =
-    let p = c.requires in
-    let z = c.if-holder-eq0.false in
-    let y = c.if-holder-gt-SLOTS.false in
-    (p.0.size, omega arith)
-
 pub returns-then-kind-ne-SETTLED_KIND : goal.returns-then-kind-ne-SETTLED_KIND
 returns-then-kind-ne-SETTLED_KIND c =
     let a = c.args in
@@ -44,16 +37,6 @@ returns-then-kind-ne-SETTLED_KIND c =
     let e = ap (λ (h : Lock). h.exclusive) c.lock_at-row.ensures in
     back_none a.txns.now a.locks.now a.item.0 a.slot.0
     (λ b i d q k. c.if-kind-ne-SETTLED_KIND.true (c.kind.ensures ∙ ap (λ (m : ℕ). (txn a.txns.now m).kind) (let z : h - 1 ≡ b = omega arith in z) ∙ (settled-live (txn a.txns.now b) k).1))
-
-pub start-requires : goal.start-requires
-start-requires c =
-    let p = c.requires in
-    let z = c.if-holder-eq0.false in
-    let y = c.if-holder-gt-SLOTS.false in
-    (p.0.size, omega arith)
-
-pub start-requires-2 : goal.start-requires-2
-start-requires-2 c = let p = c.requires in (p.0.size, p.3)
 
 pub returns : goal.returns
 returns c =
@@ -69,4 +52,4 @@ returns c =
     ∙ back_one a.txns.now a.locks.now a.item.0 a.slot.0 (h - 1) b
     (λ q. c.if-holder-slot.false (omega arith))
     (omega arith)
-    (live-settled (txn a.txns.now (h - 1)) (number-live (txn a.txns.now (h - 1)) (λ q. let u = p.1.unkind (h - 1) b q in omega arith)) past)
+    (live-settled (txn a.txns.now (h - 1)) (number-live (txn a.txns.now (h - 1)) (λ q. let u = p.0.unkind (h - 1) b q in omega arith)) past)

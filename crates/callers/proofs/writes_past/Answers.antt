@@ -8,9 +8,6 @@ use Rattle.rules.specs.Tables.{txn, Lock, lock, holds_exclusive, a_settled}
 use Rattle.rules.specs.Step.{writes_past}
 use Rattle.callers.proofs.writes_past.Goals as goal
 
-pub kind-kind-requires : goal.kind-kind-requires
-kind-kind-requires c = let p = c.requires in (p.0.size, p.2)
-
 pub returns : goal.returns
 unfolding writes_past holds_exclusive
 returns c =
