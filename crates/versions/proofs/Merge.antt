@@ -62,41 +62,39 @@ begin q r m h e =
     }
 
 -- the next version is read exactly if the first start is below the stamp before it
-pub read_next : (q r : List ℕ) (m p j : ℕ) → Rises q → Merging q r m p j → read_at q r (j - 1) ≡ ltb (get_or q p 0) (stamp_before r j)
+pub read_next : (q r : List ℕ) (m p j : ℕ) → Rises q → Merging q r m p j → read_at q r (j - 1) ≡ ltb (get_or q p 0) (stamp_in r (j - 1))
 unfolding read_at
 read_next q r m p j s g =
     let l = g.low in
     let a : (j - 1 + 1) * version_pair + version_stamp_at ≡ j * version_pair + version_stamp_at = omega arith in
-    let b : (j - 1) * version_pair + version_stamp_at ≡ place_before j = omega arith in
-    rw (a, b) (between_first q (stamp_in r j) (stamp_before r j) p s g.first)
+    rw a (between_first q (stamp_in r j) (stamp_in r (j - 1)) p s g.first)
 
 -- it is not: the row is not
-pub fails : (q r : List ℕ) (m p j : ℕ) → Rises q → Merging q r m p j → stamp_before r j ≤ get_or q p 0 → false ≡ read_in q r m
+pub fails : (q r : List ℕ) (m p j : ℕ) → Rises q → Merging q r m p j → stamp_in r (j - 1) ≤ get_or q p 0 → false ≡ read_in q r m
 unfolding read_in
 fails q r m p j s g h =
     let l = g.low in
     let k = g.high in
     let e : every_below (m - 1) (read_at q r) ≡ false =
-    every_false (read_at q r) (m - 1) (j - 1) (omega arith) (read_next q r m p j s g ∙ le-ltb (get_or q p 0) (stamp_before r j) h) in
+    every_false (read_at q r) (m - 1) (j - 1) (omega arith) (read_next q r m p j s g ∙ le-ltb (get_or q p 0) (stamp_in r (j - 1)) h) in
     rw (g.old, e)
 
 -- it is: the next first start is found from p + 1 on
 pub next :
-    (q r : List ℕ) (m p j k : ℕ) → Rises q → Merging q r m p j → 1 < j → get_or q p 0 < stamp_before r j
-    → Skipped q (p + 1) (stamp_before r j) k → Merging q r m k (j - 1)
+    (q r : List ℕ) (m p j k : ℕ) → Rises q → Merging q r m p j → 1 < j → get_or q p 0 < stamp_in r (j - 1)
+    → Skipped q (p + 1) (stamp_in r (j - 1)) k → Merging q r m k (j - 1)
 next q r m p j k s g h b z =
     let l = g.low in
     let u = g.high in
-    let x : (j - 1) * version_pair + version_stamp_at ≡ place_before j = omega arith in
     record {
       low = omega arith;
       high = omega arith;
-      first = rw x (record { within = z.within; here = z.reached; less = λ i c. below i c (ltb p i) refl });
+      first = record { within = z.within; here = z.reached; less = λ i c. below i c (ltb p i) refl };
       done = λ i c d. more i c d (ltb (j - 1) i) refl;
       old = g.old;
     }
   where
-    below : (i : ℕ) → i < k → (t : Bool) → ltb p i ≡ t → get_or q i 0 < stamp_before r j
+    below : (i : ℕ) → i < k → (t : Bool) → ltb p i ≡ t → get_or q i 0 < stamp_in r (j - 1)
     below i c true e = let o : p < i = ltb-true p i e in z.less i (omega arith) c
     below i c false e = let o : i ≤ p = ltb-false p i e in let w = g.first.within in let f = s.rises i p o (omega arith) in omega arith
 
@@ -105,7 +103,7 @@ next q r m p j k s g h b z =
     more i c d false e =
         let o : i ≤ j - 1 = ltb-false (j - 1) i e in
         let x : i ≡ j - 1 = omega arith in
-        subst T (sym (ap (read_at q r) x ∙ read_next q r m p j s g ∙ lt-ltb (get_or q p 0) (stamp_before r j) b)) tt
+        subst T (sym (ap (read_at q r) x ∙ read_next q r m p j s g ∙ lt-ltb (get_or q p 0) (stamp_in r (j - 1)) b)) tt
 
 -- the end: only the version behind the newest is left
 pub ends : (q r : List ℕ) (m p j : ℕ) → Rises q → Merging q r m p j → j ≤ 1 → ltb (get_or q p 0) (stamp_in r 0) ≡ read_in q r m
@@ -114,9 +112,8 @@ ends q r m p j s g h =
     let l = g.low in
     let u = g.high in
     let x : j ≡ 1 = omega arith in
-    let y : place_before j ≡ version_stamp_at = omega arith in
     let z : j - 1 ≡ 0 = omega arith in
-    let e : read_at q r 0 ≡ ltb (get_or q p 0) (stamp_in r 0) = sym (ap (read_at q r) z) ∙ read_next q r m p j s g ∙ ap (λ (n : ℕ). ltb (get_or q p 0) (get_or r n 0)) y in
+    let e : read_at q r 0 ≡ ltb (get_or q p 0) (stamp_in r 0) = sym (ap (read_at q r) z) ∙ read_next q r m p j s g ∙ ap (λ (n : ℕ). ltb (get_or q p 0) (stamp_in r n)) z in
     rw g.old (iff_eq (ltb (get_or q p 0) (stamp_in r 0)) (every_below (m - 1) (read_at q r))
     (λ t. →every_below (m - 1) (read_at q r) (λ i b. all i b (ltb 0 i) refl (subst T (sym e) t)))
     (λ t. subst T e (every_below→ (m - 1) (read_at q r) t 0 (omega arith))))

@@ -8,10 +8,8 @@ use native.Mathlib.Omega.{arith}
 use lib.ListN.{get_or}
 use lib.Dec.{T, eqb, leb, ltb, ltb→lt}
 use borrow.Author.Tests.{eq-eqb, ne_eqb, ltb-true, ltb-false, le-leb, lt-leb}
-use Rattle.names.specs.Sizes.{base}
 use Rattle.names.specs.Layout.{version_stamp_at, version_pair}
 use Rattle.rules.specs.Words.{every_below}
-use Rattle.rules.specs.Tables.{masks_at}
 use Rattle.rules.proofs.Tests.{is_true, true_is, and_left}
 use Rattle.rules.proofs.Counts.{→every_below}
 use Rattle.choices.specs.Pairs.{stamp_in, hidden_in}
@@ -60,22 +58,18 @@ module _ (q r : List ℕ) (m : ℕ) where
     module _ (some : 0 < j) where
       abbrev next_ok : Bool
       next_ok =
-          step_ok (get_or r (j * version_pair + version_stamp_at) 0) (stamp_before r j) (get_or r (masks_at base + j) 0) (get_or r (masks_at base + j - 1) 0)
-          (ltb (get_or q p 0) (stamp_before r j))
+          step_ok (stamp_in r (j - 1 + 1)) (stamp_in r (j - 1)) (hidden_in r (j - 1 + 1)) (hidden_in r (j - 1)) (ltb (get_or q p 0) (stamp_in r (j - 1)))
 
       next_is : step_at q r (j - 1) ≡ next_ok
       unfolding step_at
       next_is =
           let a : (j - 1 + 1) * version_pair + version_stamp_at ≡ j * version_pair + version_stamp_at = omega arith in
-          let b : (j - 1) * version_pair + version_stamp_at ≡ place_before j = omega arith in
-          let d : masks_at base + (j - 1 + 1) ≡ masks_at base + j = omega arith in
-          let e : masks_at base + (j - 1) ≡ masks_at base + j - 1 = omega arith in
-          rw (a, b, d, e, between_first q (stamp_in r j) (stamp_before r j) p rises g.first) refl
+          ap (step_ok (stamp_in r (j - 1 + 1)) (stamp_in r (j - 1)) (hidden_in r (j - 1 + 1)) (hidden_in r (j - 1)))
+          (rw a (between_first q (stamp_in r j) (stamp_in r (j - 1)) p rises g.first))
 
       -- the row is not good
       pub fails :
-          step_ok (get_or r (j * version_pair + version_stamp_at) 0) (stamp_before r j) (get_or r (masks_at base + j) 0) (get_or r (masks_at base + j - 1) 0)
-          (ltb (get_or q p 0) (stamp_before r j)) ≡ false → false ≡ walk_in q r m
+          step_ok (stamp_in r (j - 1 + 1)) (stamp_in r (j - 1)) (hidden_in r (j - 1 + 1)) (hidden_in r (j - 1)) (ltb (get_or q p 0) (stamp_in r (j - 1))) ≡ false → false ≡ walk_in q r m
       unfolding walk_in
       fails n =
           let k = g.high in
@@ -84,23 +78,24 @@ module _ (q r : List ℕ) (m : ℕ) where
 
       -- it is so far: the first start that is at least the stamp before is found from p on
       pub next :
-          step_ok (get_or r (j * version_pair + version_stamp_at) 0) (stamp_before r j) (get_or r (masks_at base + j) 0) (get_or r (masks_at base + j - 1) 0)
-          (ltb (get_or q p 0) (stamp_before r j)) ≡ true → (k : ℕ) → Skipped q p (stamp_before r j) k → Seeing q r m k (j - 1)
+          step_ok (stamp_in r (j - 1 + 1)) (stamp_in r (j - 1)) (hidden_in r (j - 1 + 1)) (hidden_in r (j - 1)) (ltb (get_or q p 0) (stamp_in r (j - 1))) ≡ true → (k : ℕ) → Skipped q p (stamp_in r (j - 1)) k → Seeing q r m k (j - 1)
       next n k z =
           let h = g.high in
-          let x : (j - 1) * version_pair + version_stamp_at ≡ place_before j = omega arith in
           record {
             high = omega arith;
-            first = rw x (record { within = z.within; here = z.reached; less = λ i c. below i c (ltb i p) refl });
+            first = record { within = z.within; here = z.reached; less = λ i c. below i c (ltb i p) refl };
             done = λ i c d. more i c d (ltb (j - 1) i) refl;
             old = g.old;
             shown = g.shown;
           }
         where
-          falls : stamp_in r j < stamp_before r j
-          falls = ltb→lt (stamp_in r j) (stamp_before r j) (and_left (ltb (stamp_in r j) (stamp_before r j)) _ (true_is n))
+          falls : stamp_in r j < stamp_in r (j - 1)
+          falls =
+              let a : j - 1 + 1 ≡ j = omega arith in
+              subst (λ (k : ℕ). stamp_in r k < stamp_in r (j - 1)) a
+              (ltb→lt (stamp_in r (j - 1 + 1)) (stamp_in r (j - 1)) (and_left (ltb (stamp_in r (j - 1 + 1)) (stamp_in r (j - 1))) _ (true_is n)))
 
-          below : (i : ℕ) → i < k → (t : Bool) → ltb i p ≡ t → get_or q i 0 < stamp_before r j
+          below : (i : ℕ) → i < k → (t : Bool) → ltb i p ≡ t → get_or q i 0 < stamp_in r (j - 1)
           below i c true e = let f = g.first.less i (ltb-true i p e) in let w = falls in omega arith
           below i c false e = z.less i (ltb-false i p e) c
 

@@ -5,25 +5,28 @@
 // Proved equal to the test of the rules, for whichever readers have these starts and these slots.
 #![tactic(auto)]
 
-ghost use Rattle.std.specs.Prelude.{◌≡◌, List, ℕ, ◌+◌, ◌*◌, ◌≤◌, length};
+ghost use Rattle.std.specs.Prelude.{◌≡◌, List, ℕ, ◌*◌, ◌≤◌};
 ghost use Rattle.names.specs.Sizes.{base};
 ghost use Rattle.names.specs.Layout.{version_pair};
 ghost use Rattle.rules.specs.Words.{every_row};
-ghost use Rattle.rules.specs.Tables.{version_row, version_words, Reader};
+ghost use Rattle.rules.specs.Tables.{version_row, Reader};
 ghost use Rattle.rules.specs.Tested.{versions_good};
 ghost use Rattle.starts.specs.Starts.{Split};
 ghost use Rattle.starts.specs.Ordered.{Rises, InOrder, Skipped};
 ghost use Rattle.versions.specs.Rows.{pairs_wide, unused_ok, read_in, step_ok, walk_in, walk_ok, many_ok, row_ok};
 ghost use Rattle.choices.specs.Pairs.{count_in};
 
-use names::{VERSION_COUNT_AT, VERSION_HIDDEN_AT, VERSION_PAIR, VERSION_ROW, VERSION_STAMP_AT};
+use choices::{Row, row_at};
+use names::{
+    Item, VERSION_COUNT_AT, VERSION_HIDDEN_AT, VERSION_PAIR, VERSION_ROW, VERSION_STAMP_AT,
+    Versions,
+};
+use starts::LANES;
 
-// The words of a row's pairs, its places, and the rows.
+// The words of a row's pairs, and its places.
 const PAIRS: usize = VERSION_HIDDEN_AT - VERSION_STAMP_AT;
 
 const PLACES: usize = names::PLACES as usize;
-
-const ROWS: usize = names::ITEMS as usize;
 
 // The words of a row up to its first version.
 const ONE: usize = VERSION_STAMP_AT + VERSION_PAIR;
@@ -37,8 +40,8 @@ const QUARTER: usize = PAIRS / 4;
 const HALF: usize = PAIRS / 2;
 
 // Whether the pairs behind m versions are zero: those up to so many words, and those behind.
-fn unused_in(row: &[u64], m: usize, part: usize) -> bool
-    requires { (length row.now ≡ version_row base) × (m * version_pair ≤ part) × (part ≤ pairs_wide) }
+fn unused_in(row: &Row, m: usize, part: usize) -> bool
+    requires { (m * version_pair ≤ part) × (part ≤ pairs_wide) }
     ensures { result ≡ unused_ok row.now m }
 {
     words::zeros(
@@ -48,8 +51,9 @@ fn unused_in(row: &[u64], m: usize, part: usize) -> bool
     ) & words::zeros(row, VERSION_STAMP_AT + part, PAIRS - part)
 }
 
-fn unused_ok(row: &[u64], m: usize) -> bool
-    requires { (length row.now ≡ version_row base) × (m ≤ base.places) }
+// (d) Each part is named: in a loop over the parts the second length would not be known beforehand.
+fn unused_ok(row: &Row, m: usize) -> bool
+    requires { m ≤ base.places }
     ensures { result ≡ unused_ok row.now m }
 {
     let used = m * VERSION_PAIR;
@@ -66,7 +70,7 @@ fn unused_ok(row: &[u64], m: usize) -> bool
 }
 
 // The first place from p on whose start is at least hi.
-fn skip(starts: &[u64], p: usize, hi: u64) -> usize
+fn skip(starts: &[u64; LANES], p: usize, hi: u64) -> usize
     requires { Rises starts.now × (p ≤ base.slots) }
     ensures { Skipped starts.now p hi result }
 {
@@ -78,22 +82,20 @@ fn skip(starts: &[u64], p: usize, hi: u64) -> usize
 }
 
 // Whether the last of m versions is old enough for all starts, and each but the newest is read.
-fn all_read(row: &[u64], m: usize, starts: &[u64]) -> bool
-    requires { (length row.now ≡ version_row base) × (2 ≤ m) × (m ≤ base.places) × Rises starts.now }
+fn all_read(row: &Row, m: usize, starts: &[u64; LANES]) -> bool
+    requires { (2 ≤ m) × (m ≤ base.places) × Rises starts.now }
     ensures { result ≡ read_in starts.now row.now m }
 {
     if starts[0] < row[m * VERSION_PAIR + VERSION_STAMP_AT - VERSION_PAIR] {
         return false;
     }
-    let mut p: usize = 0;
-    let mut j = m - 1;
-    while 1 < j {
-        let hi = row[j * VERSION_PAIR + VERSION_STAMP_AT - VERSION_PAIR];
+    let mut p = 0;
+    for j in (1..m - 1).rev() {
+        let hi = row[j * VERSION_PAIR + VERSION_STAMP_AT];
         if hi <= starts[p] {
             return false;
         }
         p = skip(starts, p + 1, hi);
-        j -= 1;
     }
     starts[p] < row[VERSION_STAMP_AT]
 }
@@ -108,8 +110,8 @@ fn step_ok(older: u64, newer: u64, hidden: u64, before: u64, read: bool) -> bool
 
 // Whether the last of m versions is old enough for all starts, and hidden from nobody; and each but the
 // newest is as it should be beside the one before it.
-fn all_seen(row: &[u64], m: usize, starts: &[u64]) -> bool
-    requires { (length row.now ≡ version_row base) × (1 ≤ m) × (m ≤ base.places) × Rises starts.now }
+fn all_seen(row: &Row, m: usize, starts: &[u64; LANES]) -> bool
+    requires { (1 ≤ m) × (m ≤ base.places) × Rises starts.now }
     ensures { result ≡ walk_in starts.now row.now m }
 {
     if starts[0] < row[m * VERSION_PAIR + VERSION_STAMP_AT - VERSION_PAIR] {
@@ -118,25 +120,23 @@ fn all_seen(row: &[u64], m: usize, starts: &[u64]) -> bool
     if row[VERSION_HIDDEN_AT + (m - 1)] != 0 {
         return false;
     }
-    let mut p: usize = 0;
-    let mut j = m - 1;
-    while 0 < j {
-        let hi = row[j * VERSION_PAIR + VERSION_STAMP_AT - VERSION_PAIR];
-        let lo = row[j * VERSION_PAIR + VERSION_STAMP_AT];
-        let hidden = row[VERSION_HIDDEN_AT + j];
-        let before = row[VERSION_HIDDEN_AT + j - 1];
+    let mut p = 0;
+    for j in (0..m - 1).rev() {
+        let hi = row[j * VERSION_PAIR + VERSION_STAMP_AT];
+        let lo = row[(j + 1) * VERSION_PAIR + VERSION_STAMP_AT];
+        let hidden = row[VERSION_HIDDEN_AT + (j + 1)];
+        let before = row[VERSION_HIDDEN_AT + j];
         if !step_ok(lo, hi, hidden, before, starts[p] < hi) {
             return false;
         }
         p = skip(starts, p, hi);
-        j -= 1;
     }
     true
 }
 
 // The m versions of a row: who reads them, and from whom they are hidden.
-fn walk_ok(row: &[u64], m: usize, starts: &[u64], relaxed: u64) -> bool
-    requires { (length row.now ≡ version_row base) × (2 ≤ m) × (m ≤ base.places) × Rises starts.now }
+fn walk_ok(row: &Row, m: usize, starts: &[u64; LANES], relaxed: u64) -> bool
+    requires { (2 ≤ m) × (m ≤ base.places) × Rises starts.now }
     ensures { result ≡ walk_ok starts.now relaxed row.now m }
 {
     if relaxed == 0 {
@@ -155,8 +155,8 @@ fn walk_ok(row: &[u64], m: usize, starts: &[u64], relaxed: u64) -> bool
 }
 
 // A row with another count than 1, but for its newest stamp.
-fn many_ok(row: &[u64], starts: &[u64], relaxed: u64) -> bool
-    requires { (length row.now ≡ version_row base) × (count_in row.now ≡ 1 → ⊥) × Rises starts.now }
+fn many_ok(row: &Row, starts: &[u64; LANES], relaxed: u64) -> bool
+    requires { (count_in row.now ≡ 1 → ⊥) × Rises starts.now }
     ensures { result ≡ many_ok row.now starts.now relaxed }
 {
     let n = row[VERSION_COUNT_AT];
@@ -174,8 +174,8 @@ fn many_ok(row: &[u64], starts: &[u64], relaxed: u64) -> bool
 }
 
 // One row. Most have one version, and are tested without a branch.
-fn row_ok(row: &[u64], clock: u64, starts: &[u64], relaxed: u64) -> bool
-    requires { (length row.now ≡ version_row base) × Rises starts.now }
+fn row_ok(row: &Row, clock: u64, starts: &[u64; LANES], relaxed: u64) -> bool
+    requires { Rises starts.now }
     ensures { result ≡ row_ok clock starts.now relaxed row.now }
 {
     if row[VERSION_COUNT_AT] == 1 {
@@ -188,17 +188,11 @@ fn row_ok(row: &[u64], clock: u64, starts: &[u64], relaxed: u64) -> bool
 
 // Whether every row of versions is good, for whichever readers have the starts in order and are, if
 // relaxed, in these slots.
-pub fn all_good(versions: &[u64], clock: u64, starts: &[u64], relaxed: u64) -> bool
-    requires { (length versions.now ≡ version_words base) × Rises starts.now }
+pub fn all_good(versions: &Versions, clock: u64, starts: &[u64; LANES], relaxed: u64) -> bool
+    requires { Rises starts.now }
     ensures { (qs : List Reader) (us : List ℕ) → InOrder us starts.now → Split qs us relaxed → result ≡ every_row base.items (version_row base) (λ x w. versions_good base clock qs relaxed w) 0 versions.now }
 {
-    let mut ok = true;
-    let mut i: usize = 0;
-    while i < ROWS {
-        let a = VERSION_ROW * i;
-        let e = a + VERSION_ROW;
-        ok = row_ok(&versions[a..e], clock, starts, relaxed) & ok;
-        i += 1;
-    }
-    ok
+    words::every_below(names::ITEMS, |item| {
+        row_ok(row_at(versions, Item(item)), clock, starts, relaxed)
+    })
 }

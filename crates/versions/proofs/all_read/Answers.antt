@@ -1,5 +1,5 @@
 use mathlib.Core.Path.{◌≡◌, ap}
-use Prim.Native.Nat.{ℕ, ◌<◌}
+use Prim.Native.Nat.{ℕ, ◌+◌, ◌-◌, ◌*◌, ◌<◌}
 use mathlib.Core.Logic.{⊎_elim}
 use mathlib.Core.Bool.{false}
 use native.Mathlib.Omega.{arith}
@@ -8,7 +8,8 @@ use lib.ListN.{get_or}
 use lib.Dec.{leb}
 use borrow.Author.Tests.{lt-leb, le-ltb}
 use Rattle.names.specs.Sizes.{base}
-use Rattle.versions.specs.Rows.{place_before, stamp_before, read_in}
+use Rattle.names.specs.Layout.{version_stamp_at, version_pair}
+use Rattle.versions.specs.Rows.{stamp_before, read_in}
 use Rattle.versions.proofs.Merge.{begin, fails, next, ends}
 use Rattle.versions.proofs.all_read.Goals as goal
 
@@ -17,17 +18,14 @@ room : (c : goal.Else-hi-starts) → c.loop-j.p < base.slots
 room c =
     let p = c.loop-j.p in
     let q = c.args.starts.now in
-    let f = c.type_inv.row (place_before c.loop-j.j) in
-    let t = c.requires.3.top in
+    let f = c.fits-row ((c.loop-j.j - 1) * version_pair + version_stamp_at) in
+    let t = c.requires.2.top in
     ⊎_elim
     (λ (e : p ≡ base.slots).
     let z : get_or q p 0 ≡ get_or q base.slots 0 = ap (λ (n : ℕ). get_or q n 0) e in
     absurd (omega arith))
     (λ (l : p < base.slots). l)
     (eq-or-lt_of_le c.loop-j.invariant.first.within)
-
-pub bounds-starts-0 : goal.bounds-starts-0
-bounds-starts-0 c = let s = c.requires.3.size in omega arith
 
 pub returns-then-starts-row : goal.returns-then-starts-row
 unfolding read_in
@@ -39,56 +37,26 @@ returns-then-starts-row c =
 pub loop-j-init : goal.loop-j-init
 loop-j-init c =
     let a = c.args in
-    begin a.starts.now a.row.now a.m c.requires.1 (le-ltb _ _ c.if-starts-row.false)
-
-pub overflow_mul-hi : goal.overflow_mul-hi
-overflow_mul-hi c = let g = c.loop-j.invariant.high in omega arith
-
-pub overflow_add-hi : goal.overflow_add-hi
-overflow_add-hi c = let g = c.loop-j.invariant.high in omega arith
-
-pub overflow_sub-hi : goal.overflow_sub-hi
-overflow_sub-hi c = let g = c.loop-j.invariant.low in omega arith
-
-pub offset_bounds-row-j : goal.offset_bounds-row-j
-offset_bounds-row-j c = let g = c.loop-j.invariant.high in omega arith
-
-pub bounds-row-j : goal.bounds-row-j
-bounds-row-j c = let g = c.loop-j.invariant.high in omega arith
-
-pub offset_bounds-starts-p : goal.offset_bounds-starts-p
-offset_bounds-starts-p c = let g = c.loop-j.invariant.first.within in omega arith
-
-pub bounds-starts-p : goal.bounds-starts-p
-bounds-starts-p c = let g = c.loop-j.invariant.first.within in let s = c.requires.3.size in omega arith
+    begin a.starts.now a.row.now a.m c.requires.0 (le-ltb _ _ c.if-starts-row.false)
 
 pub returns-then-hi-starts : goal.returns-then-hi-starts
 returns-then-hi-starts c =
     let a = c.args in
     let l = c.loop-j in
-    fails a.starts.now a.row.now a.m l.p l.j c.requires.3 l.invariant c.if-hi-starts.true
-
-pub overflow_add-p : goal.overflow_add-p
-overflow_add-p c = omega (arith, room c)
+    fails a.starts.now a.row.now a.m l.p l.j c.requires.2 l.invariant c.if-hi-starts.true
 
 pub skip-p-requires : goal.skip-p-requires
-skip-p-requires c = (c.requires.3, omega (arith, room c))
+skip-p-requires c = (c.requires.2, omega (arith, room c))
 
 pub loop-j-preserved : goal.loop-j-preserved
 loop-j-preserved c =
     let a = c.args in
     let l = c.loop-j in
-    next a.starts.now a.row.now a.m l.p l.j c.skip-p.result c.requires.3 l.invariant c.loop-j-test.true
+    next a.starts.now a.row.now a.m l.p l.j c.skip-p.result c.requires.2 l.invariant c.loop-j-test.true
     (omega arith) c.skip-p.ensures
-
-pub offset_bounds-starts-p-2 : goal.offset_bounds-starts-p-2
-offset_bounds-starts-p-2 c = let g = c.loop-j.invariant.first.within in omega arith
-
-pub bounds-starts-p-2 : goal.bounds-starts-p-2
-bounds-starts-p-2 c = let g = c.loop-j.invariant.first.within in let s = c.requires.3.size in omega arith
 
 pub returns : goal.returns
 returns c =
     let a = c.args in
     let l = c.loop-j in
-    ends a.starts.now a.row.now a.m l.p l.j c.requires.3 l.invariant (omega arith)
+    ends a.starts.now a.row.now a.m l.p l.j c.requires.2 l.invariant (omega arith)

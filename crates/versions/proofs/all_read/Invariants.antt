@@ -5,6 +5,3 @@ use Rattle.versions.proofs.all_read.Given as goal
 
 abbrev pub invariant-loop-j : goal.invariant-loop-j
 invariant-loop-j l = Merging l.starts l.row l.m l.p l.j
-
-abbrev pub decreases-loop-j : goal.decreases-loop-j
-decreases-loop-j l = l.j

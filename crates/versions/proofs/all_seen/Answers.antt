@@ -9,25 +9,25 @@ pub returns-then-row-m-ne0 : goal.returns-then-row-m-ne0
 returns-then-row-m-ne0 c = let a = c.args in last-hidden a.starts.now a.row.now a.m c.if-starts-row.false c.if-row-m-ne0.true
 
 pub loop-j-init : goal.loop-j-init
-loop-j-init c = let a = c.args in begin a.starts.now a.row.now a.m c.requires.1 c.if-starts-row.false c.if-row-m-ne0.false
+loop-j-init c = let a = c.args in begin a.starts.now a.row.now a.m c.requires.0 c.if-starts-row.false c.if-row-m-ne0.false
 
 pub returns-then-not-step_ok : goal.returns-then-not-step_ok
 returns-then-not-step_ok c =
     let a = c.args in
     let l = c.loop-j in
-    fails a.starts.now a.row.now a.m l.p l.j c.requires.3 l.invariant c.loop-j-test.true (sym c.step_ok.ensures ∙ c.if-not-step_ok.true)
+    fails a.starts.now a.row.now a.m l.p l.j c.requires.2 l.invariant c.loop-j-test.true (sym c.step_ok.ensures ∙ c.if-not-step_ok.true)
 
 pub skip-p-requires : goal.skip-p-requires
-skip-p-requires c = (c.requires.3, c.loop-j.invariant.first.within)
+skip-p-requires c = (c.requires.2, c.loop-j.invariant.first.within)
 
 pub loop-j-preserved : goal.loop-j-preserved
 loop-j-preserved c =
     let a = c.args in
     let l = c.loop-j in
-    next a.starts.now a.row.now a.m l.p l.j c.requires.3 l.invariant c.loop-j-test.true (sym c.step_ok.ensures ∙ c.if-not-step_ok.false) c.skip-p.result c.skip-p.ensures
+    next a.starts.now a.row.now a.m l.p l.j c.requires.2 l.invariant c.loop-j-test.true (sym c.step_ok.ensures ∙ c.if-not-step_ok.false) c.skip-p.result c.skip-p.ensures
 
 pub returns : goal.returns
 returns c =
     let a = c.args in
     let l = c.loop-j in
-    ends a.starts.now a.row.now a.m l.p l.j c.requires.3 l.invariant c.loop-j-test.false
+    ends a.starts.now a.row.now a.m l.p l.j c.requires.2 l.invariant c.loop-j-test.false

@@ -24,12 +24,6 @@ room c =
 pub loop-k-init : goal.loop-k-init
 loop-k-init c = (omega arith, c.requires.1, λ i a b. absurd (omega arith))
 
-pub offset_bounds-starts-k : goal.offset_bounds-starts-k
-offset_bounds-starts-k c = let s = c.requires.0.size in omega arith
-
-pub bounds-starts-k : goal.bounds-starts-k
-bounds-starts-k c = let s = c.requires.0.size in omega arith
-
 pub overflow_add-k : goal.overflow_add-k
 overflow_add-k c = omega (arith, room c)
 

@@ -23,7 +23,7 @@ returns-then-not-zeros c =
     let q = a.starts.now in
     let z : zero_words r (masks_at base) base.places ≡ false = sym c.zeros.ensures ∙ c.if-not-zeros.true in
     subst (λ (w : ℕ). false ≡ walk_ok q w r a.m) (sym c.if-relaxed-eq0.true)
-    (sym (ap (λ (b : Bool). b && read_in q r a.m) z) ∙ none_hidden q r a.m (let l = p.1 in omega arith) p.2)
+    (sym (ap (λ (b : Bool). b && read_in q r a.m) z) ∙ none_hidden q r a.m (let l = p.0 in omega arith) p.1)
 
 pub returns-then-relaxed-eq0 : goal.returns-then-relaxed-eq0
 returns-then-relaxed-eq0 c =
@@ -33,7 +33,7 @@ returns-then-relaxed-eq0 c =
     let q = a.starts.now in
     let z : zero_words r (masks_at base) base.places ≡ true = sym c.zeros.ensures ∙ c.if-not-zeros.false in
     subst (λ (w : ℕ). c.all_read.result ≡ walk_ok q w r a.m) (sym c.if-relaxed-eq0.true)
-    (c.all_read.ensures ∙ sym (ap (λ (b : Bool). b && read_in q r a.m) z) ∙ none_hidden q r a.m (let l = p.1 in omega arith) p.2)
+    (c.all_read.ensures ∙ sym (ap (λ (b : Bool). b && read_in q r a.m) z) ∙ none_hidden q r a.m (let l = p.0 in omega arith) p.1)
 
 pub returns-then-relaxed-row : goal.returns-then-relaxed-row
 unfolding walk_ok contains
