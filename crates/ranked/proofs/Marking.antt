@@ -24,7 +24,7 @@ use Rattle.words.proofs.SlotWords.{or_at, shifted, one_shifted}
 use Rattle.words.proofs.Turns.{some_more}
 use Rattle.words.proofs.ZeroWords.{no_word}
 use Rattle.ranks.proofs.Ranks.{waiters_most}
-use Rattle.ranked.specs.Marks.{sharing, marks, Marked}
+use Rattle.ranked.specs.Marks.{Known, sharing, marks, Marked}
 
 -- ---- what a mark says
 module _ (t l : List ℕ) (x q s : ℕ) where
@@ -49,6 +49,12 @@ module _ (t l : List ℕ) (x q s : ℕ) where
   marks_on : T (awaits_on x (txn t s)) → marks t l x q s ≡ (eqb (txn t s).rank q || (holds_shared (lock l x) s && eqb ((txn t s).rank + sharing) q))
   unfolding marks
   marks_on a = rw (is_true (awaits_on x (txn t s)) a)
+
+-- ---- an awaited item is one, as the code reads it
+pub item_below :
+    {t l : List ℕ} {s k x : ℕ} → Known t l → s < base.slots → k ≡ (txn t s).awaited_lock → k ≢ no_lock → x ≡ (txn t s).awaited_item
+    → x < base.items
+item_below {t} {l} {s} o i e d f = subst (λ (n : ℕ). n < base.items) (sym f) (o.item_known s i (λ z. d (e ∙ z)))
 
 -- ---- no slot yet
 pub marked_none : (t l w : List ℕ) → w ≡ replicate base.items 0 → Marked t l w 0

@@ -24,6 +24,14 @@ use Rattle.ranked.specs.Marks.{Known, sharing, marks, Marked, follows, placed}
 use Rattle.ranked.proofs.Marking.{marks→, mark-rank, mark-shares}
 use Rattle.ranked.proofs.Chain.{chain}
 
+-- ---- the rank of who waits, as the code reads it
+pub rank_within :
+    {t l w : List ℕ} {s k p : ℕ} → Marked t l w base.slots → s < base.slots → k ≡ (txn t s).awaited_lock → k ≢ no_lock → p ≡ (txn t s).rank
+    → (1 ≤ p) × (p ≤ base.slots)
+rank_within {t} {l} {w} {s} m i e d f =
+    let a = →awaits (txn t s) (λ z. d (e ∙ z)) in
+    (subst (λ (p : ℕ). 1 ≤ p) (sym f) (m.least s i a), subst (λ (p : ℕ). p ≤ base.slots) (sym f) (m.most s i a))
+
 -- ---- one slot, as the code tests it
 pub placed_still : (t l w : List ℕ) (s : ℕ) → (txn t s).awaited_lock ≡ no_lock → true ≡ placed t l w s
 unfolding placed

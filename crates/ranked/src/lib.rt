@@ -5,22 +5,24 @@
 // marks it a second time, higher up, for one who shares the item. The second looks the marks up.
 #![tactic(auto)]
 
-ghost use Rattle.std.specs.Prelude.{◌≡◌, ◌+◌, ◌≤◌, ◌<◌, replicate};
+ghost use Rattle.std.specs.Prelude.{◌≡◌, ◌+◌, ◌≤◌, ◌<◌, false, IfSome, IfNone};
 ghost use Rattle.names.specs.Sizes.{base};
 ghost use Rattle.rules.specs.Words.{every_below};
 ghost use Rattle.rules.specs.Tested.{ranks_good};
 ghost use Rattle.ranked.specs.Marks.{Known, Marked, Marking, follows, placed};
 
-use names::{Item, NO_LOCK, SLOTS, Slot};
+use names::{ITEMS, Item, Locks, NO_LOCK, SLOTS, Slot, Txns};
 
-const ITEMS: usize = names::ITEMS as usize;
+// A word for each item.
+type Marks = [u64; ITEMS as usize];
 
 // How much higher a rank's second mark stands: above the marks of all ranks. A rank's mark stands a
 // place below the rank, so that both marks of each have room in one word.
 const SHARING: u64 = SLOTS;
 
 // One slot: if it waits, its rank is marked. False if that is no rank, or is taken already.
-fn mark(txns: &[u64], locks: &[u64], marks: &mut [u64], slot: Slot) -> bool
+#[tactic(auto, using(crate::proofs::Marking::item_below))]
+fn mark(txns: &Txns, locks: &Locks, marks: &mut Marks, slot: Slot) -> bool
     requires { Known txns.now locks.now × Marked txns.now locks.now marks.old slot.0 × (slot.0 < base.slots) }
     ensures { Marking txns.now locks.now marks.new (slot.0 + 1) result }
 {
@@ -48,22 +50,23 @@ fn mark(txns: &[u64], locks: &[u64], marks: &mut [u64], slot: Slot) -> bool
     true
 }
 
-// The first pass.
-fn mark_all(txns: &[u64], locks: &[u64], marks: &mut [u64]) -> bool
-    requires { Known txns.now locks.now × (marks.old ≡ replicate base.items 0) }
-    ensures { Marking txns.now locks.now marks.new base.slots result }
+// The first pass: the marks, or nothing where a rank cannot be marked.
+fn mark_all(txns: &Txns, locks: &Locks) -> Option<Marks>
+    requires { Known txns.now locks.now }
+    ensures marked { IfSome result (λ w. Marked txns.now locks.now w base.slots) }
+    ensures refused { IfNone result (ranks_good base txns.now locks.now ≡ false) }
 {
-    let mut slot: u64 = 0;
-    while slot < SLOTS {
-        if !mark(txns, locks, marks, Slot(slot)) {
-            return false;
+    let mut marks = [0u64; ITEMS as usize];
+    for slot in 0..SLOTS {
+        if !mark(txns, locks, &mut marks, Slot(slot)) {
+            return None;
         }
-        slot += 1;
     }
-    true
+    Some(marks)
 }
 
 // Whether a rank is the first, or the one before it is marked.
+#[tactic(auto, unfolding(crate::specs::Marks::follows, rules::specs::Words::bit))]
 fn follows(word: u64, rank: u64) -> bool
     requires { (1 ≤ rank) × (rank ≤ base.slots) }
     ensures { result ≡ follows word rank }
@@ -76,7 +79,8 @@ fn follows(word: u64, rank: u64) -> bool
 
 // One slot, once all are marked: if it waits, the rank before its own is taken, and if it does not
 // share the item, nobody who does stands behind it.
-fn placed(txns: &[u64], locks: &[u64], marks: &[u64], slot: Slot) -> bool
+#[tactic(auto, using(crate::proofs::Marking::item_below))]
+fn placed(txns: &Txns, locks: &Locks, marks: &Marks, slot: Slot) -> bool
     requires { Known txns.now locks.now × Marked txns.now locks.now marks.now base.slots × (slot.0 < base.slots) }
     ensures { result ≡ placed txns.now locks.now marks.now slot.0 }
 {
@@ -93,27 +97,20 @@ fn placed(txns: &[u64], locks: &[u64], marks: &[u64], slot: Slot) -> bool
 }
 
 // The second pass.
-fn all_placed(txns: &[u64], locks: &[u64], marks: &[u64]) -> bool
+fn all_placed(txns: &Txns, locks: &Locks, marks: &Marks) -> bool
     requires { Known txns.now locks.now × Marked txns.now locks.now marks.now base.slots }
     ensures { result ≡ every_below base.slots (placed txns.now locks.now marks.now) }
 {
-    let mut ok = true;
-    let mut slot: u64 = 0;
-    while slot < SLOTS {
-        ok = placed(txns, locks, marks, Slot(slot)) & ok;
-        slot += 1;
-    }
-    ok
+    words::every_below(SLOTS, |slot| placed(txns, locks, marks, Slot(slot)))
 }
 
 // The ranks of all slots.
-pub fn ranks_ok(txns: &[u64], locks: &[u64]) -> bool
+pub fn ranks_ok(txns: &Txns, locks: &Locks) -> bool
     requires { Known txns.now locks.now }
     ensures { result ≡ ranks_good base txns.now locks.now }
 {
-    let mut marks = [0u64; ITEMS];
-    if !mark_all(txns, locks, &mut marks) {
+    let Some(marks) = mark_all(txns, locks) else {
         return false;
-    }
+    };
     all_placed(txns, locks, &marks)
 }

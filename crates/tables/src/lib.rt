@@ -12,32 +12,24 @@ ghost use Rattle.rules.specs.Tables.{tables};
 ghost use Rattle.rules.specs.Tested.{good};
 
 use holdings::locks_pass;
-use names::{CLOCK_AT, LOCK_WORDS, TXN_WORDS, VERSION_WORDS};
+use names::{CLOCK_AT, LOCK_WORDS, Locks, TXN_WORDS, Txns, VERSION_WORDS, Versions};
 use sets::sets_pass;
-use shapes::{distinct, rows};
+use shapes::{Seen, distinct, rows};
 use stamps::stamps_pass;
 use waiting::waits_pass;
 
-// The test of all tables.
-pub fn good(txns: &[u64], locks: &[u64], versions: &[u64]) -> bool
+// The parts of the test, for tables of the exact sizes.
+fn parts_good(txns: &Txns, locks: &Locks, versions: &Versions) -> bool
     ensures { result ≡ good base (tables txns.now locks.now versions.now) }
 {
-    if txns.len() != TXN_WORDS {
-        return false;
-    }
-    if locks.len() != LOCK_WORDS {
-        return false;
-    }
-    if versions.len() != VERSION_WORDS {
-        return false;
-    }
-    let seen = rows(txns);
-    let ok = seen.ok;
-    let updates = seen.updates;
-    let waiting = seen.waiting;
-    let settled = seen.settled;
-    let relaxed = seen.relaxed;
-    let later = seen.later;
+    let Seen {
+        ok,
+        updates,
+        waiting,
+        settled,
+        relaxed,
+        later,
+    } = rows(txns);
     if !ok {
         return false;
     }
@@ -63,4 +55,20 @@ pub fn good(txns: &[u64], locks: &[u64], versions: &[u64]) -> bool
         return true;
     }
     stamps_pass(txns, locks, versions, settled)
+}
+
+// The test of all tables.
+pub fn good(txns: &[u64], locks: &[u64], versions: &[u64]) -> bool
+    ensures { result ≡ good base (tables txns.now locks.now versions.now) }
+{
+    let Some(txns) = txns.as_array::<TXN_WORDS>() else {
+        return false;
+    };
+    let Some(locks) = locks.as_array::<LOCK_WORDS>() else {
+        return false;
+    };
+    let Some(versions) = versions.as_array::<VERSION_WORDS>() else {
+        return false;
+    };
+    parts_good(txns, locks, versions)
 }

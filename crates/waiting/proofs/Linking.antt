@@ -87,7 +87,6 @@ module _ (t l : List ℕ) (o : Readable t l) (x : ℕ) (i : x < base.items) wher
 
 -- ---- what is known once the slots below i were passed
 pub record Linking (t l w : List ℕ) (ok : Bool) (i : ℕ) : Type 0 where
-  pub within : i ≤ base.slots
   pub size : length w ≡ base.slots
   pub right : ok ≡ every_below i (λ s. awaiter_good s (txn t s) (lock l (txn t s).awaited_item))
   pub at : (a : ℕ) → a < i → (b : ℕ) → bit (get_or w a 0) b ≡ waits_for t l a b
@@ -96,7 +95,7 @@ pub record Linking (t l w : List ℕ) (ok : Bool) (i : ℕ) : Type 0 where
 pub linking_begin : (t l : List ℕ) → Linking t l (replicate base.slots 0) true 0
 unfolding every_below
 linking_begin t l =
-    record { within = omega arith; size = refl; right = refl; at = λ a k. absurd (omega arith); rest = λ a k. no_word base.slots a }
+    record { size = refl; right = refl; at = λ a k. absurd (omega arith); rest = λ a k. no_word base.slots a }
 
 module _ (t l w : List ℕ) (ok : Bool) (i : ℕ) (k : i < base.slots) (h : Linking t l w ok i) where
   abbrev test : ℕ → Bool
@@ -107,7 +106,6 @@ module _ (t l w : List ℕ) (ok : Bool) (i : ℕ) (k : i < base.slots) (h : Link
   linking_still z {w'} {ok'} p q =
       rw (p, q)
       (record {
-        within = omega arith;
         size = h.size;
         right =
             h.right
@@ -129,7 +127,6 @@ module _ (t l w : List ℕ) (ok : Bool) (i : ℕ) (k : i < base.slots) (h : Link
       let z = h.size in
       rw (p, q)
       (record {
-        within = omega arith;
         size = length-set w i v ∙ h.size;
         right = ap₂ ◌&&◌ e h.right ∙ sym (every_more test i);
         at = λ a m b. ⊎_elim

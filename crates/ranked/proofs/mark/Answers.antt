@@ -1,12 +1,12 @@
 -- A slot that waits is marked, or its rank is one that cannot stand.
-use Prim.Native.Nat.{ℕ, suc, ◌-◌, ◌<◌}
-use mathlib.Core.Path.{◌≡◌, refl, sym, ap, ◌∙◌, subst}
+use Prim.Native.Nat.{suc, ◌-◌, ◌<◌}
+use mathlib.Core.Path.{◌≡◌, refl, sym, ap, ◌∙◌}
 use mathlib.Core.Logic.{◌≢◌}
 use native.Mathlib.Omega.{arith}
 use Rattle.names.specs.Sizes.{base}
 use Rattle.rules.specs.Tables.{txn, no_lock, Lock}
 use Rattle.rules.proofs.Tests.{true_is, false_is}
-use Rattle.ranked.proofs.Marking.{marked_still, rank_0, rank_high, rank-taken, marked_more}
+use Rattle.ranked.proofs.Marking.{item_below, marked_still, rank_0, rank_high, rank-taken, marked_more}
 use Rattle.ranked.proofs.mark.Goals as goal
 
 pub returns-then-wanted-eq-NO_LOCK : goal.returns-then-wanted-eq-NO_LOCK
@@ -24,37 +24,15 @@ returns-then-rank-gt-SLOTS c =
     let waits : (txn c.args.txns.now c.args.slot.0).awaited_lock ≢ no_lock = λ e. c.if-wanted-eq-NO_LOCK.false (c.awaited_lock-wanted.ensures ∙ e) in let p = c.requires in
     record { yes = λ e. absurd (true_is e); no = λ e. rank_high p.2 p.1 c.awaited_item-item.ensures c.rank-rank.ensures waits (omega arith) }
 
-pub offset_bounds-marks-at : goal.offset_bounds-marks-at
-offset_bounds-marks-at c =
-    let waits : (txn c.args.txns.now c.args.slot.0).awaited_lock ≢ no_lock = λ e. c.if-wanted-eq-NO_LOCK.false (c.awaited_lock-wanted.ensures ∙ e) in let known : c.awaited_item-item.result < base.items = subst (λ (n : ℕ). n < base.items) (sym c.awaited_item-item.ensures) (c.requires.0.item_known c.args.slot.0 c.requires.2 waits) in omega arith
-
-pub bounds-marks-at : goal.bounds-marks-at
-bounds-marks-at c =
-    let waits : (txn c.args.txns.now c.args.slot.0).awaited_lock ≢ no_lock = λ e. c.if-wanted-eq-NO_LOCK.false (c.awaited_lock-wanted.ensures ∙ e) in let known : c.awaited_item-item.result < base.items = subst (λ (n : ℕ). n < base.items) (sym c.awaited_item-item.ensures) (c.requires.0.item_known c.args.slot.0 c.requires.2 waits) in let z = c.requires.1.size in
-    omega arith
-
 pub returns-then-word-place-eq1 : goal.returns-then-word-place-eq1
 returns-then-word-place-eq1 c =
-    let waits : (txn c.args.txns.now c.args.slot.0).awaited_lock ≢ no_lock = λ e. c.if-wanted-eq-NO_LOCK.false (c.awaited_lock-wanted.ensures ∙ e) in let known : c.awaited_item-item.result < base.items = subst (λ (n : ℕ). n < base.items) (sym c.awaited_item-item.ensures) (c.requires.0.item_known c.args.slot.0 c.requires.2 waits) in let p = c.requires in
+    let waits : (txn c.args.txns.now c.args.slot.0).awaited_lock ≢ no_lock = λ e. c.if-wanted-eq-NO_LOCK.false (c.awaited_lock-wanted.ensures ∙ e) in let known : c.awaited_item-item.result < base.items = item_below c.requires.0 c.requires.2 c.awaited_lock-wanted.ensures c.if-wanted-eq-NO_LOCK.false c.awaited_item-item.ensures in let p = c.requires in
     let d : suc (c.rank-rank.result - 1) ≡ c.rank-rank.result = omega arith in
     record { yes = λ e. absurd (true_is e); no = λ e. rank-taken p.2 p.1 c.awaited_item-item.ensures c.rank-rank.ensures waits known (omega arith) d (omega arith) }
 
-pub lock_at-row-requires : goal.lock_at-row-requires
-lock_at-row-requires c =
-    let waits : (txn c.args.txns.now c.args.slot.0).awaited_lock ≢ no_lock = λ e. c.if-wanted-eq-NO_LOCK.false (c.awaited_lock-wanted.ensures ∙ e) in let known : c.awaited_item-item.result < base.items = subst (λ (n : ℕ). n < base.items) (sym c.awaited_item-item.ensures) (c.requires.0.item_known c.args.slot.0 c.requires.2 waits) in (c.requires.0.locks_exact, known)
-
-pub offset_bounds-marks-at-2 : goal.offset_bounds-marks-at-2
-offset_bounds-marks-at-2 c =
-    let waits : (txn c.args.txns.now c.args.slot.0).awaited_lock ≢ no_lock = λ e. c.if-wanted-eq-NO_LOCK.false (c.awaited_lock-wanted.ensures ∙ e) in let known : c.awaited_item-item.result < base.items = subst (λ (n : ℕ). n < base.items) (sym c.awaited_item-item.ensures) (c.requires.0.item_known c.args.slot.0 c.requires.2 waits) in omega arith
-
-pub bounds-marks-at-2 : goal.bounds-marks-at-2
-bounds-marks-at-2 c =
-    let waits : (txn c.args.txns.now c.args.slot.0).awaited_lock ≢ no_lock = λ e. c.if-wanted-eq-NO_LOCK.false (c.awaited_lock-wanted.ensures ∙ e) in let known : c.awaited_item-item.result < base.items = subst (λ (n : ℕ). n < base.items) (sym c.awaited_item-item.ensures) (c.requires.0.item_known c.args.slot.0 c.requires.2 waits) in let z = c.requires.1.size in
-    omega arith
-
 pub returns : goal.returns
 returns c =
-    let waits : (txn c.args.txns.now c.args.slot.0).awaited_lock ≢ no_lock = λ e. c.if-wanted-eq-NO_LOCK.false (c.awaited_lock-wanted.ensures ∙ e) in let known : c.awaited_item-item.result < base.items = subst (λ (n : ℕ). n < base.items) (sym c.awaited_item-item.ensures) (c.requires.0.item_known c.args.slot.0 c.requires.2 waits) in let p = c.requires in
+    let waits : (txn c.args.txns.now c.args.slot.0).awaited_lock ≢ no_lock = λ e. c.if-wanted-eq-NO_LOCK.false (c.awaited_lock-wanted.ensures ∙ e) in let known : c.awaited_item-item.result < base.items = item_below c.requires.0 c.requires.2 c.awaited_lock-wanted.ensures c.if-wanted-eq-NO_LOCK.false c.awaited_item-item.ensures in let p = c.requires in
     let d : suc (c.rank-rank.result - 1) ≡ c.rank-rank.result = omega arith in
     record {
       yes = λ e.

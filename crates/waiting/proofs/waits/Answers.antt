@@ -22,26 +22,11 @@ known r s b e = r.item_known s b e
 pub loop-slot-init : goal.loop-slot-init
 loop-slot-init c = linking_begin _ _
 
-pub bounds-txns-at : goal.bounds-txns-at
-bounds-txns-at c = let z = c.requires.txns_exact in omega arith
-
-pub bounds-txns-at-then-wanted-ne-NO_LOCK : goal.bounds-txns-at-then-wanted-ne-NO_LOCK
-bounds-txns-at-then-wanted-ne-NO_LOCK c = let z = c.requires.txns_exact in omega arith
-
-pub bounds-txns-at-then-wanted-ne-NO_LOCK-2 : goal.bounds-txns-at-then-wanted-ne-NO_LOCK-2
-bounds-txns-at-then-wanted-ne-NO_LOCK-2 c = let z = c.requires.txns_exact in omega arith
-
 pub lock_at-row-requires : goal.lock_at-row-requires
-lock_at-row-requires c = (c.requires.locks_exact, known c.requires c.loop-slot.slot c.loop-slot-test.true c.if-wanted-ne-NO_LOCK.true)
-
-pub awaiter_ok-ok-requires : goal.awaiter_ok-ok-requires
-awaiter_ok-ok-requires c = c.loop-slot-test.true
+lock_at-row-requires c = known c.requires c.loop-slot.slot c.loop-slot-test.true c.if-wanted-ne-NO_LOCK.true
 
 pub blockers-requires : goal.blockers-requires
 blockers-requires c = (c.requires, known c.requires c.loop-slot.slot c.loop-slot-test.true c.if-wanted-ne-NO_LOCK.true, c.loop-slot-test.true)
-
-pub bounds-links-slot : goal.bounds-links-slot
-bounds-links-slot c = let z = c.loop-slot.invariant.size in omega arith
 
 pub loop-slot-preserved : goal.loop-slot-preserved
 unfolding txn
@@ -64,6 +49,6 @@ pub returns : goal.returns
 returns c = let t = c.args.txns.now in
     let l = c.args.locks.now in
     let g = c.loop-slot in
-    let e : g.slot ≡ base.slots = (let k = g.invariant.within in omega arith) in
+    let e : g.slot ≡ base.slots = omega arith in
     let h : Linking t l g.links g.ok base.slots = subst (λ (n : ℕ). Linking t l g.links g.ok n) e g.invariant in
     (linking_right t l g.links g.ok h, linking_end t l g.links g.ok c.requires h)
