@@ -11,6 +11,7 @@ use lib.Seq.{get_or-set_same, get_or-set_other}
 use lib.Pow.{shl_exact}
 use lib.Dec.{T, ltb}
 use borrow.Author.Tests.{ltb-true, ltb-false}
+use Rattle.std.specs.List.{CopiedTo, SameBelow, SameFrom}
 use Rattle.names.specs.Sizes.{base}
 use Rattle.rules.specs.Words.{bit, without_bit}
 use Rattle.rules.specs.Tables.{masks_at}
@@ -18,103 +19,30 @@ use Rattle.rules.proofs.Tests.{is_true}
 use Rattle.rules.proofs.Bits.{bit_below}
 use Rattle.packing.specs.Moved.{MovedBack, MovedUp, Shown}
 
--- ---- back, from the last word on: those from the k-th on are moved
-pub record Back (old row : List ℕ) (first end n k : ℕ) : Type 0 where
-  pub size : length row ≡ length old
-  pub least : first ≤ k
-  pub most : k ≤ end
-  pub same : (i : ℕ) → i < k + n → get_or row i 0 ≡ get_or old i 0
-  pub moved : (i : ℕ) → k ≤ i → i < end → get_or row (i + n) 0 ≡ get_or old i 0
-  pub behind : (i : ℕ) → end + n ≤ i → get_or row i 0 ≡ get_or old i 0
-
-pub back_begin : (old : List ℕ) (first end n : ℕ) → first ≤ end → Back old old first end n end
-back_begin old first end n h =
+-- ---- words copied within a row
+pub copied_back :
+    (old new : List ℕ) (first end n : ℕ) → first ≤ end → length new ≡ length old
+    → CopiedTo old new first (first + n) (end - first) × SameBelow old new (first + n) × SameFrom old new (first + n + (end - first))
+    → MovedBack old new first end n
+copied_back old new first end n h z c =
     record {
-      size = refl;
-      least = h;
-      most = omega arith;
-      same = λ i a. refl;
-      moved = λ i a b. absurd (omega arith);
-      behind = λ i a. refl;
+      size = z;
+      before = λ i a. c.1 i 0 a;
+      moved = λ i a b.
+          c.0 (i + n) 0 (omega arith) (omega arith) ∙ ap (λ (k : ℕ). get_or old k 0) (let e : first + (i + n - (first + n)) ≡ i = omega arith in e);
+      behind = λ i a. c.2 i 0 (omega arith);
     }
 
-pub back_step :
-    (old row : List ℕ) (first end n k : ℕ) → end + n ≤ length old → first < k → Back old row first end n k
-    → Back old (set row (k - 1 + n) (get_or row (k - 1) 0)) first end n (k - 1)
-back_step old row first end n k l p b =
-    let w = b.most in
-    let z = b.size in
-    let v = get_or row (k - 1) 0 in
+pub copied_up :
+    (old new : List ℕ) (from to n : ℕ) → from ≤ to → length new ≡ length old
+    → CopiedTo old new (from + n) from (to + n - (from + n)) × SameBelow old new from × SameFrom old new (from + (to + n - (from + n)))
+    → MovedUp old new from to n
+copied_up old new from to n h z c =
     record {
-      size = length-set row (k - 1 + n) v ∙ z;
-      least = omega arith;
-      most = omega arith;
-      same = λ i a. get_or-set_other row (k - 1 + n) i v 0 (λ e. omega arith) ∙ b.same i (omega arith);
-      moved = λ i a c.
-          ⊎_elim
-          (λ (e : k - 1 ≡ i). subst (λ (i : ℕ). get_or (set row (k - 1 + n) v) (i + n) 0 ≡ get_or old i 0) e (get_or-set_same row (k - 1 + n) v 0 (omega arith) ∙ b.same (k - 1) (omega arith)))
-          (λ (d : k - 1 < i). get_or-set_other row (k - 1 + n) (i + n) v 0 (λ e. omega arith) ∙ b.moved i (omega arith) c)
-          (eq-or-lt_of_le (let y : k - 1 ≤ i = omega arith in y));
-      behind = λ i a. get_or-set_other row (k - 1 + n) i v 0 (λ e. omega arith) ∙ b.behind i a;
-    }
-
-pub back_end : (old row : List ℕ) (first end n k : ℕ) → k ≤ first → Back old row first end n k → MovedBack old row first end n
-back_end old row first end n k z b =
-    let l = b.least in
-    record {
-      size = b.size;
-      before = λ i a. b.same i (omega arith);
-      moved = λ i a c. b.moved i (omega arith) c;
-      behind = b.behind;
-    }
-
--- ---- up, from the first word on: those before the j-th are moved
-pub record Up (old row : List ℕ) (from to n j : ℕ) : Type 0 where
-  pub size : length row ≡ length old
-  pub least : from ≤ j
-  pub most : j ≤ to
-  pub before : (i : ℕ) → i < from → get_or row i 0 ≡ get_or old i 0
-  pub moved : (i : ℕ) → from ≤ i → i < j → get_or row i 0 ≡ get_or old (i + n) 0
-  pub same : (i : ℕ) → j ≤ i → get_or row i 0 ≡ get_or old i 0
-
-pub up_begin : (old : List ℕ) (from to n : ℕ) → from ≤ to → Up old old from to n from
-up_begin old from to n h =
-    record {
-      size = refl;
-      least = omega arith;
-      most = h;
-      before = λ i a. refl;
-      moved = λ i a b. absurd (omega arith);
-      same = λ i a. refl;
-    }
-
-pub up_step :
-    (old row : List ℕ) (from to n j : ℕ) → to + n ≤ length old → j < to → Up old row from to n j
-    → Up old (set row j (get_or row (j + n) 0)) from to n (j + 1)
-up_step old row from to n j l h b =
-    let z = b.size in
-    let w = b.least in
-    let v = get_or row (j + n) 0 in
-    record {
-      size = length-set row j v ∙ z;
-      least = omega arith;
-      most = omega arith;
-      before = λ i a. get_or-set_other row j i v 0 (λ e. omega arith) ∙ b.before i a;
-      moved = λ i a c.
-          ⊎_elim
-          (λ (e : i ≡ j). subst (λ (i : ℕ). get_or (set row j v) i 0 ≡ get_or old (i + n) 0) (sym e) (get_or-set_same row j v 0 (omega arith) ∙ b.same (j + n) (omega arith)))
-          (λ (d : i < j). get_or-set_other row j i v 0 (λ e. omega arith) ∙ b.moved i a d)
-          (eq-or-lt_of_le (let y : i ≤ j = omega arith in y));
-      same = λ i a. get_or-set_other row j i v 0 (λ e. omega arith) ∙ b.same i (omega arith);
-    }
-
-pub up_end : (old row : List ℕ) (from to n j : ℕ) → to ≤ j → Up old row from to n j → MovedUp old row from to n
-up_end old row from to n j h b =
-    record {
-      size = b.size;
-      before = b.before;
-      moved = λ i a c. b.moved i a (let m = b.most in omega arith);
-      behind = λ i a. b.same i (let m = b.most in omega arith);
+      size = z;
+      before = λ i a. c.1 i 0 a;
+      moved = λ i a b. c.0 i 0 a (omega arith) ∙ ap (λ (k : ℕ). get_or old k 0) (let e : from + n + (i - from) ≡ i + n = omega arith in e);
+      behind = λ i a. c.2 i 0 (omega arith);
     }
 
 -- ---- the first k versions are hidden from slot s no more

@@ -27,57 +27,57 @@ pub returns-then-row-start : goal.returns-then-row-start
 returns-then-row-start c =
     let a = c.args in
     let p = c.requires in
-    row_same a.row.now p.0 ∙ ap (row_of base) (sym (newest-stays a.row.now p.0 a.start a.below a.next c.if-row-start.true))
+    row_same a.row.now p.0 ∙ ap (row_of base) (sym (newest-stays a.row.now p.0 a.start a.beside.below a.beside.next c.if-row-start.true))
 
 pub overflow_mul-at : goal.overflow_mul-at
-overflow_mul-at c = omega (arith, placed c.args.row.now c.requires.0 c.args.start c.args.below c.args.next c.requires.1 c.if-row-start.false c.place_in-k.result c.place_in-k.ensures)
+overflow_mul-at c = omega (arith, placed c.args.row.now c.requires.0 c.args.start c.args.beside.below c.args.beside.next c.requires.1 c.if-row-start.false c.place_in-k.result c.place_in-k.ensures)
 
 pub overflow_add-at : goal.overflow_add-at
-overflow_add-at c = omega (arith, placed c.args.row.now c.requires.0 c.args.start c.args.below c.args.next c.requires.1 c.if-row-start.false c.place_in-k.result c.place_in-k.ensures)
+overflow_add-at c = omega (arith, placed c.args.row.now c.requires.0 c.args.start c.args.beside.below c.args.beside.next c.requires.1 c.if-row-start.false c.place_in-k.result c.place_in-k.ensures)
 
 pub overflow_add-mask : goal.overflow_add-mask
-overflow_add-mask c = omega (arith, placed c.args.row.now c.requires.0 c.args.start c.args.below c.args.next c.requires.1 c.if-row-start.false c.place_in-k.result c.place_in-k.ensures)
+overflow_add-mask c = omega (arith, placed c.args.row.now c.requires.0 c.args.start c.args.beside.below c.args.beside.next c.requires.1 c.if-row-start.false c.place_in-k.result c.place_in-k.ensures)
 
 pub offset_bounds-row-at : goal.offset_bounds-row-at
-offset_bounds-row-at c = omega (arith, placed c.args.row.now c.requires.0 c.args.start c.args.below c.args.next c.requires.1 c.if-row-start.false c.place_in-k.result c.place_in-k.ensures)
+offset_bounds-row-at c = omega (arith, placed c.args.row.now c.requires.0 c.args.start c.args.beside.below c.args.beside.next c.requires.1 c.if-row-start.false c.place_in-k.result c.place_in-k.ensures)
 
 pub bounds-row-at : goal.bounds-row-at
-bounds-row-at c = omega (arith, placed c.args.row.now c.requires.0 c.args.start c.args.below c.args.next c.requires.1 c.if-row-start.false c.place_in-k.result c.place_in-k.ensures)
+bounds-row-at c = omega (arith, placed c.args.row.now c.requires.0 c.args.start c.args.beside.below c.args.beside.next c.requires.1 c.if-row-start.false c.place_in-k.result c.place_in-k.ensures)
 
 pub overflow_sub-at : goal.overflow_sub-at
-overflow_sub-at c = omega (arith, placed c.args.row.now c.requires.0 c.args.start c.args.below c.args.next c.requires.1 c.if-row-start.false c.place_in-k.result c.place_in-k.ensures)
+overflow_sub-at c = omega (arith, placed c.args.row.now c.requires.0 c.args.start c.args.beside.below c.args.beside.next c.requires.1 c.if-row-start.false c.place_in-k.result c.place_in-k.ensures)
 
 pub offset_bounds-row-at-2 : goal.offset_bounds-row-at-2
-offset_bounds-row-at-2 c = omega (arith, placed c.args.row.now c.requires.0 c.args.start c.args.below c.args.next c.requires.1 c.if-row-start.false c.place_in-k.result c.place_in-k.ensures)
+offset_bounds-row-at-2 c = omega (arith, placed c.args.row.now c.requires.0 c.args.start c.args.beside.below c.args.beside.next c.requires.1 c.if-row-start.false c.place_in-k.result c.place_in-k.ensures)
 
 pub bounds-row-at-2 : goal.bounds-row-at-2
-bounds-row-at-2 c = omega (arith, placed c.args.row.now c.requires.0 c.args.start c.args.below c.args.next c.requires.1 c.if-row-start.false c.place_in-k.result c.place_in-k.ensures)
+bounds-row-at-2 c = omega (arith, placed c.args.row.now c.requires.0 c.args.start c.args.beside.below c.args.beside.next c.requires.1 c.if-row-start.false c.place_in-k.result c.place_in-k.ensures)
 
 pub offset_bounds-row-mask : goal.offset_bounds-row-mask
-offset_bounds-row-mask c = omega (arith, placed c.args.row.now c.requires.0 c.args.start c.args.below c.args.next c.requires.1 c.if-row-start.false c.place_in-k.result c.place_in-k.ensures)
+offset_bounds-row-mask c = omega (arith, placed c.args.row.now c.requires.0 c.args.start c.args.beside.below c.args.beside.next c.requires.1 c.if-row-start.false c.place_in-k.result c.place_in-k.ensures)
 
 pub bounds-row-mask : goal.bounds-row-mask
-bounds-row-mask c = omega (arith, placed c.args.row.now c.requires.0 c.args.start c.args.below c.args.next c.requires.1 c.if-row-start.false c.place_in-k.result c.place_in-k.ensures)
+bounds-row-mask c = omega (arith, placed c.args.row.now c.requires.0 c.args.start c.args.beside.below c.args.beside.next c.requires.1 c.if-row-start.false c.place_in-k.result c.place_in-k.ensures)
 
 pub offset_bounds-row-mask-2 : goal.offset_bounds-row-mask-2
-offset_bounds-row-mask-2 c = omega (arith, placed c.args.row.now c.requires.0 c.args.start c.args.below c.args.next c.requires.1 c.if-row-start.false c.place_in-k.result c.place_in-k.ensures)
+offset_bounds-row-mask-2 c = omega (arith, placed c.args.row.now c.requires.0 c.args.start c.args.beside.below c.args.beside.next c.requires.1 c.if-row-start.false c.place_in-k.result c.place_in-k.ensures)
 
 pub bounds-row-mask-2 : goal.bounds-row-mask-2
-bounds-row-mask-2 c = omega (arith, placed c.args.row.now c.requires.0 c.args.start c.args.below c.args.next c.requires.1 c.if-row-start.false c.place_in-k.result c.place_in-k.ensures)
+bounds-row-mask-2 c = omega (arith, placed c.args.row.now c.requires.0 c.args.start c.args.beside.below c.args.beside.next c.requires.1 c.if-row-start.false c.place_in-k.result c.place_in-k.ensures)
 
 pub returns-then-row-at : goal.returns-then-row-at
 returns-then-row-at c =
     let a = c.args in
     let p = c.requires in
     row_same a.row.now p.0
-    ∙ ap (row_of base) (sym (all_stay a.row.now p.0 a.start a.below a.next p.1 c.if-row-start.false c.place_in-k.result c.place_in-k.ensures c.if-row-at.true))
+    ∙ ap (row_of base) (sym (all_stay a.row.now p.0 a.start a.beside.below a.beside.next p.1 c.if-row-start.false c.place_in-k.result c.place_in-k.ensures c.if-row-at.true))
 
 pub close_gap-requires : goal.close_gap-requires
-close_gap-requires c = let z = placed c.args.row.now c.requires.0 c.args.start c.args.below c.args.next c.requires.1 c.if-row-start.false c.place_in-k.result c.place_in-k.ensures in (c.requires.0, z.1)
+close_gap-requires c = let z = placed c.args.row.now c.requires.0 c.args.start c.args.beside.below c.args.beside.next c.requires.1 c.if-row-start.false c.place_in-k.result c.place_in-k.ensures in (c.requires.0, z.1)
 
 pub returns : goal.returns
 returns c =
     let a = c.args in
     let p = c.requires in
     c.close_gap.ensures
-    ∙ ap (row_of base) (sym (one_goes a.row.now p.0 a.start a.below a.next p.1 c.if-row-start.false c.place_in-k.result c.place_in-k.ensures c.if-row-at.false))
+    ∙ ap (row_of base) (sym (one_goes a.row.now p.0 a.start a.beside.below a.beside.next p.1 c.if-row-start.false c.place_in-k.result c.place_in-k.ensures c.if-row-at.false))

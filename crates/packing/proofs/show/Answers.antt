@@ -22,16 +22,14 @@ overflow_sub-row c =
     let l = c.loop-k in
     let a = c.args in
     let e = power_is a.slot c.requires.2 in
-    omega (arith, power_le (get_or l.row (masks_at base + l.k) 0) a.slot (still a.row.now l.row a.slot a.n l.k l.invariant.1 c.requires.3 c.loop-k-test.true))
+    omega (arith, power_le (get_or l.row (masks_at base + l.k) 0) a.slot (still a.row.now l.row a.slot a.n l.k l.invariant c.requires.3 c.loop-k-test.true))
 
 pub loop-k-preserved : goal.loop-k-preserved
 loop-k-preserved c =
     let a = c.args in
     let l = c.loop-k in
     let s = a.slot in
-    let mask = get_or l.row (masks_at base + l.k) 0 in (
-      omega arith,
-      show_step a.row.now l.row s l.k (omega arith) l.invariant.1
-          (ap (λ (w : ℕ). mask - w) (power_is s c.requires.2)
-          ∙ sym (without_is mask s (still a.row.now l.row s a.n l.k l.invariant.1 c.requires.3 c.loop-k-test.true))),
-    )
+    let mask = get_or l.row (masks_at base + l.k) 0 in
+    show_step a.row.now l.row s l.k (omega arith) l.invariant
+    (ap (λ (w : ℕ). mask - w) (power_is s c.requires.2)
+    ∙ sym (without_is mask s (still a.row.now l.row s a.n l.k l.invariant c.requires.3 c.loop-k-test.true)))
