@@ -115,13 +115,13 @@ pub fn note_read(txns: &mut Txns, locks: &Locks, slot: Slot, item: Item)
 }
 
 // A slot leaves the set of the relaxed query in another.
+#[tactic(auto, unfolding(rules::specs::Tables::set_later_for))]
 fn forget_row(txns: &mut Txns, slot: Slot, query: Slot)
     requires { (slot.0 < base.slots) × (query.0 < base.slots) }
     ensures { txns.new ≡ set txns.old (txn_at slot.0 + txn_later_for_at) (without_bit (txn txns.old slot.0).later_for query.0) }
 {
-    let q = query.0;
     let word = rows::later_for(&*txns, slot);
-    rows::set_later_for(txns, slot, word - (((word >> q) % 2) << q));
+    rows::set_later_for(txns, slot, rows::without_bit(word, query));
 }
 
 // Nobody is in the set of the relaxed query in this slot any more.

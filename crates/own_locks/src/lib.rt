@@ -41,10 +41,8 @@ fn unshared(row: LockRow, slot: Slot) -> LockRow
     requires { slot.0 < base.slots }
     ensures { lock_of result ≡ unshared slot.0 (lock_of row) }
 {
-    let s = slot.0;
-    let shared = row.shared - (((row.shared >> s) % 2) << s);
     LockRow {
-        shared,
+        shared: rows::without_bit(row.shared, slot),
         exclusive: row.exclusive,
         working: row.working,
     }
