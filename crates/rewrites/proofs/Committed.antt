@@ -9,7 +9,7 @@ use lib.Dec.{T, eqb}
 use Rattle.names.specs.Sizes.{base}
 use Rattle.names.specs.Layout.{lock_exclusive_at, lock_working_at}
 use Rattle.rules.specs.Words.{row, bit}
-use Rattle.rules.specs.Tables.{version_row, version_words, lock_row, Reader}
+use Rattle.rules.specs.Tables.{version_row, lock_row, Reader}
 use Rattle.rules.specs.Versions.{Version, versions_in, versions_of, stamp_at, hidden_at, row_of, kept, rewritten}
 use Rattle.rules.specs.Tested.{all_read}
 use Rattle.rules.specs.Step.{with_new}
@@ -18,7 +18,7 @@ use Rattle.rules.proofs.Trim.{kept_fixed}
 use Rattle.packing.specs.Changed.{TidyRow, Frontable, fronted}
 use Rattle.packing.proofs.Words.{row_same}
 use Rattle.rewrites.specs.Written.{with_row, claimed, Reading, Committable}
-use Rattle.rewrites.proofs.Table.{so_far, none_yet, all_done, length_so_far, row_so_far, one_more_lem, row_back}
+use Rattle.rewrites.proofs.Table.{so_far, none_yet, all_done, row_so_far, one_more_lem, row_back}
 use Rattle.rewrites.proofs.Kept.{front_kept, front_room, claimed_is}
 
 -- the rows of cur below i
@@ -37,9 +37,6 @@ module _
 
     is : cur ≡ so_far p.readers new v i
     is = f p.readers p.reading
-
-    pub committed-size : i ≤ base.items → length cur ≡ version_words base
-    committed-size h = ap length is ∙ length_so_far p.readers new v p.reading.few p.tidy.size i h
 
     pub all_committed :
         i ≤ base.items → base.items ≤ i → (qs : List Reader) → Reading v qs stamp hidden below → cur ≡ rewritten base qs (with_new l s stamp hidden) v

@@ -9,7 +9,7 @@ use lib.ListN.{length, get_or}
 use lib.Dec.{T, eqb, le→leb}
 use Rattle.names.specs.Sizes.{base}
 use Rattle.rules.specs.Words.{row}
-use Rattle.rules.specs.Tables.{version_row, version_words, Reader, up_to}
+use Rattle.rules.specs.Tables.{version_row, Reader, up_to}
 use Rattle.rules.specs.Versions.{Version, no_version, versions_in, versions_of, stamp_at, sees, place, read_by_some, row_of, kept, rewritten}
 use Rattle.rules.proofs.Tests.{or_left, or_right, is_true, eq_make}
 use Rattle.rules.proofs.Counts.{some_mem}
@@ -20,7 +20,7 @@ use Rattle.starts.specs.Ordered.{guard}
 use Rattle.packing.specs.Changed.{TidyRow, left_by}
 use Rattle.packing.proofs.Words.{row_same}
 use Rattle.rewrites.specs.Written.{with_row, Staying, Leavable}
-use Rattle.rewrites.proofs.Table.{so_far, none_yet, all_done, length_so_far, row_so_far, one_more_lem, rows_same}
+use Rattle.rewrites.proofs.Table.{so_far, none_yet, all_done, row_so_far, one_more_lem, rows_same}
 use Rattle.rewrites.proofs.Kept.{left-kept}
 
 abbrev same : ℕ → List Version → List Version
@@ -36,9 +36,6 @@ none_forgotten v s below next = λ qs k. sym (none_yet qs same v)
 module _ (v : List ℕ) (s below next : ℕ) (p : Leavable v s below next) (cur : List ℕ) (i : ℕ) (f : Forgotten v s below next cur i) where
   is : cur ≡ so_far p.readers same v i
   is = f p.readers p.staying
-
-  pub forgotten-size : i ≤ base.items → length cur ≡ version_words base
-  forgotten-size h = ap length is ∙ length_so_far p.readers same v p.staying.few p.tidy.size i h
 
   pub all_forgotten :
       i ≤ base.items → base.items ≤ i → (qs : List Reader) → Staying v qs s below next → cur ≡ rewritten base qs (λ x vs. vs) v

@@ -6,12 +6,12 @@ use native.Mathlib.Omega.{arith}
 use lib.ListN.{length}
 use Rattle.names.specs.Sizes.{base}
 use Rattle.rules.specs.Words.{row}
-use Rattle.rules.specs.Tables.{version_row, version_words, Reader, outside}
+use Rattle.rules.specs.Tables.{version_row, Reader, outside}
 use Rattle.rules.specs.Versions.{Version, versions_in, versions_of, place, row_of, kept, rewritten, revealed}
 use Rattle.rules.proofs.Choice.{Falls, Nests}
 use Rattle.packing.specs.Changed.{TidyRow, shown_to}
 use Rattle.rewrites.specs.Written.{with_row, Showing, Revealable}
-use Rattle.rewrites.proofs.Table.{so_far, none_yet, all_done, length_so_far, row_so_far, one_more_lem}
+use Rattle.rewrites.proofs.Table.{so_far, none_yet, all_done, row_so_far, one_more_lem}
 use Rattle.rewrites.proofs.Kept.{shown-kept}
 
 abbrev shown : ℕ → ℕ → List Version → List Version
@@ -27,9 +27,6 @@ none_shown v s q = λ qs k. sym (none_yet qs (shown s) v)
 module _ (v : List ℕ) (s : ℕ) (q : List ℕ) (p : Revealable v s q) (cur : List ℕ) (i : ℕ) (f : ShownTo v s q cur i) where
   is : cur ≡ so_far p.readers (shown s) v i
   is = f p.readers p.showing
-
-  pub shown-size : i ≤ base.items → length cur ≡ version_words base
-  shown-size h = ap length is ∙ length_so_far p.readers (shown s) v p.showing.few p.tidy.size i h
 
   pub all_shown :
       i ≤ base.items → base.items ≤ i → (qs : List Reader) → Showing v qs s q → cur ≡ rewritten base qs (λ x vs. revealed s vs) v

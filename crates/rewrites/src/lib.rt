@@ -7,52 +7,50 @@
 ghost use Rattle.std.specs.Prelude.{◌≡◌, true, cond, List, ℕ, ◌<◌, length};
 ghost use Rattle.names.specs.Sizes.{base};
 ghost use Rattle.rules.specs.Words.{row};
-ghost use Rattle.rules.specs.Tables.{version_row, version_words, Reader, up_to, outside};
+ghost use Rattle.rules.specs.Tables.{version_row, Reader, up_to, outside};
 ghost use Rattle.rules.specs.Versions.{versions_in, row_of, place, rewritten, revealed};
 ghost use Rattle.rules.specs.Step.{with_new};
-ghost use Rattle.starts.specs.Ordered.{lanes};
 ghost use Rattle.packing.specs.Changed.{TidyRow, Frontable, fronted, left_by, shown_to};
 ghost use Rattle.rewrites.specs.Written.{with_row, Staying, Leavable, Showing, Revealable, Reading, Committable};
 
-use names::{LOCK_EXCLUSIVE_AT, LOCK_ROW, LOCK_WORKING_AT, Slot, Stamp, VERSION_ROW};
-use packing::{forget, put_front, reveal};
-use starts::Neighbours;
+use names::{
+    LOCK_EXCLUSIVE_AT, LOCK_ROW, LOCK_WORKING_AT, Locks, Slot, Stamp, VERSION_ROW, Versions,
+};
+use packing::{Version, forget, put_front, reveal};
+use starts::{LANES, Neighbours};
 
 const ROWS: usize = names::ITEMS as usize;
 
 // Lends the row of item x to forget.
-fn forget_item(versions: &mut [u64], x: usize, start: u64, below: u64, next: u64)
-    requires { (length versions.old ≡ version_words base) × (x < base.items) × TidyRow (row (version_row base) x versions.old) × (place (up_to start) (versions_in base (row (version_row base) x versions.old)) < length (versions_in base (row (version_row base) x versions.old))) }
-    ensures { versions.new ≡ with_row x (row_of base (left_by start below next (versions_in base (row (version_row base) x versions.old)))) versions.old }
+fn forget_item(versions: &mut Versions, x: usize, start: u64, beside: Neighbours)
+    requires { (x < base.items) × TidyRow (row (version_row base) x versions.old) × (place (up_to start) (versions_in base (row (version_row base) x versions.old)) < length (versions_in base (row (version_row base) x versions.old))) }
+    ensures { versions.new ≡ with_row x (row_of base (left_by start beside.below beside.next (versions_in base (row (version_row base) x versions.old)))) versions.old }
 {
     let a = VERSION_ROW * x;
     let e = a + VERSION_ROW;
-    forget(&mut versions[a..e], start, below, next);
+    forget(&mut versions[a..e], start, beside);
 }
 
 // One who read by this start has left, and these are its neighbours among those who stay: what it
 // alone read goes from every row.
-pub fn forget_all(versions: &mut [u64], start: Stamp, beside: Neighbours)
+pub fn forget_all(versions: &mut Versions, start: Stamp, beside: Neighbours)
     requires { Leavable versions.old start.0 beside.below beside.next }
     ensures { (qs : List Reader) → Staying versions.old qs start.0 beside.below beside.next → versions.new ≡ rewritten base qs (λ x vs. vs) versions.old }
 {
     let start = start.0;
-    let below = beside.below;
-    let next = beside.next;
+    let Neighbours { below, next } = beside;
     // another reads by the very same start, so that nothing goes
     if next == start {
         return;
     }
-    let mut i: usize = 0;
-    while i < ROWS {
-        forget_item(versions, i, start, below, next);
-        i += 1;
+    for i in 0..ROWS {
+        forget_item(versions, i, start, beside);
     }
 }
 
 // Lends the row of item x to reveal.
-fn reveal_item(versions: &mut [u64], x: usize, slot: u64, starts: &[u64])
-    requires { (length versions.old ≡ version_words base) × (x < base.items) × TidyRow (row (version_row base) x versions.old) × (slot < base.slots) × (place (outside slot) (versions_in base (row (version_row base) x versions.old)) < length (versions_in base (row (version_row base) x versions.old))) × (length starts.now ≡ lanes) }
+fn reveal_item(versions: &mut Versions, x: usize, slot: u64, starts: &[u64; LANES])
+    requires { (x < base.items) × TidyRow (row (version_row base) x versions.old) × (slot < base.slots) × (place (outside slot) (versions_in base (row (version_row base) x versions.old)) < length (versions_in base (row (version_row base) x versions.old))) }
     ensures { versions.new ≡ with_row x (row_of base (shown_to slot starts.now (versions_in base (row (version_row base) x versions.old)))) versions.old }
 {
     let a = VERSION_ROW * x;
@@ -62,36 +60,26 @@ fn reveal_item(versions: &mut [u64], x: usize, slot: u64, starts: &[u64])
 
 // The relaxed query in this slot has left, and these are the starts of those who stay, in order:
 // nothing is hidden from it any more, and what it alone read goes from every row.
-pub fn reveal_all(versions: &mut [u64], slot: Slot, starts: &[u64])
+pub fn reveal_all(versions: &mut Versions, slot: Slot, starts: &[u64; LANES])
     requires { Revealable versions.old slot.0 starts.now }
     ensures { (qs : List Reader) → Showing versions.old qs slot.0 starts.now → versions.new ≡ rewritten base qs (λ x vs. revealed slot.0 vs) versions.old }
 {
     let slot = slot.0;
-    let mut i: usize = 0;
-    while i < ROWS {
+    for i in 0..ROWS {
         reveal_item(versions, i, slot, starts);
-        i += 1;
     }
 }
 
 // The row of item x at a commit: lent to put_front if it gets a new version. One that gets none is
 // trimmed already, so it stays.
-fn commit_item(
-    versions: &mut [u64],
-    x: usize,
-    new: bool,
-    below: u64,
-    stamp: u64,
-    value: u64,
-    hidden: u64,
-)
-    requires { (length versions.old ≡ version_words base) × (x < base.items) × (new ≡ true → Frontable (row (version_row base) x versions.old) below stamp value hidden) }
-    ensures { versions.new ≡ cond new (with_row x (row_of base (fronted below (record { stamp = stamp; value = value; hidden = hidden }) (versions_in base (row (version_row base) x versions.old)))) versions.old) versions.old }
+fn commit_item(versions: &mut Versions, x: usize, new: bool, below: u64, version: Version)
+    requires { (x < base.items) × (new ≡ true → Frontable (row (version_row base) x versions.old) below version.stamp version.value version.hidden) }
+    ensures { versions.new ≡ cond new (with_row x (row_of base (fronted below (record { stamp = version.stamp; value = version.value; hidden = version.hidden }) (versions_in base (row (version_row base) x versions.old)))) versions.old) versions.old }
 {
     if new {
         let a = VERSION_ROW * x;
         let e = a + VERSION_ROW;
-        put_front(&mut versions[a..e], below, stamp, value, hidden);
+        put_front(&mut versions[a..e], below, version);
     }
 }
 
@@ -99,8 +87,8 @@ fn commit_item(
 // holds exclusively go in front, under the new stamp, hidden from the relaxed queries in whose sets it
 // is. below is one more than the greatest start below that stamp.
 pub fn commit_all(
-    versions: &mut [u64],
-    locks: &[u64],
+    versions: &mut Versions,
+    locks: &Locks,
     slot: Slot,
     stamp: Stamp,
     hidden: u64,
@@ -111,18 +99,13 @@ pub fn commit_all(
 {
     let owner = slot.0 + 1;
     let stamp = stamp.0;
-    let mut i: usize = 0;
-    while i < ROWS {
+    for i in 0..ROWS {
         let new = locks[LOCK_ROW * i + LOCK_EXCLUSIVE_AT] == owner;
-        commit_item(
-            versions,
-            i,
-            new,
-            below,
+        let version = Version {
             stamp,
-            locks[LOCK_ROW * i + LOCK_WORKING_AT],
+            value: locks[LOCK_ROW * i + LOCK_WORKING_AT],
             hidden,
-        );
-        i += 1;
+        };
+        commit_item(versions, i, new, below, version);
     }
 }

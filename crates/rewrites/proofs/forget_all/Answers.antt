@@ -1,5 +1,4 @@
-use native.Mathlib.Omega.{arith}
-use Rattle.rewrites.proofs.Forgotten.{none_forgotten, forgotten-size, next-tidy, next-found, one_forgotten, all_forgotten, none_goes}
+use Rattle.rewrites.proofs.Forgotten.{none_forgotten, next-tidy, next-found, one_forgotten, all_forgotten, none_goes}
 use Rattle.rewrites.proofs.forget_all.Goals as goal
 
 pub returns-then-next-start : goal.returns-then-next-start
@@ -8,17 +7,16 @@ returns-then-next-start c =
     none_goes a.versions.now a.start.0 a.beside.below a.beside.next c.requires c.if-next-start.true
 
 pub loop-i-init : goal.loop-i-init
-loop-i-init c = (omega arith, none_forgotten _ _ _ _)
+loop-i-init c = none_forgotten _ _ _ _
 
 pub forget_item-requires : goal.forget_item-requires
 forget_item-requires c =
     let a = c.args in
     let l = c.loop-i in
     let h = c.loop-i-test.true in (
-      forgotten-size a.versions.now a.start.0 a.beside.below a.beside.next c.requires l.versions l.i l.invariant.1 l.invariant.0,
       h,
-      next-tidy a.versions.now a.start.0 a.beside.below a.beside.next c.requires l.versions l.i l.invariant.1 h,
-      next-found a.versions.now a.start.0 a.beside.below a.beside.next c.requires l.versions l.i l.invariant.1 h,
+      next-tidy a.versions.now a.start.0 a.beside.below a.beside.next c.requires l.versions l.i l.invariant h,
+      next-found a.versions.now a.start.0 a.beside.below a.beside.next c.requires l.versions l.i l.invariant h,
     )
 
 pub loop-i-preserved : goal.loop-i-preserved
@@ -26,10 +24,10 @@ loop-i-preserved c =
     let a = c.args in
     let p = c.requires in
     let l = c.loop-i in
-    (omega arith, one_forgotten a.versions.now a.start.0 a.beside.below a.beside.next p l.versions l.i l.invariant.1 c.loop-i-test.true c.forget_item.ensures)
+    one_forgotten a.versions.now a.start.0 a.beside.below a.beside.next p l.versions l.i l.invariant c.loop-i-test.true c.forget_item.ensures
 
 pub returns : goal.returns
 returns c =
     let a = c.args in
     let l = c.loop-i in
-    all_forgotten a.versions.now a.start.0 a.beside.below a.beside.next c.requires l.versions l.i l.invariant.1 l.invariant.0 c.loop-i-test.false
+    all_forgotten a.versions.now a.start.0 a.beside.below a.beside.next c.requires l.versions l.i l.invariant c.loop-i.auto.i-end c.loop-i-test.false

@@ -14,7 +14,7 @@ pub forget-requires : goal.forget-requires
 forget-requires c =
     let a = c.args in
     let p = c.requires in
-    subst (λ (r : List ℕ). TidyRow r × (place (up_to a.start) (versions_in base r) < length (versions_in base r))) (sym (lent a.x a.versions.now)) (p.2, p.3)
+    subst (λ (r : List ℕ). TidyRow r × (place (up_to a.start) (versions_in base r) < length (versions_in base r))) (sym (lent a.x a.versions.now)) (p.1, p.2)
 
 pub returns : goal.returns
 returns c =
@@ -22,5 +22,5 @@ returns c =
     let v = a.versions.now in
     let w = version_row base * a.x in
     ap₂ (λ (ys : List ℕ) (n : ℕ). take w v ++ (ys ++ drop n (drop w v)))
-    (c.forget.ensures ∙ ap (λ (r : List ℕ). row_of base (left_by a.start a.below a.next (versions_in base r))) (lent a.x v))
+    (c.forget.ensures ∙ ap (λ (r : List ℕ). row_of base (left_by a.start a.beside.below a.beside.next (versions_in base r))) (lent a.x v))
     (wide a.x)

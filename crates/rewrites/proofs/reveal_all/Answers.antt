@@ -1,9 +1,8 @@
-use native.Mathlib.Omega.{arith}
-use Rattle.rewrites.proofs.Shown.{none_shown, shown-size, next-tidy, next-found, one_shown, all_shown}
+use Rattle.rewrites.proofs.Shown.{none_shown, next-tidy, next-found, one_shown, all_shown}
 use Rattle.rewrites.proofs.reveal_all.Goals as goal
 
 pub loop-i-init : goal.loop-i-init
-loop-i-init c = (omega arith, none_shown _ _ _)
+loop-i-init c = none_shown _ _ _
 
 pub reveal_item-requires : goal.reveal_item-requires
 reveal_item-requires c =
@@ -11,22 +10,20 @@ reveal_item-requires c =
     let p = c.requires in
     let l = c.loop-i in
     let h = c.loop-i-test.true in (
-      shown-size a.versions.now a.slot.0 a.starts.now c.requires l.versions l.i l.invariant.1 l.invariant.0,
       h,
-      next-tidy a.versions.now a.slot.0 a.starts.now p l.versions l.i l.invariant.1 h,
+      next-tidy a.versions.now a.slot.0 a.starts.now p l.versions l.i l.invariant h,
       p.inside,
-      next-found a.versions.now a.slot.0 a.starts.now p l.versions l.i l.invariant.1 h,
-      p.wide,
+      next-found a.versions.now a.slot.0 a.starts.now p l.versions l.i l.invariant h,
     )
 
 pub loop-i-preserved : goal.loop-i-preserved
 loop-i-preserved c =
     let a = c.args in
     let l = c.loop-i in
-    (omega arith, one_shown a.versions.now a.slot.0 a.starts.now c.requires l.versions l.i l.invariant.1 c.loop-i-test.true c.reveal_item.ensures)
+    one_shown a.versions.now a.slot.0 a.starts.now c.requires l.versions l.i l.invariant c.loop-i-test.true c.reveal_item.ensures
 
 pub returns : goal.returns
 returns c =
     let a = c.args in
     let l = c.loop-i in
-    all_shown a.versions.now a.slot.0 a.starts.now c.requires l.versions l.i l.invariant.1 l.invariant.0 c.loop-i-test.false
+    all_shown a.versions.now a.slot.0 a.starts.now c.requires l.versions l.i l.invariant c.loop-i.auto.i-end c.loop-i-test.false

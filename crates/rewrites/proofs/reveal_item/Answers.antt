@@ -1,5 +1,5 @@
 -- The part that is lent is the item's row, and it comes back rewritten.
-use mathlib.Core.Path.{◌≡◌, sym, ap, ap₂, ◌∙◌, subst}
+use mathlib.Core.Path.{sym, ap, ap₂, ◌∙◌, subst}
 use Prim.Native.Nat.{ℕ, ◌*◌, ◌<◌}
 use mathlib.Core.List.{List, ◌++◌}
 use lib.ListN.{length, take, drop}
@@ -7,7 +7,6 @@ use Rattle.names.specs.Sizes.{base}
 use Rattle.rules.specs.Tables.{version_row, outside}
 use Rattle.rules.specs.Versions.{versions_in, row_of, place}
 use Rattle.packing.specs.Changed.{TidyRow, shown_to}
-use Rattle.starts.specs.Ordered.{lanes}
 use Rattle.choices.proofs.Lent.{wide, lent}
 use Rattle.rewrites.proofs.reveal_item.Goals as goal
 
@@ -16,9 +15,9 @@ reveal-requires c =
     let a = c.args in
     let p = c.requires in
     subst
-    (λ (r : List ℕ). TidyRow r × (a.slot < base.slots) × (place (outside a.slot) (versions_in base r) < length (versions_in base r)) × (length a.starts.now ≡ lanes))
+    (λ (r : List ℕ). TidyRow r × (a.slot < base.slots) × (place (outside a.slot) (versions_in base r) < length (versions_in base r)))
     (sym (lent a.x a.versions.now))
-    (p.2, p.3, p.4, p.5)
+    (p.1, p.2, p.3)
 
 pub returns : goal.returns
 returns c =
