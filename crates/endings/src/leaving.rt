@@ -4,49 +4,40 @@ ghost use Rattle.names.specs.Sizes.{base};
 ghost use Rattle.rules.specs.Tables.{txn, by_start, live_relaxed, any_query};
 ghost use Rattle.endings.specs.Asked.{Trimmed, Gone, QueryGone};
 
-use names::{RELAXED_KIND, Slot, Stamp};
+use names::{RELAXED_KIND, Slot, Stamp, Txns, Versions};
+use starts::Neighbours;
 
-// The start of one who left, and the neighbours of that start among those that stay.
-#[derive(Clone, Copy)]
-pub struct Left {
-    pub start: Stamp,
-    pub below: u64,
-    pub next: u64,
-}
-
-// Its row goes, and the versions go that none but it read.
-pub fn leaves(txns: &mut [u64], versions: &mut [u64], slot: Slot) -> Left
+// Its row goes, and the versions go that none but it read. Answered are its start, and the neighbours of
+// that start among those that stay.
+pub fn leaves(txns: &mut Txns, versions: &mut Versions, slot: Slot) -> (Stamp, Neighbours)
     requires { Trimmed txns.old versions.old × (slot.0 < base.slots) × T (by_start (txn txns.old slot.0)) }
-    ensures { Gone txns.old versions.old slot.0 txns.new versions.new result.start.0 result.below result.next }
+    ensures { Gone txns.old versions.old slot.0 txns.new versions.new result.0.0 result.1.below result.1.next }
 {
-    let start = rows::start(&txns[..], slot);
+    let start = rows::start(txns, slot);
     rows::leave(txns, slot);
-    let beside = starts::beside(&txns[..], start.0);
-    let below = beside.below;
-    let next = beside.next;
+    let beside = starts::beside(txns, start.0);
     rewrites::forget_all(versions, start, beside);
-    Left { start, below, next }
+    (start, beside)
 }
 
 // A relaxed query leaves: nobody is in its set any more, its row goes, nothing is hidden from it, and
 // the versions go that none but it read.
-fn relaxed_leaves(txns: &mut [u64], versions: &mut [u64], query: Slot)
+fn relaxed_leaves(txns: &mut Txns, versions: &mut Versions, query: Slot)
     requires { Trimmed txns.old versions.old × (query.0 < base.slots) × T (live_relaxed (txn txns.old query.0)) }
     ensures { QueryGone txns.old versions.old query.0 txns.new versions.new }
 {
     notes::forget(txns, query);
     rows::leave(txns, query);
-    let staying = starts::starts_in_order(&txns[..]);
+    let staying = starts::starts_in_order(txns);
     rewrites::reveal_all(versions, query, &staying);
 }
 
 // A query of either kind leaves. One that reads by a start has no set, and nothing is hidden from it.
-pub fn query_leaves(txns: &mut [u64], versions: &mut [u64], query: Slot)
+pub fn query_leaves(txns: &mut Txns, versions: &mut Versions, query: Slot)
     requires { Trimmed txns.old versions.old × (query.0 < base.slots) × T (any_query (txn txns.old query.0)) }
     ensures { QueryGone txns.old versions.old query.0 txns.new versions.new }
 {
-    let kind = rows::kind(&txns[..], query);
-    if kind == RELAXED_KIND {
+    if rows::kind(txns, query) == RELAXED_KIND {
         relaxed_leaves(txns, versions, query);
     } else {
         leaves(txns, versions, query);

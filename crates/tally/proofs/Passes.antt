@@ -8,9 +8,6 @@ pub record Passed (words others : List ℕ) (n k : ℕ) : Type 0 where
   pub few : n ≤ k
   pub rest : n + differing (drop k words) (drop k others) ≡ differing words others
 
-pub none_passed : (words others : List ℕ) → Passed words others 0 0
-none_passed words others = record { within = omega arith; few = omega arith; rest = omega arith }
-
 -- whether a word counts
 abbrev one : ℕ → ℕ → ℕ
 one x y = cond (eqb x y) 0 1

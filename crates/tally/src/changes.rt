@@ -6,7 +6,7 @@ ghost use Rattle.tally.specs.Counts.{differing};
 pub fn word(words: &[u64], at: usize) -> u64
     ensures { result ≡ slice_index words.now at }
 {
-    if at < words.len() { words[at] } else { 0 }
+    words.get(at).copied().unwrap_or(0)
 }
 
 // Sets a word, and none beyond the end.
@@ -23,13 +23,11 @@ pub fn differing(words: &[u64], others: &[u64]) -> usize
     ensures value { result ≡ differing words.now others.now }
     ensures upper_bound { result ≤ length words.now }
 {
-    let mut n: usize = 0;
-    let mut k: usize = 0;
-    while k < words.len() {
-        if words[k] != word(others, k) {
+    let mut n = 0;
+    for (k, x) in words.iter().enumerate() {
+        if *x != word(others, k) {
             n += 1;
         }
-        k += 1;
     }
     n
 }
@@ -45,8 +43,7 @@ pub fn changed<'a>(
 ) -> usize
     ensures { result ≡ differing txns.now other_txns.now + differing locks.now other_locks.now + differing versions.now other_versions.now }
 {
-    let t = differing(txns, other_txns);
-    let l = differing(locks, other_locks);
-    let v = differing(versions, other_versions);
-    t + l + v
+    differing(txns, other_txns)
+        + differing(locks, other_locks)
+        + differing(versions, other_versions)
 }

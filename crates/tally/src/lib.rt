@@ -12,4 +12,4 @@ mod tally;
 pub use changes::{changed, differing, put, word};
 pub use noted::note;
 pub use score::Score;
-pub use tally::{REFUSED, Tally, WAIT, as_expected, equal};
+pub use tally::{REFUSED, Tally, WAIT, as_expected};

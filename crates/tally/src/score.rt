@@ -5,7 +5,7 @@ ghost use Rattle.tally.specs.Counts.{scored as score·scored};
 use crate::tally::more;
 
 // How many calls answered as they must, and how many words all of them changed.
-#[derive(Clone, Copy)]
+#[derive(Clone, Copy, Default)]
 pub struct Score {
     pub calls: u64,
     pub changed: u64,
@@ -16,10 +16,9 @@ impl Score {
     pub fn plus(self, ok: bool, changed: u64) -> Score
         ensures { result ≡ score·scored self ok changed }
     {
-        let calls = if ok { more(self.calls) } else { self.calls };
         Score {
-            calls,
-            changed: std::num::wrapping_add_u64(self.changed, changed),
+            calls: if ok { more(self.calls) } else { self.calls },
+            changed: self.changed.wrapping_add(changed),
         }
     }
 }

@@ -1,6 +1,6 @@
 // The count of what was tried, and of what was as expected.
 ghost use Rattle.std.specs.Prelude.{◌≡◌};
-ghost use Rattle.tally.specs.Counts.{same, as_expected};
+ghost use Rattle.tally.specs.Counts.{as_expected};
 ghost use Rattle.tally.specs.Counts.{more as one·more, counted as tally·counted};
 
 use names::Answer;
@@ -14,7 +14,7 @@ const GRANTED: u64 = 0;
 
 // The trial that is played, the number of its next step, and how many steps of all trials were
 // tried and were as expected.
-#[derive(Clone, Copy)]
+#[derive(Clone, Copy, Default)]
 pub struct Tally {
     pub letter: u8,
     pub step: u64,
@@ -25,30 +25,19 @@ pub struct Tally {
 pub fn more(n: u64) -> u64
     ensures { result ≡ one·more n }
 {
-    std::num::wrapping_add_u64(n, 1)
-}
-
-pub fn equal(a: Answer, b: Answer) -> bool
-    ensures { result ≡ same a b }
-{
-    (a.code == b.code) & (a.value == b.value) & (a.number == b.number) & (a.looked == b.looked)
+    n.wrapping_add(1)
 }
 
 // Whether an answer is the expected one, and but for a grant no word is other than it must be.
 pub fn as_expected(found: Answer, others: u64, wanted: Answer) -> bool
     ensures { result ≡ as_expected found others wanted }
 {
-    equal(found, wanted) & ((wanted.code == GRANTED) | (others == 0))
+    (found == wanted) & ((wanted.code == GRANTED) | (others == 0))
 }
 
 impl Tally {
     pub fn new() -> Tally {
-        Tally {
-            letter: 0,
-            step: 0,
-            tried: 0,
-            right: 0,
-        }
+        Tally::default()
     }
 
     // A trial begins.
@@ -56,8 +45,7 @@ impl Tally {
         Tally {
             letter,
             step: 1,
-            tried: self.tried,
-            right: self.right,
+            ..self
         }
     }
 
@@ -65,12 +53,11 @@ impl Tally {
     pub fn counted(self, ok: bool) -> Tally
         ensures { result ≡ tally·counted self ok }
     {
-        let right = if ok { more(self.right) } else { self.right };
         Tally {
-            letter: self.letter,
             step: more(self.step),
             tried: more(self.tried),
-            right,
+            right: if ok { more(self.right) } else { self.right },
+            ..self
         }
     }
 }
