@@ -1,8 +1,8 @@
 -- What the numbers of a case give: its tables and their lengths.
 use Prim.Native.Nat.{ℕ, ◌+◌, ◌-◌, ◌*◌, ◌<◌, ◌≤◌}
-use mathlib.Core.Path.{◌≡◌, refl, ap}
+use mathlib.Core.Path.{◌≡◌, refl}
 use mathlib.Core.Bool.{Bool, true, false, ◌&&◌}
-use mathlib.Core.List.{List, [], ◌∷◌}
+use mathlib.Core.List.{List}
 use native.Mathlib.Omega.{arith}
 use lib.Dec.{eqb, leb}
 use lib.ListN.{length, take, drop, get_or}
@@ -11,10 +11,6 @@ use Rattle.rules.specs.Tables.{tables}
 use Rattle.call_words.specs.Calls.{known_kind}
 use Rattle.numerals.proofs.Scans.{and_left, and_right}
 use Rattle.cases.specs.Cases.{head_numbers, txns_room, locks_room, versions_room, number_bytes, longest_answer, tables_of, txns_length, locks_length, versions_length, is_case, Fits}
-
-pub take_all : (l : List ℕ) → take (length l) l ≡ l
-take_all [] = refl
-take_all (x ∷ l) = ap (λ (m : List ℕ). x ∷ m) (take_all l)
 
 -- ---- the test
 

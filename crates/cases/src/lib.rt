@@ -23,17 +23,6 @@ pub const LOCKS: usize = names::LOCK_WORDS + OVER;
 
 pub const VERSIONS: usize = names::VERSION_WORDS + OVER;
 
-fn copy(from: &[u64], to: &mut [u64])
-    requires { length from.now ≡ length to.old }
-    ensures { to.new ≡ from.now }
-{
-    let mut i: usize = 0;
-    while i < to.len() {
-        to[i] = from[i];
-        i += 1;
-    }
-}
-
 // Whether the numbers are a case: a kind, and as many words as the lengths say.
 pub fn is_case(numbers: &[u64]) -> bool
     ensures { result ≡ is_case numbers.now }
@@ -64,18 +53,14 @@ pub fn made(numbers: &[u64], txns: &mut [u64], locks: &mut [u64], versions: &mut
 {
     let b = HEAD + txns.len();
     let c = b + locks.len();
-    copy(&numbers[HEAD..b], txns);
-    copy(&numbers[b..c], locks);
-    copy(&numbers[c..], versions);
-    let kind = numbers[0];
-    let number = numbers[1];
-    let item = numbers[2];
-    let value = numbers[3];
+    txns.copy_from_slice(&numbers[HEAD..b]);
+    locks.copy_from_slice(&numbers[b..c]);
+    versions.copy_from_slice(&numbers[c..]);
     let call = call_words::call_in(Fields {
-        kind,
-        number,
-        item,
-        value,
+        kind: numbers[0],
+        number: numbers[1],
+        item: numbers[2],
+        value: numbers[3],
     });
     keeper::call(call, txns, locks, versions)
 }

@@ -15,7 +15,7 @@ ghost use Rattle.running.specs.Life.{state_of, born, replies_in, after_piece, re
 use crate::pieces::answer_piece;
 use crate::replies::respond;
 use lines::Lines;
-use names::{LOCK_WORDS, TXN_WORDS, VERSION_WORDS};
+use names::{LOCK_WORDS, Locks, TXN_WORDS, Txns, VERSION_WORDS, Versions};
 
 // The longest reply. A line takes a byte of the input at least, so as many times the length of a
 // piece is room for its replies.
@@ -24,9 +24,9 @@ pub const LONGEST_REPLY: usize = 84;
 #[derive(Drop)]
 pub struct Runner {
     lines: Lines,
-    txns: [u64; TXN_WORDS],
-    locks: [u64; LOCK_WORDS],
-    versions: [u64; VERSION_WORDS],
+    txns: Txns,
+    locks: Locks,
+    versions: Versions,
 }
 
 // What a piece leaves: the runner, and how many bytes are put out.
@@ -40,9 +40,9 @@ impl Runner {
     pub fn new() -> Runner
         ensures { state_of result ≡ born }
     {
-        let mut txns = [0u64; TXN_WORDS];
-        let mut locks = [0u64; LOCK_WORDS];
-        let mut versions = [0u64; VERSION_WORDS];
+        let mut txns = [0; TXN_WORDS];
+        let mut locks = [0; LOCK_WORDS];
+        let mut versions = [0; VERSION_WORDS];
         fresh::fresh(&mut txns, &mut locks, &mut versions);
         let lines = Lines::new();
         Runner {

@@ -8,6 +8,7 @@ ghost use Rattle.running.specs.Life.{state, replies_in, after_piece};
 
 use crate::replies::respond;
 use lines::Lines;
+use names::{Locks, Txns, Versions};
 
 // The line that is not ended yet, and how many bytes of replies.
 #[derive(Drop)]
@@ -19,9 +20,9 @@ pub(crate) struct Answered {
 pub(crate) fn answer_piece(
     lines: Lines,
     piece: &[u8],
-    txns: &mut [u64],
-    locks: &mut [u64],
-    versions: &mut [u64],
+    txns: &mut Txns,
+    locks: &mut Locks,
+    versions: &mut Versions,
     out: &mut [u8],
 ) -> Answered
     requires { longest_reply * length piece.now ≤ length out.old }
@@ -34,14 +35,16 @@ pub(crate) fn answer_piece(
     let mut at: usize = 0;
     while at < piece.len() {
         let next = held.next(piece, at);
-        held = next.lines;
-        if next.ended {
-            at = next.at;
-            used = respond(script::read_as(held), txns, locks, versions, out, used);
-            held = Lines::new();
-        } else {
-            at = piece.len();
-        }
+        let Some(end) = next.at else {
+            return Answered {
+                lines: next.lines,
+                used,
+            };
+        };
+        let parsed = script::read_as(next.lines);
+        used = respond(parsed, txns, locks, versions, out, used);
+        held = Lines::new();
+        at = end;
     }
     Answered { lines: held, used }
 }

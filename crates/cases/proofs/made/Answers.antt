@@ -10,5 +10,5 @@ pub returns : goal.returns
 unfolding call_of
 returns c =
     let a = c.args in
-    let f = filled a.numbers.now a.txns.now a.locks.now a.versions.now c.requires c.copy.ensures c.copy-2.ensures c.copy-3.ensures in
+    let f = filled a.numbers.now a.txns.now a.locks.now a.versions.now c.requires c.copy_from_slice.ensures.after c.copy_from_slice-2.ensures.after c.copy_from_slice-3.ensures.after in
     c.call.ensures ∙ (λ i. step base (c.call_in-call.ensures i) (f i))
