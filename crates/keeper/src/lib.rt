@@ -12,16 +12,26 @@ ghost use Rattle.rules.specs.Tables.{tables};
 ghost use Rattle.rules.specs.Answers.{outcome, BeginUpdate, BeginQuery, Read, Write, Commit, Abort, Settle, BeginRelaxed};
 ghost use Rattle.rules.specs.Step.{step};
 
-use names::{Answer, Refusal};
+use names::{Answer, LOCK_WORDS, Refusal, TXN_WORDS, VERSION_WORDS};
 
 // Makes a call.
 pub fn call(call: names::Call, txns: &mut [u64], locks: &mut [u64], versions: &mut [u64]) -> Answer
     ensures { outcome result txns.new locks.new versions.new ≡ step base call (tables txns.old locks.old versions.old) }
 {
-    if !tables::good(&txns[..], &locks[..], &versions[..]) {
+    if !tables::good(txns, locks, versions) {
         return Answer::refused(Refusal::BadTables);
     }
-    let deed = judged::judged(call, &txns[..], &locks[..], &versions[..]);
+    // Good tables have their sizes.
+    let Some(txns) = txns.as_mut_array::<TXN_WORDS>() else {
+        unreachable!();
+    };
+    let Some(locks) = locks.as_mut_array::<LOCK_WORDS>() else {
+        unreachable!();
+    };
+    let Some(versions) = versions.as_mut_array::<VERSION_WORDS>() else {
+        unreachable!();
+    };
+    let deed = judged::judged(call, txns, locks, versions);
     done::done(deed, txns, locks, versions)
 }
 

@@ -22,25 +22,25 @@ waits-requires c =
 pub begins-requires : goal.begins-requires
 begins-requires c =
     let G = tables c.args.txns.now c.args.locks.now c.args.versions.now in
-    (c.requires.0.txns_exact, able G c.requires.1 c.in-Begins.is, c.requires.0.last_most)
+    (able G c.requires.1 c.in-Begins.is, c.requires.0.last_most)
 
 pub version-requires : goal.version-requires
 version-requires c =
     let G = tables c.args.txns.now c.args.locks.now c.args.versions.now in
     let a = able G c.requires.1 c.in-ReadsVersion.is in
-    (c.requires.0.txns_exact, c.requires.0.locks_exact, a.0, a.1, holder_inside G c.requires.0 _ a.1, good-found G c.requires.0 _ _ a.1 a.0 a.2)
+    (a.0, a.1, holder_inside G c.requires.0 _ a.1, good-found G c.requires.0 _ _ a.1 a.0 a.2)
 
 pub own-requires : goal.own-requires
 own-requires c =
     let G = tables c.args.txns.now c.args.locks.now c.args.versions.now in
     let a = able G c.requires.1 c.in-ReadsOwn.is in
-    (c.requires.0.txns_exact, c.requires.0.locks_exact, a.0, a.1)
+    (a.0, a.1)
 
 pub newest-requires : goal.newest-requires
 newest-requires c =
     let G = tables c.args.txns.now c.args.locks.now c.args.versions.now in
     let a = able G c.requires.1 c.in-ReadsNewest.is in
-    (c.requires.0.txns_exact, a.0, has_newest G c.requires.0 _ a.1)
+    (a.0, has_newest G c.requires.0 _ a.1)
 
 pub takes_shared-requires : goal.takes_shared-requires
 takes_shared-requires c =
@@ -69,7 +69,7 @@ commits-requires c =
 pub commits_empty-requires : goal.commits_empty-requires
 commits_empty-requires c =
     let G = tables c.args.txns.now c.args.locks.now c.args.versions.now in
-    (c.requires.0.txns_exact, c.requires.0.locks_exact, able G c.requires.1 c.in-CommitsEmpty.is)
+    able G c.requires.1 c.in-CommitsEmpty.is
 
 pub ends-requires : goal.ends-requires
 ends-requires c =
@@ -80,12 +80,12 @@ ends-requires c =
 pub aborts-requires : goal.aborts-requires
 aborts-requires c =
     let G = tables c.args.txns.now c.args.locks.now c.args.versions.now in
-    (c.requires.0.txns_exact, c.requires.0.locks_exact, able G c.requires.1 c.in-Aborts.is)
+    able G c.requires.1 c.in-Aborts.is
 
 pub settles-requires : goal.settles-requires
 settles-requires c =
     let G = tables c.args.txns.now c.args.locks.now c.args.versions.now in
-    (c.requires.0.txns_exact, c.requires.0.locks_exact, able G c.requires.1 c.in-Settles.is, c.requires.0.clock_most)
+    (able G c.requires.1 c.in-Settles.is, c.requires.0.clock_most)
 
 pub commits_settled-requires : goal.commits_settled-requires
 commits_settled-requires c =
