@@ -1,28 +1,27 @@
 -- The tests of the lock decision, as the code makes them.
-use Prim.Native.Nat.{ℕ, zero, suc, ◌+◌, ◌^◌, ◌<◌}
+use Prim.Native.Nat.{ℕ, zero, suc, ◌+◌, ◌<◌}
 use mathlib.Core.Path.{◌≡◌, refl, sym, ap, ◌∙◌, subst}
 use mathlib.Core.Logic.{◌≢◌}
-use mathlib.Core.Bool.{Bool, false, ◌&&◌, ◌||◌, not}
+use mathlib.Core.Bool.{Bool, false, ◌&&◌, not}
 use mathlib.Core.List.{List}
 use native.Mathlib.Omega.{arith}
-use lib.Bits.{bit_and, bit_xor}
 use lib.Dec.{T, eqb, eqb→eq}
 use Rattle.names.specs.Sizes.{base}
 use Rattle.rules.specs.Words.{bit, some_below, without_bit}
 use Rattle.rules.specs.Tables.{tables, txn, Lock, lock, holds_shared, holds_exclusive}
 use Rattle.rules.specs.Good.{Good}
 use Rattle.rules.specs.Waits.{awaits_on, ahead, rank_for}
-use Rattle.rules.specs.Locks.{Asked, to_read, to_write, Held, exclusively, sharing, nothing, wanted, decide, another_shares, another_excludes, another_ahead}
+use Rattle.rules.specs.Locks.{Asked, to_read, to_write, Held, exclusively, sharing, nothing, decide, another_shares, another_excludes, another_ahead}
 use Rattle.rules.proofs.Tests.{and_left, and_right, and_both, ne_make, ne_use, eq_make, is_false, false_is}
 use Rattle.rules.proofs.Counts.{some_below→, →some_below}
-use Rattle.rules.proofs.Bits.{bit_none, bit_below, below_power, one_bit_at, without_bit_here, without_bit_there}
-use Rattle.words.proofs.SlotWords.{has_bit, sans_at, shifted, one_shifted}
+use Rattle.rules.proofs.Bits.{bit_none, bit_below, below_power, without_bit_here, without_bit_there}
+use Rattle.words.proofs.SlotWords.{has_bit}
 use Rattle.words.proofs.Turns.{iff_eq}
 use Rattle.ranks.specs.Lines.{somebody_on}
 use Rattle.waiting.specs.Waiting.{Ahead}
 use Rattle.waiting.proofs.Handed.{good_readable}
 use Rattle.waiting.proofs.Linking.{shared-small, exclusive-small}
-use Rattle.cells.specs.Cells.{asked_of, held_of, needs_lock, SlotsOnly}
+use Rattle.cells.specs.Cells.{needs_lock, SlotsOnly}
 
 -- ---- the tests on the others
 module _ (h : Lock) (s : ℕ) (k : SlotsOnly h) where
@@ -82,34 +81,34 @@ module _ (h : Lock) (s : ℕ) (k : SlotsOnly h) where
 
 -- an earlier waiter besides s
 pub ahead_is :
-    (t l : List ℕ) (k x s w : ℕ) → s < base.slots → Ahead t k x (rank_for base t l s x) w
-    → not (eqb (bit_xor w (bit_and w (one_shifted s))) 0) ≡ another_ahead base t l k x s
+    (t l : List ℕ) (k x s w : ℕ) → Ahead t k x (rank_for base t l s x) w → not (eqb (without_bit w s) 0) ≡ another_ahead base t l k x s
 unfolding another_ahead
-ahead_is t l k x s w i h = rw (shifted s (omega arith)) (iff_eq (not (eqb v 0)) (some_below base.slots p) forth back)
+ahead_is t l k x s w h = iff_eq (not (eqb v 0)) (some_below base.slots p) forth back
   where
     v : ℕ
-    v = bit_xor w (bit_and w (2 ^ s))
+    v = without_bit w s
 
     p : ℕ → Bool
     p b = not (eqb s b) && ahead x k (rank_for base t l s x) (txn t b)
+
+    other : (b : ℕ) → T (bit v b) → s ≢ b
+    other b u e = false_is (without_bit_here w s) (subst (λ (m : ℕ). T (bit v m)) (sym e) u)
 
     forth : T (not (eqb v 0)) → T (some_below base.slots p)
     forth u =
         let r = has_bit v v (below_power v) (ne_use v 0 u) in
         let b : ℕ = r.0 in
-        let f = subst T (sans_at w (2 ^ s) b) r.2 in
-        let g = and_left (bit w b) _ f in
-        →some_below base.slots p b (bit_below w b base.slots h.small g)
-        (and_both (not (eqb s b)) _ (subst (λ (c : Bool). T (not c)) (one_bit_at s b) (and_right (bit w b) _ f)) (subst T (h.at b) g))
+        let d = other b r.2 in
+        let g : T (bit w b) = subst T (without_bit_there w s b (λ e. d (sym e))) r.2 in
+        →some_below base.slots p b (bit_below w b base.slots h.small g) (and_both (not (eqb s b)) _ (ne_make s b d) (subst T (h.at b) g))
 
     back : T (some_below base.slots p) → T (not (eqb v 0))
     back u =
         let r = some_below→ base.slots p u in
         let b : ℕ = r.0 in
-        let f : T (bit v b) =
-        subst T (sym (sans_at w (2 ^ s) b))
-        (and_both (bit w b) _ (subst T (sym (h.at b)) (and_right (not (eqb s b)) _ r.2)) (subst (λ (c : Bool). T (not c)) (sym (one_bit_at s b)) (and_left (not (eqb s b)) _ r.2))) in
-        ne_make v 0 (λ e. false_is (ap (λ (m : ℕ). bit m b) e ∙ bit_none b) f)
+        let d = ne_use s b (and_left (not (eqb s b)) _ r.2) in
+        let g : T (bit w b) = subst T (sym (h.at b)) (and_right (not (eqb s b)) _ r.2) in
+        ne_make v 0 (λ e. false_is (ap (λ (m : ℕ). bit m b) e ∙ bit_none b) (subst T (sym (without_bit_there w s b (λ e. d (sym e)))) g))
 
 -- where nobody waits on the item, nobody is ahead
 pub none_ahead : (t l : List ℕ) (k x s : ℕ) → somebody_on base t x ≡ false → another_ahead base t l k x s ≡ false
@@ -122,19 +121,7 @@ none_ahead t l k x s e =
     false_is e
     (→some_below base.slots (λ b. awaits_on x (txn t b)) b r.1 (and_left (awaits_on x (txn t b)) _ (and_right (not (eqb s b)) _ r.2))))
 
--- ---- who needs no further lock
-pub needs_is : (a h : ℕ) → a < 2 → h < 3 → (not (eqb h 0) && (not (eqb h 1) || eqb a 1)) ≡ needs_lock (asked_of a) (held_of h)
-needs_is zero zero i j = refl
-needs_is zero (suc zero) i j = refl
-needs_is zero (suc (suc zero)) i j = refl
-needs_is (suc zero) zero i j = refl
-needs_is (suc zero) (suc zero) i j = refl
-needs_is (suc zero) (suc (suc zero)) i j = refl
-needs_is zero (suc (suc (suc h))) i j = absurd (omega arith)
-needs_is (suc zero) (suc (suc (suc h))) i j = absurd (omega arith)
-needs_is (suc (suc a)) h i j = absurd (omega arith)
-
--- its cell is the same, whoever waits
+-- ---- who needs no further lock: its cell is the same, whoever waits
 pub no_line : (a : Asked) (h : Held) (s e r : Bool) → needs_lock a h ≡ false → decide a h s e false ≡ decide a h s e r
 unfolding decide
 no_line to_read exclusively s e r n = refl
@@ -149,8 +136,3 @@ pub lock_slots : (t l v : List ℕ) → Good base (tables t l v) → (x : ℕ) �
 lock_slots t l v g x i =
     let o = good_readable t l v g in
     record { shared = shared-small t l o x i; exclusive = exclusive-small t l o x i }
-
-pub wanted_is : (n : ℕ) → n < 2 → n + 1 ≡ wanted (asked_of n)
-wanted_is zero h = refl
-wanted_is (suc zero) h = refl
-wanted_is (suc (suc n)) h = absurd (omega arith)

@@ -1,19 +1,23 @@
 -- The lock decision's words: what is asked, what is held, what is decided.
-use Rattle.std.specs.Prelude.{ℕ, zero, suc, ◌^◌, ◌≤◌, ◌<◌, Bool, true, false}
+use Rattle.std.specs.Prelude.{◌^◌, ◌≤◌, ◌<◌, Bool, true, false}
 use Rattle.names.specs.Sizes.{base}
 use Rattle.rules.specs.Tables.{Lock}
 use Rattle.rules.specs.Locks.{Asked, to_read, to_write, Held, exclusively, sharing, nothing}
+use Rattle.cells.specs.declared.Asked.{Asked as cells·Asked}
+use Rattle.cells.specs.declared.Asked.TheVariants.{Read, Write}
+use Rattle.cells.specs.declared.Held.{Held as cells·Held}
+use Rattle.cells.specs.declared.Held.TheVariants.{Exclusively, Shared, Nothing}
 
--- 0 asks to read, 1 to write
-abbrev pub asked_of : ℕ → Asked
-asked_of zero = to_read
-asked_of (suc n) = to_write
+-- what is asked, as the rules have it
+abbrev pub asked_of : cells·Asked → Asked
+asked_of Read = to_read
+asked_of Write = to_write
 
--- 0 holds exclusively, 1 shares, 2 holds nothing
-abbrev pub held_of : ℕ → Held
-held_of zero = exclusively
-held_of (suc zero) = sharing
-held_of (suc (suc n)) = nothing
+-- what is held, as the rules have it
+abbrev pub held_of : cells·Held → Held
+held_of Exclusively = exclusively
+held_of Shared = sharing
+held_of Nothing = nothing
 
 -- whether a further lock is needed: request E4, "A call that needs no further lock is granted as before."
 abbrev pub needs_lock : Asked → Held → Bool

@@ -1,6 +1,8 @@
 -- Nobody waits on the item; or the word of the earlier waiters, without the slot.
 use Prim.Native.Nat.{ℕ}
-use mathlib.Core.Path.{sym, ◌∙◌, subst}
+use mathlib.Core.Path.{sym, ap, ◌∙◌, subst}
+use mathlib.Core.Bool.{not}
+use lib.Dec.{eqb}
 use Rattle.waiting.specs.Waiting.{Ahead}
 use Rattle.cells.proofs.Others.{ahead_is, none_ahead}
 use Rattle.cells.proofs.another_ahead.Goals as goal
@@ -14,5 +16,5 @@ returns c = let a = c.args in
     let t = a.txns.now in
     let x = a.item.0 in
     let w = c.ahead-word in
-    ahead_is t a.locks.now a.wanted x a.slot.0 w.result c.requires.2
-    (subst (λ (p : ℕ). Ahead t a.wanted x p w.result) c.rank_for-rank.ensures w.ensures)
+    ap (λ (w : ℕ). not (eqb w 0)) c.without_bit.ensures
+    ∙ ahead_is t a.locks.now a.wanted x a.slot.0 w.result (subst (λ (p : ℕ). Ahead t a.wanted x p w.result) c.rank_for-rank.ensures w.ensures)
