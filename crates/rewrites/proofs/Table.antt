@@ -1,5 +1,5 @@
 -- The table while its rows are replaced one by one: the rows passed are new, the others as they were.
-use Prim.Native.Nat.{ℕ, zero, suc, ◌+◌, ◌*◌, ◌<◌, ◌≤◌}
+use Prim.Native.Nat.{ℕ, zero, suc, ◌+◌, ◌-◌, ◌*◌, ◌<◌, ◌≤◌}
 use mathlib.Core.Path.{◌≡◌, refl, sym, ap, ap₂, ◌∙◌}
 use mathlib.Core.List.{List, ◌++◌, append_assoc}
 use native.Mathlib.Omega.{arith}
@@ -11,9 +11,10 @@ use Rattle.names.specs.Sizes.{base}
 use Rattle.rules.specs.Words.{row, map_rows}
 use Rattle.rules.specs.Tables.{version_row, version_words, Reader}
 use Rattle.rules.specs.Versions.{Version, versions_in, row_of, kept, rewritten}
-use Rattle.rules.proofs.Rows.{row_next, row_first, length-map_rows}
+use Rattle.rules.proofs.Rows.{row_next, row_first}
 use Rattle.rules.proofs.Choice.{length-row_of}
 use Rattle.rules.proofs.Trim.{length-kept}
+use Rattle.choices.proofs.Lent.{wide, lent}
 use Rattle.rewrites.specs.Written.{with_row}
 
 -- ---- rows of any width
@@ -60,6 +61,15 @@ pub row_back : (x : ℕ) (v : List ℕ) → with_row x (row (version_row base) x
 unfolding row
 row_back x v = ap (λ (l : List ℕ). take (version_row base * x) v ++ l) (take-append-drop (version_row base) (drop (version_row base * x) v)) ∙ take-append-drop (version_row base * x) v
 
+-- a row that is lent, as the middle part of the table, comes back rewritten
+pub lent_back :
+    (x : ℕ) (v : List ℕ) (words : List ℕ → List ℕ) {ys : List ℕ}
+    → ys ≡ words (take ((version_row base * x + version_row base) - version_row base * x) (drop (version_row base * x) v))
+    → take (version_row base * x) v ++ (ys ++ drop ((version_row base * x + version_row base) - version_row base * x) (drop (version_row base * x) v))
+    ≡ with_row x (words (row (version_row base) x v)) v
+lent_back x v words e =
+    ap₂ (λ (ys : List ℕ) (n : ℕ). take (version_row base * x) v ++ (ys ++ drop n (drop (version_row base * x) v))) (e ∙ ap words (lent x v)) (wide x)
+
 -- ---- the rows of the version table
 -- the words of row x as f makes them
 abbrev pub new_row : List Reader → (ℕ → List Version → List Version) → ℕ → List ℕ → List ℕ
@@ -81,10 +91,6 @@ module _ (qs : List Reader) (f : ℕ → List Version → List Version) (v : Lis
   module _ (room : length qs < base.places) (exact : length v ≡ version_words base) where
     keeps : (x : ℕ) (r : List ℕ) → length r ≡ version_row base → length (new_row qs f x r) ≡ version_row base
     keeps x r e = length-row_of base (kept qs (f x (versions_in base r))) (let a = length-kept qs (f x (versions_in base r)) in omega arith)
-
-    pub length_so_far : (n : ℕ) → n ≤ base.items → length (so_far qs f v n) ≡ version_words base
-    unfolding so_far
-    length_so_far n h = length-map_rows (version_row base) (new_row qs f) keeps n 0 v (omega arith) ∙ exact
 
     module _ (n : ℕ) (inside : n < base.items) (cur : List ℕ) (is : cur ≡ so_far qs f v n) where
       -- the next row is as it was

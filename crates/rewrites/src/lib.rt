@@ -4,14 +4,12 @@
 // Proved against `rewritten` of the rules. Good tables meet each `requires`, as proofs/Handed says.
 #![tactic(auto)]
 
-ghost use Rattle.std.specs.Prelude.{◌≡◌, true, cond, List, ℕ, ◌<◌, length};
+ghost use Rattle.std.specs.Prelude.{◌≡◌, List};
 ghost use Rattle.names.specs.Sizes.{base};
-ghost use Rattle.rules.specs.Words.{row};
-ghost use Rattle.rules.specs.Tables.{version_row, Reader, up_to, outside};
-ghost use Rattle.rules.specs.Versions.{versions_in, row_of, place, rewritten, revealed};
+ghost use Rattle.rules.specs.Tables.{Reader};
+ghost use Rattle.rules.specs.Versions.{rewritten, revealed};
 ghost use Rattle.rules.specs.Step.{with_new};
-ghost use Rattle.packing.specs.Changed.{TidyRow, Frontable, fronted, left_by, shown_to};
-ghost use Rattle.rewrites.specs.Written.{with_row, Staying, Leavable, Showing, Revealable, Reading, Committable};
+ghost use Rattle.rewrites.specs.Written.{Staying, Leavable, Showing, Revealable, Reading, Committable};
 
 use names::{
     LOCK_EXCLUSIVE_AT, LOCK_ROW, LOCK_WORKING_AT, Locks, Slot, Stamp, VERSION_ROW, Versions,
@@ -20,16 +18,6 @@ use packing::{Version, forget, put_front, reveal};
 use starts::{LANES, Neighbours};
 
 const ROWS: usize = names::ITEMS as usize;
-
-// Lends the row of item x to forget.
-fn forget_item(versions: &mut Versions, x: usize, start: u64, beside: Neighbours)
-    requires { (x < base.items) × TidyRow (row (version_row base) x versions.old) × (place (up_to start) (versions_in base (row (version_row base) x versions.old)) < length (versions_in base (row (version_row base) x versions.old))) }
-    ensures { versions.new ≡ with_row x (row_of base (left_by start beside.below beside.next (versions_in base (row (version_row base) x versions.old)))) versions.old }
-{
-    let a = VERSION_ROW * x;
-    let e = a + VERSION_ROW;
-    forget(&mut versions[a..e], start, beside);
-}
 
 // One who read by this start has left, and these are its neighbours among those who stay: what it
 // alone read goes from every row.
@@ -44,18 +32,10 @@ pub fn forget_all(versions: &mut Versions, start: Stamp, beside: Neighbours)
         return;
     }
     for i in 0..ROWS {
-        forget_item(versions, i, start, beside);
+        let a = VERSION_ROW * i;
+        let e = a + VERSION_ROW;
+        forget(&mut versions[a..e], start, beside);
     }
-}
-
-// Lends the row of item x to reveal.
-fn reveal_item(versions: &mut Versions, x: usize, slot: u64, starts: &[u64; LANES])
-    requires { (x < base.items) × TidyRow (row (version_row base) x versions.old) × (slot < base.slots) × (place (outside slot) (versions_in base (row (version_row base) x versions.old)) < length (versions_in base (row (version_row base) x versions.old))) }
-    ensures { versions.new ≡ with_row x (row_of base (shown_to slot starts.now (versions_in base (row (version_row base) x versions.old)))) versions.old }
-{
-    let a = VERSION_ROW * x;
-    let e = a + VERSION_ROW;
-    reveal(&mut versions[a..e], slot, starts);
 }
 
 // The relaxed query in this slot has left, and these are the starts of those who stay, in order:
@@ -66,26 +46,16 @@ pub fn reveal_all(versions: &mut Versions, slot: Slot, starts: &[u64; LANES])
 {
     let slot = slot.0;
     for i in 0..ROWS {
-        reveal_item(versions, i, slot, starts);
-    }
-}
-
-// The row of item x at a commit: lent to put_front if it gets a new version. One that gets none is
-// trimmed already, so it stays.
-fn commit_item(versions: &mut Versions, x: usize, new: bool, below: u64, version: Version)
-    requires { (x < base.items) × (new ≡ true → Frontable (row (version_row base) x versions.old) below version.stamp version.value version.hidden) }
-    ensures { versions.new ≡ cond new (with_row x (row_of base (fronted below (record { stamp = version.stamp; value = version.value; hidden = version.hidden }) (versions_in base (row (version_row base) x versions.old)))) versions.old) versions.old }
-{
-    if new {
-        let a = VERSION_ROW * x;
+        let a = VERSION_ROW * i;
         let e = a + VERSION_ROW;
-        put_front(&mut versions[a..e], below, version);
+        reveal(&mut versions[a..e], slot, starts);
     }
 }
 
 // Rewrites the rows at a commit of the update in a slot: the working values of the items that it
 // holds exclusively go in front, under the new stamp, hidden from the relaxed queries in whose sets it
-// is. below is one more than the greatest start below that stamp.
+// is. below is one more than the greatest start below that stamp. An item that gets no new version has
+// a row that is trimmed already, so it stays.
 pub fn commit_all(
     versions: &mut Versions,
     locks: &Locks,
@@ -100,12 +70,15 @@ pub fn commit_all(
     let owner = slot.0 + 1;
     let stamp = stamp.0;
     for i in 0..ROWS {
-        let new = locks[LOCK_ROW * i + LOCK_EXCLUSIVE_AT] == owner;
-        let version = Version {
-            stamp,
-            value: locks[LOCK_ROW * i + LOCK_WORKING_AT],
-            hidden,
-        };
-        commit_item(versions, i, new, below, version);
+        if locks[LOCK_ROW * i + LOCK_EXCLUSIVE_AT] == owner {
+            let new = Version {
+                stamp,
+                value: locks[LOCK_ROW * i + LOCK_WORKING_AT],
+                hidden,
+            };
+            let a = VERSION_ROW * i;
+            let e = a + VERSION_ROW;
+            put_front(&mut versions[a..e], below, new);
+        }
     }
 }
