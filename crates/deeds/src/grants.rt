@@ -8,11 +8,11 @@ ghost use Rattle.rules.specs.Step.{joined, done};
 ghost use Rattle.rows.specs.Founds.{lock_of};
 ghost use Rattle.deeds.specs.Asked.{Lockable, HasNewest, GrantedTo};
 
-use names::{Answer, Item, Slot};
+use names::{Answer, Item, Locks, Slot, Txns, Versions};
 use rows::LockRow;
 
 // The slot awaits nothing, and the item has this lock.
-fn granted(txns: &mut [u64], locks: &mut [u64], slot: Slot, item: Item, row: LockRow)
+fn granted(txns: &mut Txns, locks: &mut Locks, slot: Slot, item: Item, row: LockRow)
     requires { Lockable txns.old locks.old slot.0 item.0 }
     ensures { GrantedTo slot.0 item.0 (lock_of row) txns.old locks.old txns.new locks.new }
 {
@@ -21,14 +21,7 @@ fn granted(txns: &mut [u64], locks: &mut [u64], slot: Slot, item: Item, row: Loc
 }
 
 // A further lock: the slot joins these sets besides.
-fn granted_anew(
-    txns: &mut [u64],
-    locks: &mut [u64],
-    slot: Slot,
-    item: Item,
-    row: LockRow,
-    sets: u64,
-)
+fn granted_anew(txns: &mut Txns, locks: &mut Locks, slot: Slot, item: Item, row: LockRow, sets: u64)
     requires { Lockable txns.old locks.old slot.0 item.0 }
     ensures { GrantedTo slot.0 item.0 (lock_of row) (joined txns.old slot.0 sets) locks.old txns.new locks.new }
 {
@@ -36,17 +29,18 @@ fn granted_anew(
     granted(txns, locks, slot, item, row);
 }
 
+#[tactic(auto, unfolding(rules::specs::Step::done, rules::specs::Step::locked_anew, rules::specs::Step::locked, rules::specs::Step::grant_joins, rules::specs::Step::asking_joins))]
 pub fn takes_shared(
-    txns: &mut [u64],
-    locks: &mut [u64],
-    versions: &[u64],
+    txns: &mut Txns,
+    locks: &mut Locks,
+    versions: &Versions,
     slot: Slot,
     item: Item,
 ) -> Answer
     requires { Lockable txns.old locks.old slot.0 item.0 × HasNewest versions.now item.0 }
     ensures { outcome result txns.new locks.new versions.now ≡ done base (TakesShared slot item) (tables txns.old locks.old versions.now) }
 {
-    let row = rows::lock_at(&locks[..], item);
+    let row = rows::lock_at(locks, item);
     let hidden = choices::hidden_now(versions, item);
     granted_anew(
         txns,
@@ -59,24 +53,25 @@ pub fn takes_shared(
     Answer::found(choices::newest(versions, item), 1)
 }
 
-pub fn replaces(txns: &mut [u64], locks: &mut [u64], slot: Slot, item: Item, value: u64) -> Answer
+#[tactic(auto, unfolding(rules::specs::Step::done, rules::specs::Step::locked))]
+pub fn replaces(txns: &mut Txns, locks: &mut Locks, slot: Slot, item: Item, value: u64) -> Answer
     requires { Lockable txns.old locks.old slot.0 item.0 }
     ensures { (v : List ℕ) → outcome result txns.new locks.new v ≡ done base (Replaces slot item value) (tables txns.old locks.old v) }
 {
-    let row = rows::lock_at(&locks[..], item);
+    let row = rows::lock_at(locks, item);
     let new = LockRow {
-        shared: row.shared,
-        exclusive: row.exclusive,
         working: value,
+        ..row
     };
     granted(txns, locks, slot, item, new);
     Answer::granted()
 }
 
+#[tactic(auto, unfolding(rules::specs::Step::done, rules::specs::Step::locked_anew, rules::specs::Step::locked, rules::specs::Step::grant_joins, rules::specs::Step::asking_joins))]
 pub fn takes_exclusive(
-    txns: &mut [u64],
-    locks: &mut [u64],
-    versions: &[u64],
+    txns: &mut Txns,
+    locks: &mut Locks,
+    versions: &Versions,
     slot: Slot,
     item: Item,
     value: u64,
@@ -84,8 +79,8 @@ pub fn takes_exclusive(
     requires { Lockable txns.old locks.old slot.0 item.0 × HasNewest versions.now item.0 }
     ensures { outcome result txns.new locks.new versions.now ≡ done base (TakesExclusive slot item value) (tables txns.old locks.old versions.now) }
 {
-    let row = rows::lock_at(&locks[..], item);
-    let readers = notes::have_read(&txns[..], item);
+    let row = rows::lock_at(locks, item);
+    let readers = notes::have_read(txns, item);
     let hidden = choices::hidden_now(versions, item);
     granted_anew(
         txns,

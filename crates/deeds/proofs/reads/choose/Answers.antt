@@ -11,7 +11,7 @@ use Rattle.deeds.proofs.reads.choose.Goals as goal
 pub chosen_outside-requires : goal.chosen_outside-requires
 chosen_outside-requires c =
     let a = c.args in
-    (subst (Choosable a.versions.now a.item.0) (reads-outside a.txns.now a.slot.0 (sym c.kind-kind.ensures ∙ c.if-kind-eq-RELAXED_KIND.true)) c.requires.2, c.requires.1)
+    (subst (Choosable a.versions.now a.item.0) (reads-outside a.txns.now a.slot.0 (sym c.kind-kind.ensures ∙ c.if-kind-eq-RELAXED_KIND.true)) c.requires.1, c.requires.0)
 
 pub returns-then-kind-eq-RELAXED_KIND : goal.returns-then-kind-eq-RELAXED_KIND
 returns-then-kind-eq-RELAXED_KIND c =
@@ -25,7 +25,7 @@ returns-then-kind-eq-RELAXED_KIND c =
 pub chosen-requires : goal.chosen-requires
 chosen-requires c =
     let a = c.args in
-    subst (Choosable a.versions.now a.item.0) (reads_up_to a.txns.now a.slot.0 (λ e. c.if-kind-eq-RELAXED_KIND.false (c.kind-kind.ensures ∙ e)) ∙ ap (λ (u : ℕ). up_to u) (sym c.start-start.ensures)) c.requires.2
+    subst (Choosable a.versions.now a.item.0) (reads_up_to a.txns.now a.slot.0 (λ e. c.if-kind-eq-RELAXED_KIND.false (c.kind-kind.ensures ∙ e)) ∙ ap (λ (u : ℕ). up_to u) (sym c.start-start.ensures)) c.requires.1
 
 pub returns : goal.returns
 returns c =
