@@ -8,6 +8,7 @@ ghost use Rattle.rules.specs.Step.{done};
 use names::{Answer, Locks, Slot, Txns};
 
 // An update is aborted: its locks, its row and its place in a line go.
+#[tactic(auto, unfolding(rules::specs::Step::done, rules::specs::Step::aborted))]
 pub fn aborts(txns: &mut Txns, locks: &mut Locks, slot: Slot) -> Answer
     requires { slot.0 < base.slots }
     ensures { (v : List ℕ) → outcome result txns.new locks.new v ≡ done base (Aborts slot) (tables txns.old locks.old v) }
@@ -19,6 +20,7 @@ pub fn aborts(txns: &mut Txns, locks: &mut Locks, slot: Slot) -> Answer
 }
 
 // An update that holds no item exclusively commits: the same goes, and the clock is answered.
+#[tactic(auto, unfolding(rules::specs::Step::done))]
 pub fn commits_empty(txns: &mut Txns, locks: &mut Locks, slot: Slot) -> Answer
     requires { slot.0 < base.slots }
     ensures { (v : List ℕ) → outcome result txns.new locks.new v ≡ done base (CommitsEmpty slot) (tables txns.old locks.old v) }

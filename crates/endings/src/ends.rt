@@ -12,6 +12,7 @@ use names::{Answer, Locks, Slot, Stamp, Txns, Versions};
 
 // A query ends: its row goes, and its set, if it has one; the versions go that none but it read.
 // Answered are the sum of the weights of its reads, and their count.
+#[tactic(auto, unfolding(rules::specs::Step::done, rules::specs::Step::ended))]
 pub fn ends(txns: &mut Txns, versions: &mut Versions, slot: Slot) -> Answer
     requires { Trimmed txns.old versions.old × (slot.0 < base.slots) × T (any_query (txn txns.old slot.0)) }
     ensures { (l : List ℕ) → outcome result txns.new l versions.new ≡ done base (Ends slot) (tables txns.old l versions.old) }

@@ -10,6 +10,7 @@ use super::leaving::leaves;
 use names::{Answer, Locks, Slot, Stamp, Txns, Versions};
 
 // An update takes the stamp after the clock and is past its writing: its shared locks go.
+#[tactic(auto, unfolding(rules::specs::Step::done, rules::specs::Step::settled))]
 pub fn settles(txns: &mut Txns, locks: &mut Locks, slot: Slot) -> Answer
     requires { (slot.0 < base.slots) × (clock txns.old ≤ last_word) }
     ensures { (v : List ℕ) → outcome result txns.new locks.new v ≡ done base (Settles slot) (tables txns.old locks.old v) }
@@ -39,6 +40,7 @@ pub fn commits_settled(
 }
 
 // One past its writing is aborted: it leaves as a reader does, and its locks go.
+#[tactic(auto, unfolding(rules::specs::Step::done, rules::specs::Step::settled_aborted))]
 pub fn aborts_settled(
     txns: &mut Txns,
     locks: &mut Locks,
