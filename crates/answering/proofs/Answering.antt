@@ -6,6 +6,7 @@ use mathlib.Core.List.{List, [], ◌∷◌, ◌++◌}
 use native.Mathlib.Omega.{arith}
 use lib.Dec.{eqb}
 use lib.ListN.{length, drop, length-drop, drop_of_length-le}
+use Rattle.std.proofs.Common.{Some, None}
 use Rattle.texts.specs.Written.{Wrote}
 use Rattle.texts.proofs.Parts.{Putting, putting_first, putting_on, putting_end}
 use Rattle.number_lines.specs.Lines.{Held, ends, after, held_by, ended, unended, gather, found_by, Goes}
@@ -91,29 +92,29 @@ module _ {piece : List ℕ} {h₀ : Held} {out₀ : List ℕ} {h : Held} {out : 
 
   module _ {most : ℕ} {words : List ℕ} (r : Next) (all : most ≡ most_numbers) (g : Goes most h piece at words r) where
     -- a line ends and is answered
-    module _ (e : r.ended ≡ true) {k : Held} (n : k ≡ unread) {m : List ℕ} {next : ℕ} (w : Wrote out used (answer_at_end (held_by words r.scan)) m next) (z : length m ≡ length out) where
-      line-ended : Ended h (held_by words r.scan) (drop at piece) (drop r.at piece)
+    module _ {end : ℕ} (e : r.at ≡ Some end) {k : Held} (n : k ≡ unread) {m : List ℕ} {next : ℕ} (w : Wrote out used (answer_at_end (held_by words r.scan)) m next) (z : length m ≡ length out) where
+      line-ended : Ended h (held_by words r.scan) (drop at piece) (drop end piece)
       unfolding found_by
-      line-ended = gather-ended (drop at piece) h (held_by words r.scan) (drop r.at piece) (rw all at (sym g.found) ∙ rw e refl)
+      line-ended = gather-ended (drop at piece) h (held_by words r.scan) (drop end piece) (rw all at (sym g.found) ∙ rw e refl)
 
-      pub going_on : Going piece h₀ out₀ k m next r.at
+      pub going_on : Going piece h₀ out₀ k m next end
       unfolding numbers
       going_on =
-          let o = g.onward e in
+          let o = g.onward end e in
           let l = line-ended in
           let text = answer_at_end (held_by words r.scan) in
           let next_is : next ≡ used + length text = w.index in
           let none : numbers k ≡ 0 = ap numbers n in
           record {
             within = o.1;
-            small = omega (arith, i.small, end_most (held_by words r.scan), next_is, l.few, none, o.0, o.1, length-drop at piece, length-drop r.at piece);
+            small = omega (arith, i.small, end_most (held_by words r.scan), next_is, l.few, none, o.0, o.1, length-drop at piece, length-drop end piece);
             size = z ∙ i.size;
-            after = ap (λ (x : Held). left x (drop r.at piece)) n ∙ sym l.after ∙ i.after;
-            put = putting_on end_used (l.answers ∙ ap (λ (x : Held). text ++ answers_in x (drop r.at piece)) (sym n)) i.put w;
+            after = ap (λ (x : Held). left x (drop end piece)) n ∙ sym l.after ∙ i.after;
+            put = putting_on end_used (l.answers ∙ ap (λ (x : Held). text ++ answers_in x (drop end piece)) (sym n)) i.put w;
           }
 
     -- no line ends in the rest of the piece
-    module _ (e : r.ended ≡ false) where
+    module _ (e : r.at ≡ None) where
       line-unended : Unended h (held_by words r.scan) (drop at piece)
       unfolding found_by
       line-unended = gather-unended (drop at piece) h (held_by words r.scan) (rw all at (sym g.found) ∙ rw e refl)

@@ -20,6 +20,8 @@ use Rattle.numerals.specs.Print.{bad_line}
 use Rattle.numerals.proofs.Decimals.{length-decimal, length-spaced}
 use Rattle.number_lines.specs.Lines.{Held, reads, spoilt, digit_after, ends, after, held_by}
 use Rattle.number_lines.specs.declared.scan.Scan.{Scan}
+use Rattle.number_lines.specs.declared.scan.Scan.TheVariants.{Reads, Spoilt}
+use Rattle.std.proofs.Common.{Some, None}
 use Rattle.cases.specs.Cases.{head_numbers, most_numbers, number_bytes, call_of, tables_of, txns_length, locks_length, versions_length, is_case}
 use Rattle.case_lines.specs.Answers.{tables_line, outcome_line, case_line, answer_to, answer_at, answer_at_end}
 use Rattle.cases.proofs.Cased.{Case, case_is}
@@ -102,7 +104,9 @@ after-most room b h = numbers-cond (eqb b 32) (ends room h) (digit_after b h) (n
 -- no more are kept than there are words
 pub held-most : (words : List ℕ) (s : Scan) → numbers (held_by words s) ≤ length words
 unfolding held_by numbers
-held-most words s = numbers-cond s.spoilt spoilt (reads (take s.count words) s.value s.begun) (length words) (omega arith) (omega (arith, length-take s.count words))
+held-most words (Reads (Some v) n) = omega (arith, length-take n words)
+held-most words (Reads None n) = omega (arith, length-take n words)
+held-most words Spoilt = omega arith
 
 -- the end of a line ends one more
 kept-most : (g : Bool) (ns : List ℕ) (v : ℕ) → length (answer_at (cond g (reads (ns ++ (v ∷ [])) 0 false) spoilt)) ≤ number_bytes * (length ns + 1)

@@ -19,6 +19,9 @@ use number_lines::Scan;
 // and a byte beside it.
 const NUMBERS: usize = cases::HEAD + cases::TXNS + cases::LOCKS + cases::VERSIONS;
 
+// What is kept of the numbers of a line.
+pub(crate) type Words = [u64; NUMBERS];
+
 pub const NUMBER_BYTES: usize = 21;
 
 pub const LONGEST_ANSWER: usize = NUMBER_BYTES * NUMBERS;
@@ -26,7 +29,7 @@ pub const LONGEST_ANSWER: usize = NUMBER_BYTES * NUMBERS;
 #[derive(Drop)]
 pub struct Answerer {
     scan: Scan,
-    words: [u64; NUMBERS],
+    words: Words,
 }
 
 // What a piece leaves: the machine, and how many bytes are put out.
@@ -41,7 +44,7 @@ impl Answerer {
         ensures { state_of result ≡ unread }
     {
         let scan = Scan::new();
-        let words = [0u64; NUMBERS];
+        let words = [0; NUMBERS];
         Answerer { scan, words }
     }
 

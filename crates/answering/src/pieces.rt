@@ -2,10 +2,11 @@
 ghost use Rattle.std.specs.Prelude.{◌≡◌, ◌+◌, ◌≤◌, length};
 ghost use Rattle.texts.specs.Written.{Wrote};
 ghost use Rattle.number_lines.specs.Lines.{held_by};
-ghost use Rattle.cases.specs.Cases.{most_numbers, longest_answer};
+ghost use Rattle.cases.specs.Cases.{longest_answer};
 ghost use Rattle.case_lines.specs.Answers.{answer_at_end};
 ghost use Rattle.answering.specs.Life.{answers_in, left, room_for};
 
+use crate::Words;
 use case_lines::respond;
 use number_lines::Scan;
 
@@ -17,16 +18,16 @@ pub(crate) struct Answered {
 }
 
 // A line that ends, answered behind `used` bytes of the output; how many are used then.
-pub(crate) fn answer_line(scan: Scan, words: &mut [u64], out: &mut [u8], used: usize) -> usize
-    requires { (length words.old ≡ most_numbers) × (used + longest_answer ≤ length out.old) }
+pub(crate) fn answer_line(scan: Scan, words: &mut Words, out: &mut [u8], used: usize) -> usize
+    requires { used + longest_answer ≤ length out.old }
     ensures { Wrote out.old used (answer_at_end (held_by words.old scan)) out.new result }
 {
     let line = scan.ended(words);
     respond(line, &words[..], out, used)
 }
 
-pub(crate) fn answer_piece(scan: Scan, piece: &[u8], words: &mut [u64], out: &mut [u8]) -> Answered
-    requires { (length words.old ≡ most_numbers) × (room_for (length piece.now) ≤ length out.old) }
+pub(crate) fn answer_piece(scan: Scan, piece: &[u8], words: &mut Words, out: &mut [u8]) -> Answered
+    requires { room_for (length piece.now) ≤ length out.old }
     ensures scan_after { held_by words.new result.scan ≡ left (held_by words.old scan) piece.now }
     ensures used_in_bounds { result.used ≤ length out.old }
     ensures wrote { Wrote out.old 0 (answers_in (held_by words.old scan) piece.now) out.new result.used }
@@ -36,14 +37,15 @@ pub(crate) fn answer_piece(scan: Scan, piece: &[u8], words: &mut [u64], out: &mu
     let mut at: usize = 0;
     while at < piece.len() {
         let next = held.next(piece, at, words);
-        held = next.scan;
-        if next.ended {
-            at = next.at;
-            used = answer_line(held, words, out, used);
-            held = Scan::new();
-        } else {
-            at = piece.len();
-        }
+        let Some(end) = next.at else {
+            return Answered {
+                scan: next.scan,
+                used,
+            };
+        };
+        used = answer_line(next.scan, words, out, used);
+        held = Scan::new();
+        at = end;
     }
     Answered { scan: held, used }
 }

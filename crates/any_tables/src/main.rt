@@ -37,10 +37,7 @@ fn main(rt: HostRuntime) {
     let mut output = output_buffer();
     let mut answerer = Answerer::new();
     for _ in 0..u64::MAX {
-        let n = match rt.stdin().read(&mut input) {
-            Ok(n) => n,
-            Err(_) => 0,
-        };
+        let n = rt.stdin().read(&mut input).unwrap_or(0);
         if n == 0 {
             break;
         }

@@ -30,6 +30,7 @@ fn versions_room() -> [u64; VERSIONS]
 }
 
 // A case's answer line, from an index on.
+#[tactic(auto, unfolding(crate::specs::Answers::case_line))]
 fn made_line(
     numbers: &[u64],
     txns: &mut [u64],
@@ -67,6 +68,7 @@ fn case_line(numbers: &[u64], out: &mut [u8], at: usize) -> usize
 }
 
 // The answer line of any numbers.
+#[tactic(auto, unfolding(crate::specs::Answers::answer_to))]
 fn answer(numbers: &[u64], out: &mut [u8], at: usize) -> usize
     requires { at + longest_answer ≤ length out.old }
     ensures { Wrote out.old at (answer_to numbers.now) out.new result }
@@ -83,10 +85,9 @@ pub fn respond(line: Scan, words: &[u64], out: &mut [u8], at: usize) -> usize
     requires { at + longest_answer ≤ length out.old }
     ensures { Wrote out.old at (answer_at (held_by words.now line)) out.new result }
 {
-    let count = line.count;
-    if line.spoilt {
+    let Scan::Reads { count, .. } = line else {
         return numerals::print_bad(out, at);
-    }
+    };
     if words.len() < count {
         return answer(words, out, at);
     }

@@ -26,4 +26,4 @@ returns c =
     let size : length s.words ≡ most_numbers = search rules in
     let t = sym (c.any.ensures s.words (omega arith)) ∙ c.if-not-any.false in
     let w = c.answer_line.ensures in
-    record { upper_bound = wrote_within w c.out-1.given (omega arith); out_after = last_answered (held_by s.words s.scan) t w }
+    record { upper_bound = wrote_within w (omega arith) (omega arith); out_after = last_answered (held_by s.words s.scan) t w }
