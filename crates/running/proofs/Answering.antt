@@ -1,17 +1,17 @@
 -- The lines that end in a piece, answered one after another: what the loop knows before each.
 use Prim.Native.Nat.{ℕ, ◌+◌, ◌*◌, ◌<◌, ◌≤◌}
 use mathlib.Core.Path.{◌≡◌, refl, sym, ap, ap₂, ◌∙◌}
-use mathlib.Core.Bool.{true, false}
 use mathlib.Core.List.{List, [], ◌++◌}
 use native.Mathlib.Omega.{arith}
 use lib.ListN.{length, drop}
+use Rattle.rules.specs.Answers.{Call}
 use Rattle.rules.specs.Tables.{Tables}
+use Rattle.std.proofs.Common.{Option, Some, None}
 use Rattle.texts.specs.Written.{Wrote}
 use Rattle.texts.proofs.Parts.{Putting, putting_first, putting_on, putting_end}
 use Rattle.lines.specs.Lines.{Held, short, held_by, Goes}
 use Rattle.lines.specs.declared.Next.{Next}
 use Rattle.script.specs.Inputs.{read_as}
-use Rattle.script.specs.declared.calls.Parsed.{Parsed}
 use Rattle.script.proofs.Turns.{line_reads, line-left, end_reads, end_left, none_reads, none_left}
 use Rattle.running.specs.Replies.{reply_to, after_line, after_all, replies_to, longest_reply}
 use Rattle.running.specs.Life.{State, state, replies_in, after_piece}
@@ -38,19 +38,19 @@ module _ {piece : List ℕ} {s₀ : State} {out₀ : List ℕ} {h : Held} {G : T
   room-left l = omega (arith, room, i.small, i.size, l)
 
   -- a line ends and is answered
-  module _ {k : Held} {H : Tables} {m : List ℕ} {next : ℕ} {p : Parsed} (r : Next) (g : Goes h piece at r) (e : r.ended ≡ true) (n : k ≡ short []) (q : p ≡ read_as (held_by r.lines))
+  module _ {k : Held} {H : Tables} {m : List ℕ} {next end : ℕ} {p : Option Call} (r : Next) (g : Goes h piece at r) (e : r.at ≡ Some end) (n : k ≡ short []) (q : p ≡ read_as (held_by r.lines))
       (w : Wrote out used (reply_to p G) m next) (a : H ≡ after_line p G) (z : length m ≡ length out) where
-    line_replies : replies_in (drop at piece) (state h G) ≡ reply_to p G ++ replies_in (drop r.at piece) (state k H)
+    line_replies : replies_in (drop at piece) (state h G) ≡ reply_to p G ++ replies_in (drop end piece) (state k H)
     unfolding replies_in replies_to
     line_replies = rw (a, q, line_reads r n g e) refl
 
-    line_after : after_piece (drop r.at piece) (state k H) ≡ after_piece (drop at piece) (state h G)
+    line_after : after_piece (drop end piece) (state k H) ≡ after_piece (drop at piece) (state h G)
     unfolding after_piece after_all
     line_after = ap₂ state (line-left r n g e) (rw (a, q, line_reads r n g e) refl)
 
-    pub going_on : Going piece s₀ out₀ (state k H) m next r.at
+    pub going_on : Going piece s₀ out₀ (state k H) m next end
     going_on =
-        let o = g.onward e in
+        let o = g.onward end e in
         let next_is : next ≡ used + length (reply_to p G) = w.index in
         record {
           within = o.1;
@@ -61,14 +61,14 @@ module _ {piece : List ℕ} {s₀ : State} {out₀ : List ℕ} {h : Held} {G : T
         }
 
   -- no line ends in the rest of the piece
-  module _ (r : Next) (g : Goes h piece at r) (e : r.ended ≡ false) where
+  module _ (r : Next) (g : Goes h piece at r) (e : r.at ≡ None) where
     none_after : after_piece (drop (length piece) piece) (state (held_by r.lines) G) ≡ after_piece (drop at piece) (state h G)
     unfolding after_piece
-    none_after = ap₂ state (none_left r g e) (ap (λ (ps : List Parsed). after_all ps G) (none_reads r g e))
+    none_after = ap₂ state (none_left r g e) (ap (λ (ps : List (Option Call)). after_all ps G) (none_reads r g e))
 
     none_replies : replies_in (drop (length piece) piece) (state (held_by r.lines) G) ≡ replies_in (drop at piece) (state h G)
     unfolding replies_in
-    none_replies = ap (λ (ps : List Parsed). replies_to ps G) (none_reads r g e)
+    none_replies = ap (λ (ps : List (Option Call)). replies_to ps G) (none_reads r g e)
 
     pub going_past : Going piece s₀ out₀ (state (held_by r.lines) G) out used (length piece)
     going_past =

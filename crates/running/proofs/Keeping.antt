@@ -10,13 +10,14 @@ use Rattle.texts.specs.Written.{Wrote}
 use Rattle.texts.proofs.Parts.{front}
 use Rattle.lines.specs.Lines.{Held, begun}
 use Rattle.script.specs.Inputs.{read_as, last}
-use Rattle.script.specs.declared.calls.Parsed.{Parsed}
+use Rattle.rules.specs.Answers.{Call}
+use Rattle.std.proofs.Common.{Option}
 use Rattle.running.specs.Replies.{reply_to, replies_to, longest_reply}
 use Rattle.running.specs.Life.{state, replies_at_end}
 use Rattle.running.proofs.Replied.{reply_most}
 
 -- a line that is begun is answered
-module _ (h : Held) (G : Tables) (t : begun h ≡ true) {out m : List ℕ} {p : Parsed} {used : ℕ} (q : p ≡ read_as h) (w : Wrote out 0 (reply_to p G) m used) where
+module _ (h : Held) (G : Tables) (t : begun h ≡ true) {out m : List ℕ} {p : Option Call} {used : ℕ} (q : p ≡ read_as h) (w : Wrote out 0 (reply_to p G) m used) where
   pub last_used : longest_reply ≤ length out → used ≤ length out
   last_used r = omega (arith, w.index, reply_most p G, r)
 

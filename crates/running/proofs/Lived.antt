@@ -6,21 +6,22 @@ use Rattle.names.specs.Sizes.{base}
 use Rattle.rules.specs.Tables.{Tables, fresh}
 use Rattle.lines.specs.Lines.{short, left, joined}
 use Rattle.script.specs.Inputs.{reads, last, chunked, parsed_lines}
-use Rattle.script.specs.declared.calls.Parsed.{Parsed}
+use Rattle.rules.specs.Answers.{Call}
+use Rattle.std.proofs.Common.{Option}
 use Rattle.script.proofs.Chunks.{reads-append, left-append, chunks}
 use Rattle.running.specs.Replies.{reply_to, after_line, after_all, replies_to, replies_of}
 use Rattle.running.specs.Life.{State, state, born, replies_in, after_piece, replies_at_end, after_pieces, replies_in_all, put_out, SoFar, Lived}
 
 -- ---- lines behind lines
 
-replies_append : (ps qs : List Parsed) (G : Tables) → replies_to (ps ++ qs) G ≡ replies_to ps G ++ replies_to qs (after_all ps G)
+replies_append : (ps qs : List (Option Call)) (G : Tables) → replies_to (ps ++ qs) G ≡ replies_to ps G ++ replies_to qs (after_all ps G)
 unfolding replies_to after_all
 replies_append [] qs G = refl
 replies_append (p ∷ ps) qs G =
     ap (λ (l : List ℕ). reply_to p G ++ l) (replies_append ps qs (after_line p G))
     ∙ sym (append_assoc (reply_to p G) (replies_to ps (after_line p G)) (replies_to qs (after_all ps (after_line p G))))
 
-after-append : (ps qs : List Parsed) (G : Tables) → after_all (ps ++ qs) G ≡ after_all qs (after_all ps G)
+after-append : (ps qs : List (Option Call)) (G : Tables) → after_all (ps ++ qs) G ≡ after_all qs (after_all ps G)
 unfolding after_all
 after-append [] qs G = refl
 after-append (p ∷ ps) qs G = after-append ps qs (after_line p G)
@@ -32,13 +33,13 @@ module _ (bs cs : List ℕ) (s : State) where
   unfolding after_piece
   two_after =
       sym
-      (ap₂ state (left-append bs cs s.line) (ap (λ (ps : List Parsed). after_all ps s.tables) (reads-append bs cs s.line) ∙ after-append (reads s.line bs) (reads (left s.line bs) cs) s.tables))
+      (ap₂ state (left-append bs cs s.line) (ap (λ (ps : List (Option Call)). after_all ps s.tables) (reads-append bs cs s.line) ∙ after-append (reads s.line bs) (reads (left s.line bs) cs) s.tables))
 
   two_replies : replies_in bs s ++ replies_in cs (after_piece bs s) ≡ replies_in (bs ++ cs) s
   unfolding after_piece replies_in
   two_replies =
       sym
-      (ap (λ (ps : List Parsed). replies_to ps s.tables) (reads-append bs cs s.line) ∙ replies_append (reads s.line bs) (reads (left s.line bs) cs) s.tables)
+      (ap (λ (ps : List (Option Call)). replies_to ps s.tables) (reads-append bs cs s.line) ∙ replies_append (reads s.line bs) (reads (left s.line bs) cs) s.tables)
 
 -- ---- all pieces are one
 
@@ -67,7 +68,7 @@ one_piece : (input : List ℕ) → replies_in input born ++ replies_at_end (afte
 unfolding replies_in after_piece replies_at_end born replies_of
 one_piece input =
     sym (replies_append (reads (short []) input) (last (left (short []) input)) (fresh base))
-    ∙ ap (λ (ps : List Parsed). replies_to ps (fresh base)) (one_chunk input)
+    ∙ ap (λ (ps : List (Option Call)). replies_to ps (fresh base)) (one_chunk input)
 
 pub lived : Lived
 unfolding Lived put_out

@@ -35,12 +35,13 @@ pub(crate) fn answer_piece(
     while at < piece.len() {
         let next = held.next(piece, at);
         held = next.lines;
-        if next.ended {
-            at = next.at;
-            used = respond(script::read_as(held), txns, locks, versions, out, used);
-            held = Lines::new();
-        } else {
-            at = piece.len();
+        match next.at {
+            Some(end) => {
+                at = end;
+                used = respond(script::read_as(held), txns, locks, versions, out, used);
+                held = Lines::new();
+            }
+            None => at = piece.len(),
         }
     }
     Answered { lines: held, used }

@@ -4,11 +4,11 @@ ghost use Rattle.rules.specs.Tables.{tables};
 ghost use Rattle.texts.specs.Written.{Wrote};
 ghost use Rattle.running.specs.Replies.{reply_to, after_line, longest_reply};
 
-use script::Parsed;
+use names::Call;
 
 // A line's reply, written behind `used` bytes of the output; how many are used then.
 pub(crate) fn respond(
-    parsed: Parsed,
+    parsed: Option<Call>,
     txns: &mut [u64],
     locks: &mut [u64],
     versions: &mut [u64],
@@ -19,7 +19,7 @@ pub(crate) fn respond(
     ensures wrote { Wrote out.old used (reply_to parsed (tables txns.old locks.old versions.old)) out.new result }
     ensures versions_after { tables txns.new locks.new versions.new ≡ after_line parsed (tables txns.old locks.old versions.old) }
 {
-    let Parsed::Call(call) = parsed else {
+    let Some(call) = parsed else {
         return numerals::print_bad(out, used);
     };
     let answer = keeper::call(call, txns, locks, versions);

@@ -10,34 +10,19 @@ pub respond-used-requires : goal.respond-used-requires
 respond-used-requires c =
     omega (arith, room-left (c.requires) c.loop-at.invariant.0 c.loop-at-test.true)
 
-pub loop-at-smaller-then-next : goal.loop-at-smaller-then-next
-loop-at-smaller-then-next c = let o = c.next-next.ensures.onward c.if-next.true in omega arith
-
-pub loop-at-preserved-then-next : goal.loop-at-preserved-then-next
-loop-at-preserved-then-next c =
+pub loop-at-preserved-in-Some : goal.loop-at-preserved-in-Some
+loop-at-preserved-in-Some c =
     let i = c.loop-at.invariant in
     let next = c.next-next in
     let q = c.read_as.ensures in
     let said = c.respond-used.ensures in
-    (going_on (c.requires) i.0 next.result next.ensures c.if-next.true c.new-held.ensures q said.wrote said.versions_after c.out-1.given, omega arith, omega arith, omega arith)
+    (going_on (c.requires) i.0 next.result next.ensures c.in-Some.is c.new-held.ensures q said.wrote said.versions_after c.out-1.given, omega arith, omega arith, omega arith)
 
 pub loop-at-preserved : goal.loop-at-preserved
 loop-at-preserved c =
     let i = c.loop-at.invariant in
     let next = c.next-next in
-    (going_past (c.requires) i.0 next.result next.ensures c.if-next.false, i.1, i.2, i.3)
-
-pub shape_of-txns : goal.shape_of-txns
-shape_of-txns c = c.loop-at.invariant.1
-
-pub shape_of-locks : goal.shape_of-locks
-shape_of-locks c = c.loop-at.invariant.2
-
-pub shape_of-versions : goal.shape_of-versions
-shape_of-versions c = c.loop-at.invariant.3
-
-pub shape_of-out : goal.shape_of-out
-shape_of-out c = c.loop-at.invariant.0.size
+    (going_past (c.requires) i.0 next.result next.ensures c.in-None.is, i.1, i.2, i.3)
 
 pub returns : goal.returns
 returns c =

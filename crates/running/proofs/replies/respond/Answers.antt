@@ -14,6 +14,6 @@ pub returns : goal.returns
 returns c =
     let a = c.args in
     let G : Tables = tables a.txns.now a.locks.now a.versions.now in
-    let q = c.in-Call.is in
+    let q = c.in-Some.is in
     let e = c.call-answer.ensures in
     record { wrote = wrote_as (call_reply _ _ _ _ _ G q e) c.print.ensures; versions_after = call-after _ _ _ _ _ G q e }
