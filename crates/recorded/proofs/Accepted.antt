@@ -13,8 +13,7 @@ use Rattle.call_words.specs.Calls.{fields_of, call_in}
 use Rattle.call_words.specs.declared.Fields.{Fields}
 use Rattle.call_words.proofs.Inverse.{call_in-fields_of}
 use Rattle.script.specs.Inputs.{parsed_lines}
-use Rattle.script.specs.declared.calls.Parsed.{Parsed}
-use Rattle.script.specs.declared.calls.Parsed.TheVariants.{Call as Calls, Bad}
+use Rattle.std.proofs.Common.{Option, Some, None}
 use Rattle.journal.specs.Words.{greatest}
 use Rattle.journal.specs.Format.{journal_of, CallFits, Every}
 use Rattle.judge.specs.Verdicts.{verdict_on, answers_from, fields_of_all, calls_said}
@@ -27,11 +26,11 @@ use Rattle.recorder.specs.Second.{run_journal}
 use Rattle.recorder.proofs.Fitting.{input_fits}
 
 -- what is recorded of lines is what their calls say
-lines-said : (ps : List Parsed) → fields_of_all (calls_said (script_calls ps)) ≡ script_calls ps
+lines-said : (ps : List (Option Call)) → fields_of_all (calls_said (script_calls ps)) ≡ script_calls ps
 unfolding script_calls line_calls fields_of_all calls_said
 lines-said [] = refl
-lines-said (Calls m ∷ ps) = ap₂ (λ (f : Fields) (fs : List Fields). f ∷ fs) (ap fields_of (call_in-fields_of m)) (lines-said ps)
-lines-said (Bad ∷ ps) = lines-said ps
+lines-said (Some m ∷ ps) = ap₂ (λ (f : Fields) (fs : List Fields). f ∷ fs) (ap fields_of (call_in-fields_of m)) (lines-said ps)
+lines-said (None ∷ ps) = lines-said ps
 
 -- the answers to fields are those to the calls that they say
 answers-said : (fs : List Fields) (G : Tables) → answers_from G (calls_said fs) ≡ answers_to fs G

@@ -14,9 +14,7 @@ use names::{LOCK_WORDS, TXN_WORDS, VERSION_WORDS};
 fn word(w: u64) -> [u8; 8]
     ensures { result ≡ word_bytes w }
 {
-    let mut bytes = [0u8; 8];
-    journal::put_word(&mut bytes, 0, w);
-    bytes
+    w.to_le_bytes()
 }
 
 // What stands for the first count until all is written: the greatest word, so that an unfinished

@@ -12,19 +12,19 @@ use Rattle.recording.proofs.taken.take_chunk.Goals as goal
 pub loop-at-init : goal.loop-at-init
 loop-at-init c = (omega arith, omega arith, refl, refl, refl)
 
-pub loop-at-smaller-then-next : goal.loop-at-smaller-then-next
-loop-at-smaller-then-next c = let o = c.next-next.ensures.onward c.if-next.true in omega arith
+pub loop-at-smaller-in-Some : goal.loop-at-smaller-in-Some
+loop-at-smaller-in-Some c = let o = c.next-next.ensures.onward _ c.in-Some.is in omega arith
 
-pub loop-at-preserved-then-next : goal.loop-at-preserved-then-next
-loop-at-preserved-then-next c =
+pub loop-at-preserved-in-Some : goal.loop-at-preserved-in-Some
+loop-at-preserved-in-Some c =
     let i = c.loop-at.invariant in
     let out = c.loop-at.out in
     let used = c.loop-at.used in
     let pre = c.requires in
     let next = c.next-next in
     let g = next.ensures in
-    let e = c.if-next.true in
-    let o = g.onward e in
+    let e = c.in-Some.is in
+    let o = g.onward _ e in
     let none = c.new-held.ensures in
     let said = c.read_as.ensures in
     let w = c.take_line-used.ensures in
@@ -35,7 +35,7 @@ pub loop-at-preserved : goal.loop-at-preserved
 loop-at-preserved c =
     let l = c.loop-at in
     let next = c.next-next in
-    let e = c.if-next.false in
+    let e = c.in-None.is in
     (omega arith, omega (arith, l.invariant.1, c.loop-at-test.true), l.invariant.2, none_left next.result next.ensures e ∙ l.invariant.3, none_taken next.result (buffer l.out l.used) next.ensures e ∙ l.invariant.4)
 
 pub shape_of-out : goal.shape_of-out
