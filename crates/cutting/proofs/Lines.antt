@@ -1,10 +1,8 @@
 -- What the lines that are ended have come to, with one more.
 use Prim.Native.Nat.{ℕ, suc}
 use mathlib.Core.Path.{◌≡◌, refl, sym, ◌∙◌}
-use mathlib.Core.Bool.{cond}
 use mathlib.Core.List.{List, [], ◌∷◌, ◌++◌}
 use native.Mathlib.Omega.{arith}
-use lib.Dec.{eqb}
 use lib.ListN.{length}
 use Rattle.piece_lines.specs.Says.{Piece}
 use Rattle.line_words.specs.Said.{Name}
@@ -14,6 +12,8 @@ use Rattle.piece_lines.specs.Held.{KeepsPiece, Tells}
 use Rattle.piece_lines.specs.declared.Told.TheVariants.{Comment, Piece as APiece, Bad}
 use Rattle.piece_lines.specs.declared.Ended.{Ended}
 use Rattle.piece_lines.proofs.Only.{said-says}
+use Rattle.std.specs.Prelude.{Option, Some}
+use Rattle.std.specs.Option.{unwrap_or}
 use Rattle.told_lines.specs.Lines.{said_in, capped}
 use Rattle.told_lines.proofs.Counting.{tally-comment, tally-bad, tally-says}
 use Rattle.cutting.specs.Life.{Holds, Counts}
@@ -40,7 +40,7 @@ module _ (ss : List (Said Piece)) (line : List ℕ) (t : Tally) (e : Ended) (k :
       go (says p) r = comment-piece (sym f ∙ r.0)
       go bad r = comment-bad (sym f ∙ r)
 
-  pub count-bad : e.told ≡ Bad → {b : ℕ} → b ≡ cond (eqb t.bad 0) n t.bad → Counts (ss ++ (said line ∷ [])) (record { lines = n; bad = b; pieces = t.pieces })
+  pub count-bad : e.told ≡ Bad → {b : Option ℕ} → b ≡ Some (unwrap_or t.bad n) → Counts (ss ++ (said line ∷ [])) (record { lines = n; bad = b; pieces = t.pieces })
   count-bad f {b} g = go (said line) q
     where
       go : (s : Said Piece) → Tells s e → Counts (ss ++ (s ∷ [])) (record { lines = n; bad = b; pieces = t.pieces })

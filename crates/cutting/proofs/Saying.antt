@@ -8,6 +8,7 @@ use lib.ListN.{length, take}
 use Rattle.piece_lines.specs.Says.{Piece}
 use Rattle.line_words.specs.Said.{Said}
 use Rattle.line_words.proofs.Keeping.{counted-short, counted-long, short_or_long}
+use Rattle.std.specs.Prelude.{None}
 use Rattle.told_lines.specs.Lines.{said_in}
 use Rattle.chop.specs.Pieces.{pieces_of}
 use Rattle.chop.specs.Verdicts.{Verdict, too_many_pieces, unknown_item, shows, said}
@@ -37,10 +38,10 @@ few ps s k h =
 abbrev pub line_in : Judged → List ℕ
 line_in j = line_for j.finding (take j.length j.circle)
 
-module _ (ss : List (Said Piece)) (t : Tally) (k : Counts ss t) (good : t.bad ≤ 0) where
+module _ (ss : List (Said Piece)) (t : Tally) (k : Counts ss t) (good : t.bad ≡ None) where
   -- an answer that holds the verdict says the line
   as_said : (v : Verdict) → verdict_on (said_in ss) ≡ v → (j : Judged) → j ≡ said v → line_in j ≡ line_of ss
-  as_said v e j q = ap line_in q ∙ line_for_lem v ∙ ap verdict_line (sym e) ∙ line-good ss t.bad k.bad good
+  as_said v e j q = ap line_in q ∙ line_for_lem v ∙ ap verdict_line (sym e) ∙ line-good ss (sym good ∙ k.bad)
 
   pub said-many : 32 < t.pieces.count → (j : Judged) → j ≡ shows TooManyPieces [] → line_in j ≡ line_of ss
   unfolding said

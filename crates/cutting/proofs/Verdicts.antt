@@ -12,8 +12,9 @@ use Rattle.rules.proofs.Circles.{length_tabulate}
 use Rattle.piece_lines.specs.Says.{Piece}
 use Rattle.line_words.specs.Said.{Said}
 use Rattle.piece_lines.specs.Items.{unknown_in}
-use Rattle.told_lines.specs.Lines.{said_in, first_bad, capped, bad_text}
-use Rattle.told_lines.proofs.Counting.{capped_zero, capped_some}
+use Rattle.std.specs.Prelude.{Some, None}
+use Rattle.told_lines.specs.Lines.{said_in, first_bad, bad_line, bad_text}
+use Rattle.told_lines.proofs.Counting.{bad_some, bad_none}
 use Rattle.chop.specs.Pieces as chop
 use Rattle.chop.specs.Pieces.{pieces_of}
 use Rattle.chop.specs.Verdicts.{too_many_pieces, unknown_item}
@@ -81,14 +82,14 @@ module _ (ps : List Piece) where
 
 -- ---- the line of all lines
 
-pub line-bad : (ss : List (Said Piece)) (b : ℕ) → b ≡ capped (first_bad ss) → 0 < b → bad_text b ≡ line_of ss
+pub line-bad : (ss : List (Said Piece)) (b : ℕ) → Some b ≡ bad_line (first_bad ss) → bad_text b ≡ line_of ss
 unfolding line_of
-line-bad ss b e h =
-    let k : 0 < first_bad ss = capped_some (first_bad ss) (omega arith) in
-    rw (lt-ltb 0 (first_bad ss) k) (ap bad_text e)
+line-bad ss b e =
+    let k = bad_some (first_bad ss) e in
+    rw (lt-ltb 0 (first_bad ss) k.0) (ap bad_text k.1)
 
-pub line-good : (ss : List (Said Piece)) (b : ℕ) → b ≡ capped (first_bad ss) → b ≤ 0 → verdict_line (verdict_on (said_in ss)) ≡ line_of ss
+pub line-good : (ss : List (Said Piece)) → None ≡ bad_line (first_bad ss) → verdict_line (verdict_on (said_in ss)) ≡ line_of ss
 unfolding line_of
-line-good ss b e h =
-    let z : first_bad ss ≡ 0 = capped_zero (first_bad ss) (omega arith) in
+line-good ss e =
+    let z = bad_none (first_bad ss) e in
     rw (le-ltb 0 (first_bad ss) (omega arith)) refl

@@ -9,7 +9,7 @@ ghost use Rattle.cutting.specs.Life.{Holds};
 use chop::MOST;
 use piece_lines::Noted;
 use texts::put_text;
-use told_lines::{WIDE, place};
+use told_lines::{Names, WIDE, place};
 
 // How many there are: one more than the most where there are too many. Whether some item is unknown.
 // Their names, and their rows: transaction, items read, items written.
@@ -17,7 +17,7 @@ use told_lines::{WIDE, place};
 pub struct Pieces {
     pub count: usize,
     pub unknown: bool,
-    pub names: [u8; 1024],
+    pub names: Names,
     pub rows: [u64; 96],
 }
 

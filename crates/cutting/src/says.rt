@@ -18,12 +18,11 @@ pub(crate) fn say(tally: Tally, out: &mut [u8]) -> usize
     ensures upper_bound { result ≤ length out.old }
     ensures wrote { (ss : List (Said Piece)) → Counts ss tally → Wrote out.old 0 (line_of ss) out.new result }
 {
-    let bad = tally.bad;
     let pieces = tally.pieces;
     let count = pieces.count;
     let unknown = pieces.unknown;
     let rows = pieces.rows;
-    if 0 < bad {
+    if let Some(bad) = tally.bad {
         return say_bad(bad, out);
     }
     if MOST < count {

@@ -10,11 +10,11 @@ use crate::pieces::Pieces;
 use piece_lines::{Ended, Told};
 use told_lines::{first, next};
 
-// How many there are, which of them is the first bad one, counted from 1 (0 for none), and the pieces.
+// How many there are, which of them is the first bad one, counted from 1, and the pieces.
 #[derive(Drop)]
 pub struct Tally {
     pub lines: u64,
-    pub bad: u64,
+    pub bad: Option<u64>,
     pub pieces: Pieces,
 }
 
@@ -25,7 +25,7 @@ impl Tally {
         let pieces = Pieces::new();
         Tally {
             lines: 0,
-            bad: 0,
+            bad: None,
             pieces,
         }
     }

@@ -11,9 +11,10 @@ use Rattle.rules.specs.Words.{some}
 use Rattle.line_words.specs.Said.{Said}
 use Rattle.line_words.proofs.Keeping.{counted-short, counted-long, short_or_long}
 use Rattle.op_lines.specs.Says.{Operation}
-use Rattle.told_lines.specs.Lines.{said_in, first_bad, capped, bad_text, unknown_words}
+use Rattle.std.specs.Prelude.{Some, None}
+use Rattle.told_lines.specs.Lines.{said_in, first_bad, bad_line, bad_text, unknown_words}
 use Rattle.told_lines.specs.Names.{unpadded, KeepsNames}
-use Rattle.told_lines.proofs.Counting.{capped_zero, capped_some}
+use Rattle.told_lines.proofs.Counting.{bad_some, bad_none}
 use Rattle.told_lines.proofs.Names.{unpadded-padded, plain_at}
 use Rattle.finest.specs.Operations as finest
 use Rattle.finest.specs.Finest.{finest_cut}
@@ -83,25 +84,25 @@ few os s k h =
 
 -- ---- what is said
 
-pub text_bad : (ss : List (Said Operation)) (b : ℕ) → b ≡ capped (first_bad ss) → 0 < b → bad_text b ≡ text_of ss
+pub text_bad : (ss : List (Said Operation)) (b : ℕ) → Some b ≡ bad_line (first_bad ss) → bad_text b ≡ text_of ss
 unfolding text_of
-text_bad ss b e h =
-    let k : 0 < first_bad ss = capped_some (first_bad ss) (omega arith) in
-    rw (lt-ltb 0 (first_bad ss) k) (ap bad_text e)
+text_bad ss b e =
+    let k = bad_some (first_bad ss) e in
+    rw (lt-ltb 0 (first_bad ss) k.0) (ap bad_text k.1)
 
-text_good : (ss : List (Said Operation)) (b : ℕ) → b ≡ capped (first_bad ss) → b ≤ 0 → found_text (said_in ss) ≡ text_of ss
+text_good : (ss : List (Said Operation)) → None ≡ bad_line (first_bad ss) → found_text (said_in ss) ≡ text_of ss
 unfolding text_of
-text_good ss b e h =
-    let z : first_bad ss ≡ 0 = capped_zero (first_bad ss) (omega arith) in
+text_good ss e =
+    let z = bad_none (first_bad ss) e in
     rw (le-ltb 0 (first_bad ss) (omega arith)) refl
 
-module _ (ss : List (Said Operation)) (t : Tally) (k : Counts ss t) (good : t.bad ≤ 0) where
+module _ (ss : List (Said Operation)) (t : Tally) (k : Counts ss t) (good : t.bad ≡ None) where
   pub said-many : 32 < t.operations.count → too_many_words ≡ text_of ss
   unfolding found_text
   said-many h =
       let m = many (said_in ss) t.operations k.kept h in
       sym (ap (λ (b : Bool). cond b too_many_words (cond (some unknown (said_in ss)) unknown_words (pieces_text (said_in ss)))) (lt-ltb 32 (length (said_in ss)) m))
-      ∙ text_good ss t.bad k.bad good
+      ∙ text_good ss (sym good ∙ k.bad)
 
   module _ (h : t.operations.count ≤ 32) where
     small : length (said_in ss) ≤ 32
@@ -111,7 +112,7 @@ module _ (ss : List (Said Operation)) (t : Tally) (k : Counts ss t) (good : t.ba
     unfolding found_text
     said-unknown e =
         sym (ap₂ (λ (b c : Bool). cond b too_many_words (cond c unknown_words (pieces_text (said_in ss)))) (le-ltb 32 (length (said_in ss)) small) (sym k.kept.unknown ∙ e))
-        ∙ text_good ss t.bad k.bad good
+        ∙ text_good ss (sym good ∙ k.bad)
 
     rows_are : take (t.operations.count * 4) t.operations.rows ≡ row_words (numbered (said_in ss))
     unfolding numbered
@@ -131,4 +132,4 @@ module _ (ss : List (Said Operation)) (t : Tally) (k : Counts ss t) (good : t.ba
         ∙ ap (λ (qs : List finest.Operation). cut_text (name_in t.operations.names) qs (finest_cut (numbered os))) (operations-back (numbered os))
         ∙ cut-named os t.operations.names (k.kept.holding f.0).names
         ∙ sym (ap₂ (λ (b c : Bool). cond b too_many_words (cond c unknown_words (pieces_text os))) (le-ltb 32 (length os) f.0) u)
-        ∙ text_good ss t.bad k.bad good
+        ∙ text_good ss (sym good ∙ k.bad)

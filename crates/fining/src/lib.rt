@@ -50,13 +50,9 @@ impl Fining {
         let mut line = self.line;
         let mut begun = self.begun;
         let mut tally = self.tally;
-        let mut k: usize = 0;
-        while k < piece.len() {
-            let byte = piece[k];
-            k += 1;
+        for &byte in piece {
             if byte == LINE_END {
-                let ended = line.ended();
-                tally = tally.count(ended);
+                tally = tally.count(line.ended());
                 line = Line::new();
                 begun = false;
             } else {
@@ -81,13 +77,10 @@ impl Fining {
     fn last(self) -> Tally
         ensures { (input : List ℕ) → Took input self → Counts (said_lines input) result }
     {
-        let line = self.line;
         let begun = self.begun;
-        let tally = self.tally;
         if begun {
-            let ended = line.ended();
-            return tally.count(ended);
+            return self.tally.count(self.line.ended());
         }
-        tally
+        self.tally
     }
 }

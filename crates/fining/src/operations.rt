@@ -9,7 +9,7 @@ ghost use Rattle.fining.specs.Life.{word_for, Holds};
 use finest::MOST;
 use op_lines::Noted;
 use texts::put_text;
-use told_lines::{WIDE, place};
+use told_lines::{Names, WIDE, place};
 
 // How many there are: one more than the most where there are too many. Whether some item is unknown.
 // Their programs' names, and their rows: program, item, 1 for a write, 1 where it may roll back.
@@ -17,7 +17,7 @@ use told_lines::{WIDE, place};
 pub struct Operations {
     pub count: usize,
     pub unknown: bool,
-    pub names: [u8; 1024],
+    pub names: Names,
     pub rows: [u64; 128],
 }
 

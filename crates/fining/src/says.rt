@@ -19,13 +19,12 @@ pub(crate) fn say(tally: Tally, out: &mut [u8]) -> usize
     ensures upper_bound { result ≤ length out.old }
     ensures wrote { (ss : List (Said Operation)) → Counts ss tally → Wrote out.old 0 (text_of ss) out.new result }
 {
-    let bad = tally.bad;
     let operations = tally.operations;
     let count = operations.count;
     let unknown = operations.unknown;
     let names = operations.names;
     let rows = operations.rows;
-    if 0 < bad {
+    if let Some(bad) = tally.bad {
         return say_bad(bad, out);
     }
     if MOST < count {

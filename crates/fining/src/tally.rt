@@ -10,12 +10,12 @@ use crate::operations::Operations;
 use op_lines::{Ended, Told};
 use told_lines::{first, next};
 
-// How many there are, which of them is the first bad one, counted from 1 (0 for none), and the
+// How many there are, which of them is the first bad one, counted from 1, and the
 // operations.
 #[derive(Drop)]
 pub struct Tally {
     pub lines: u64,
-    pub bad: u64,
+    pub bad: Option<u64>,
     pub operations: Operations,
 }
 
@@ -26,7 +26,7 @@ impl Tally {
         let operations = Operations::new();
         Tally {
             lines: 0,
-            bad: 0,
+            bad: None,
             operations,
         }
     }

@@ -1,6 +1,6 @@
 -- A bad line first, then the count, then the items, then the judge.
 use borrow.Author.Rules.{rules}
-use mathlib.Core.Path.{◌≡◌, sym}
+use mathlib.Core.Path.{◌≡◌, sym, ◌∙◌}
 use native.Mathlib.Omega.{arith}
 use Prim.Native.Nat.{ℕ, ◌*◌, ◌≤◌}
 use mathlib.Core.List.{List}
@@ -26,11 +26,11 @@ few rows count j size h e =
     let l = length-take-le (count * 3) rows (omega arith) in
     shown (pieces_of (take (count * 3) rows)) j e (omega (arith, pieces-number (take (count * 3) rows), l))
 
-pub returns-then-bad-gt0 : goal.returns-then-bad-gt0
-returns-then-bad-gt0 c =
+pub returns-in-Some : goal.returns-in-Some
+returns-in-Some c =
     let w = c.say_bad.ensures in
     let a = c.args.tally in
-    record { upper_bound = omega (arith, w.index, bad-most a.bad, c.requires); wrote = λ ss k. rw (sym (line-bad ss a.bad k.bad c.if-bad-gt0.true)) w }
+    record { upper_bound = omega (arith, w.index, bad-most c.in-Some.bad, c.requires); wrote = λ ss k. rw (sym (line-bad ss c.in-Some.bad (sym c.in-Some.is ∙ k.bad))) w }
 
 pub print-requires : goal.print-requires
 print-requires c = record { shown = shown-plain TooManyPieces c.plain.result c.plain.ensures; longest_line_in_bounds = c.requires }
@@ -40,7 +40,7 @@ returns-then-count-gt-MOST c =
     let w = c.print.ensures in
     let j = c.plain.result in
     let e = c.plain.ensures in
-    record { upper_bound = omega (arith, w.index, line-fits j (shown-plain TooManyPieces j e), c.requires); wrote = λ ss k. rw (sym (said-many ss c.args.tally k c.if-bad-gt0.false c.if-count-gt-MOST.true j e)) w }
+    record { upper_bound = omega (arith, w.index, line-fits j (shown-plain TooManyPieces j e), c.requires); wrote = λ ss k. rw (sym (said-many ss c.args.tally k c.in_default.is c.if-count-gt-MOST.true j e)) w }
 
 pub print-requires-then-unknown : goal.print-requires-then-unknown
 print-requires-then-unknown c = record { shown = shown-plain UnknownItem c.plain-then-unknown.result c.plain-then-unknown.ensures; longest_line_in_bounds = c.requires }
@@ -50,7 +50,7 @@ returns-then-unknown c =
     let w = c.print-then-unknown.ensures in
     let j = c.plain-then-unknown.result in
     let e = c.plain-then-unknown.ensures in
-    record { upper_bound = omega (arith, w.index, line-fits j (shown-plain UnknownItem j e), c.requires); wrote = λ ss k. rw (sym (said-unknown ss c.args.tally k c.if-bad-gt0.false c.if-count-gt-MOST.false c.if-unknown.true j e)) w }
+    record { upper_bound = omega (arith, w.index, line-fits j (shown-plain UnknownItem j e), c.requires); wrote = λ ss k. rw (sym (said-unknown ss c.args.tally k c.in_default.is c.if-count-gt-MOST.false c.if-unknown.true j e)) w }
 
 pub slice_bounds-rows-end : goal.slice_bounds-rows-end
 slice_bounds-rows-end c =
@@ -77,4 +77,4 @@ returns c =
     let a = c.args.tally.pieces in
     let size : length c.args.tally.pieces.rows ≡ 96 = search rules in
     let s = few a.rows a.count c.judge-judged.result size (omega (arith, c.if-count-gt-MOST.false)) c.judge-judged.ensures in
-    record { upper_bound = omega (arith, w.index, line-fits j s, c.requires); wrote = λ ss k. rw (sym (said-judged ss c.args.tally k c.if-bad-gt0.false c.if-count-gt-MOST.false c.if-unknown.false j e)) w }
+    record { upper_bound = omega (arith, w.index, line-fits j s, c.requires); wrote = λ ss k. rw (sym (said-judged ss c.args.tally k c.in_default.is c.if-count-gt-MOST.false c.if-unknown.false j e)) w }
