@@ -10,9 +10,24 @@ ghost use Rattle.std.specs.Prelude.{◌≡◌};
 ghost use Rattle.names.specs.Sizes.{base};
 ghost use Rattle.rules.specs.Tables.{tables};
 ghost use Rattle.rules.specs.Answers.{outcome, BeginUpdate, BeginQuery, Read, Write, Commit, Abort, Settle, BeginRelaxed};
+ghost use Rattle.rules.specs.Good.{Good};
 ghost use Rattle.rules.specs.Step.{step};
 
-use names::{Answer, LOCK_WORDS, Refusal, TXN_WORDS, VERSION_WORDS};
+use names::{Answer, LOCK_WORDS, Locks, Refusal, TXN_WORDS, Txns, VERSION_WORDS, Versions};
+
+// Makes a call on good tables: what it comes to is judged, then done.
+fn call_on_good(
+    call: names::Call,
+    txns: &mut Txns,
+    locks: &mut Locks,
+    versions: &mut Versions,
+) -> Answer
+    requires { Good base (tables txns.old locks.old versions.old) }
+    ensures { outcome result txns.new locks.new versions.new ≡ step base call (tables txns.old locks.old versions.old) }
+{
+    let deed = judged::judged(call, txns, locks, versions);
+    done::done(deed, txns, locks, versions)
+}
 
 // Makes a call.
 pub fn call(call: names::Call, txns: &mut [u64], locks: &mut [u64], versions: &mut [u64]) -> Answer
@@ -31,8 +46,7 @@ pub fn call(call: names::Call, txns: &mut [u64], locks: &mut [u64], versions: &m
     let Some(versions) = versions.as_mut_array::<VERSION_WORDS>() else {
         unreachable!();
     };
-    let deed = judged::judged(call, txns, locks, versions);
-    done::done(deed, txns, locks, versions)
+    call_on_good(call, txns, locks, versions)
 }
 
 // Begins an update: the answer's number is its number.
