@@ -16,6 +16,7 @@ use names::{
 };
 
 // The slot of the live transaction that a word names.
+#[tactic(auto, using(crate::proofs::Founds::impossible, crate::proofs::Founds::possible), unfolding(rows::specs::Founds::found_at))]
 pub fn find(txns: &Txns, number: u64) -> Option<Slot>
     requires { Searchable txns.now }
     ensures { result ≡ found_at (slot_of base txns.now number) }
@@ -56,6 +57,7 @@ pub fn awaits_other(txns: &Txns, slot: Slot, lock: u64, item: u64) -> bool
 }
 
 // Whether the slot holds as many items exclusively as it may, and this one not.
+#[tactic(auto, using(rules::proofs::Quotas::held_not_further), unfolding(rules::specs::Step::writes_further, rules::specs::Tables::holds_exclusive))]
 pub fn writes_further(locks: &Locks, slot: Slot, item: Item) -> bool
     requires { (slot.0 < base.slots) × (item.0 < base.items) }
     ensures { result ≡ writes_further base locks.now slot.0 item.0 }
@@ -69,6 +71,7 @@ pub fn writes_further(locks: &Locks, slot: Slot, item: Item) -> bool
 }
 
 // Whether the slot is past its writing and does not hold this item exclusively.
+#[tactic(auto, unfolding(rules::specs::Step::writes_past, rules::specs::Tables::holds_exclusive))]
 pub fn writes_past(txns: &Txns, locks: &Locks, slot: Slot, item: Item) -> bool
     requires { (slot.0 < base.slots) × (item.0 < base.items) }
     ensures { result ≡ writes_past txns.now locks.now slot.0 item.0 }

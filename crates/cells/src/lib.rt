@@ -35,7 +35,7 @@ impl Asked {
 
 // What a slot holds of an item.
 #[derive(Clone, Copy, PartialEq, Eq)]
-pub enum Held {
+enum Held {
     Exclusively,
     Shared,
     Nothing,
@@ -75,6 +75,7 @@ fn another_excludes(row: LockRow, slot: Slot) -> bool
 
 // Whether another slot waits on the item ahead of a request for the lock `wanted`, in conflict with it.
 // Most items have no line, and then no rank is asked for.
+#[tactic(auto, using(crate::proofs::Others::ahead_is, crate::proofs::Others::none_ahead))]
 fn another_ahead(txns: &Txns, locks: &Locks, wanted: u64, item: Item, slot: Slot) -> bool
     requires { (slot.0 < base.slots) × (item.0 < base.items) }
     ensures { result ≡ another_ahead base txns.now locks.now wanted item.0 slot.0 }
@@ -145,6 +146,7 @@ pub fn decision(asked: Asked, txns: &Txns, locks: &Locks, item: Item, slot: Slot
 }
 
 // A lock that the slot shares too.
+#[tactic(auto, using(words::proofs::SlotWords::set_is, words::proofs::SlotWords::shifted))]
 pub fn shared_too(row: LockRow, slot: Slot) -> LockRow
     requires { slot.0 < base.slots }
     ensures { lock_of result ≡ Step·sharedToo (lock_of row) slot.0 }

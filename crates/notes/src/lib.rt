@@ -89,6 +89,7 @@ pub fn join(txns: &mut Txns, slot: Slot, sets: u64)
 }
 
 // The exclusive holder of an item, its slot plus 1, joins the set of a relaxed query; 0 is nobody.
+#[tactic(auto, using(crate::proofs::Words::holder_some, crate::proofs::Words::holder_none, words::proofs::SlotWords::shifted))]
 fn holder_joins(txns: &mut Txns, holder: u64, query: Slot)
     requires { (holder ≤ base.slots) × (query.0 < base.slots) }
     ensures { txns.new ≡ holder_joins holder query.0 txns.old }
@@ -100,6 +101,7 @@ fn holder_joins(txns: &mut Txns, holder: u64, query: Slot)
 }
 
 // A read by a relaxed query is noted: the item, and that who holds it exclusively is a later one.
+#[tactic(auto, using(words::proofs::SlotWords::set_is, words::proofs::SlotWords::shifted), unfolding(rules::specs::Step::read_noted))]
 pub fn note_read(txns: &mut Txns, locks: &Locks, slot: Slot, item: Item)
     requires { (slot.0 < base.slots) × (item.0 < base.items) × ((lock locks.now item.0).exclusive ≤ base.slots) }
     ensures { txns.new ≡ read_noted txns.old locks.now slot.0 item.0 }

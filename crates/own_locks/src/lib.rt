@@ -12,6 +12,7 @@ use names::{ITEMS, Item, Locks, Slot};
 use rows::LockRow;
 
 // Whether a slot holds an item exclusively.
+#[tactic(auto, unfolding(rules::specs::Tables::holds_exclusive))]
 fn holds(locks: &Locks, item: Item, slot: Slot) -> bool
     requires { (item.0 < base.items) × (slot.0 < base.slots) }
     ensures { result ≡ holds_exclusive (lock locks.now item.0) slot.0 }
@@ -49,6 +50,7 @@ fn unshared(row: LockRow, slot: Slot) -> LockRow
 }
 
 // A lock without a slot.
+#[tactic(auto, unfolding(rules::specs::Tables::released, rules::specs::Tables::holds_exclusive))]
 fn without(row: LockRow, slot: Slot) -> LockRow
     requires { slot.0 < base.slots }
     ensures { lock_of result ≡ released slot.0 (lock_of row) }

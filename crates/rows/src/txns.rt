@@ -210,6 +210,7 @@ pub fn leave(txns: &mut Txns, slot: Slot)
 }
 
 // A new row: the number, the kind and the start; its other words are 0.
+#[tactic(auto, using(rules::proofs::Views::set_txn_new))]
 fn put_row(txns: &mut Txns, slot: Slot, number: Number, kind: u64, start: Stamp)
     requires { slot.0 < base.slots }
     ensures { txns.new ≡ set_txn txns.old slot.0 (new_txn number.0 kind start.0) }

@@ -1,5 +1,6 @@
 use mathlib.Core.Path.{◌≡◌, refl, sym, ap, ◌∙◌, subst}
 use mathlib.Core.List.{List}
+use native.Mathlib.Omega.{arith}
 use Prim.Native.Nat.{ℕ, ◌+◌}
 use mathlib.Core.Bool.{Bool, true, false, ◌&&◌, not, false≢true}
 use lib.Dec.{eqb}
@@ -30,9 +31,9 @@ loop-x-preserved g c =
     elim c.if-ne.branch [
       | then-ne w ↦ λ f h.
           subst (λ (m : List ℕ). Released f before m (x + 1)) (sym (w.locks-is ∙ w.set_lock.ensures))
-          (one_released f before l x _ c.loop-x-test.true (c.loop-x.invariant f h) (h _ _ c.changed-made.ensures ∙ ap f c.lock_at-row.ensures))
+          (one_released f before l x _ (omega arith) (c.loop-x.invariant f h) (h _ _ c.changed-made.ensures ∙ ap f c.lock_at-row.ensures))
       | else-ne w ↦ λ f h.
           let same = rows_same _ _ (sym c.ne.ensures ∙ w.if-ne.false) in
           let kept = sym c.lock_at-row.ensures ∙ sym same ∙ h _ _ c.changed-made.ensures ∙ ap f c.lock_at-row.ensures in
-          subst (λ (m : List ℕ). Released f before m (x + 1)) (sym w.locks-is) (one_kept f before l x c.loop-x-test.true (c.loop-x.invariant f h) kept)
+          subst (λ (m : List ℕ). Released f before m (x + 1)) (sym w.locks-is) (one_kept f before l x (omega arith) (c.loop-x.invariant f h) kept)
     ]
