@@ -1,2 +1,3 @@
--- What is asked of the tables for a wait.
+-- What is asked of the tables for a wait, and the deed that is found.
 pub mod Asks
+pub mod Deeds

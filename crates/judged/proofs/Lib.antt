@@ -1,2 +1,0 @@
--- Laws of the judging.
-pub mod Exits
