@@ -13,27 +13,24 @@ ghost use Rattle.done.specs.Able.{Able};
 
 use deeds::{begins, grants, reads};
 use endings::{aborts, ends, settles};
-use names::{Answer, Deed};
+use names::{Answer, Deed, Locks, Txns, Versions};
 
-pub fn done(deed: Deed, txns: &mut [u64], locks: &mut [u64], versions: &mut [u64]) -> Answer
+#[tactic(auto, unfolding(rules::specs::Step::done))]
+pub fn done(deed: Deed, txns: &mut Txns, locks: &mut Locks, versions: &mut Versions) -> Answer
     requires { Good base (tables txns.old locks.old versions.old) × Able (tables txns.old locks.old versions.old) deed }
     ensures { outcome result txns.new locks.new versions.new ≡ done base deed (tables txns.old locks.old versions.old) }
 {
     match deed {
         Deed::Refused(why) => Answer::refused(why),
-        Deed::Waits(slot, lock, item) => begins::waits(txns, &locks[..], slot, lock, item),
+        Deed::Waits(slot, lock, item) => begins::waits(txns, locks, slot, lock, item),
         Deed::Begins(slot, kind, start) => begins::begins(txns, slot, kind, start),
-        Deed::ReadsVersion(slot, item) => {
-            reads::version(txns, &locks[..], &versions[..], slot, item)
-        }
-        Deed::ReadsOwn(slot, item) => reads::own(txns, &locks[..], slot, item),
-        Deed::ReadsNewest(slot, item) => reads::newest(txns, &versions[..], slot, item),
-        Deed::TakesShared(slot, item) => {
-            grants::takes_shared(txns, locks, &versions[..], slot, item)
-        }
+        Deed::ReadsVersion(slot, item) => { reads::version(txns, locks, versions, slot, item) }
+        Deed::ReadsOwn(slot, item) => reads::own(txns, locks, slot, item),
+        Deed::ReadsNewest(slot, item) => reads::newest(txns, versions, slot, item),
+        Deed::TakesShared(slot, item) => { grants::takes_shared(txns, locks, versions, slot, item) }
         Deed::Replaces(slot, item, value) => grants::replaces(txns, locks, slot, item, value),
         Deed::TakesExclusive(slot, item, value) => {
-            grants::takes_exclusive(txns, locks, &versions[..], slot, item, value)
+            grants::takes_exclusive(txns, locks, versions, slot, item, value)
         }
         Deed::Commits(slot) => ends::commits(txns, locks, versions, slot),
         Deed::CommitsEmpty(slot) => aborts::commits_empty(txns, locks, slot),
