@@ -50,7 +50,7 @@ fn conflict(txns: &Txns, locks: &Locks, slot: Slot, lock: u64, item: Item) -> Re
 }
 
 // What the cell of the lock table comes to, to read or to write this value.
-#[tactic(auto, unfolding(rules::specs::Step::access, rules::specs::Step::cell_deed))]
+#[tactic(auto, unfolding(rules::specs::Step::access, rules::specs::Step::cell_deed, rules::specs::Step::conflicted))]
 fn access(
     txns: &Txns,
     locks: &Locks,

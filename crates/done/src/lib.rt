@@ -15,6 +15,7 @@ use deeds::{begins, grants, reads};
 use endings::{aborts, ends, settles};
 use names::{Answer, Deed, Locks, Txns, Versions};
 
+#[tactic(auto, unfolding(rules::specs::Step::done))]
 pub fn done(deed: Deed, txns: &mut Txns, locks: &mut Locks, versions: &mut Versions) -> Answer
     requires { Good base (tables txns.old locks.old versions.old) × Able (tables txns.old locks.old versions.old) deed }
     ensures { outcome result txns.new locks.new versions.new ≡ done base deed (tables txns.old locks.old versions.old) }

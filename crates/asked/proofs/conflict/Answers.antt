@@ -1,8 +1,6 @@
 -- A wait that is noted already closes no circle; else it is noted in a copy, and the slot searched for from those whom it waits for there.
-use Rattle.std.proofs.Common.{◌≡◌, sym, ◌∙◌, ℕ, List, subst}
-use Rattle.names.specs.Sizes.{base}
+use Rattle.std.proofs.Common.{sym, ◌∙◌, ℕ, List, subst}
 use Rattle.rules.specs.Tables.{tables}
-use Rattle.rules.specs.Waits.{noted, circle_at}
 use Rattle.rules.specs.Step.{conflicted}
 use Rattle.ranks.proofs.Ranks.{ranks-small}
 use Rattle.waiting.specs.Waiting.{Readable, Links}

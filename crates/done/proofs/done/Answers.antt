@@ -1,9 +1,7 @@
 -- Each deed by its own function.
-use mathlib.Core.Path.{◌≡◌, ap, subst}
-use Rattle.names.specs.declared.Answer.{Answer}
+use mathlib.Core.Path.{◌≡◌, subst}
 use Rattle.rules.specs.Tables.{Tables, tables}
-use Rattle.rules.specs.Answers.{Deed, outcome}
-use Rattle.rules.specs.Step.{done}
+use Rattle.rules.specs.Answers.{Deed}
 use Rattle.choices.proofs.Handed.{good-found}
 use Rattle.done.specs.Able.{Able}
 use Rattle.deeds.proofs.Deeds.{told, lockable, waitable, has_newest, holder_inside}
@@ -99,26 +97,10 @@ aborts_settled-requires c =
     let a = able G c.requires.1 c.in-AbortsSettled.is in
     (c.requires.0, a.0, a.1)
 
-pub returns-in-Refused : goal.returns-in-Refused
-unfolding done
-returns-in-Refused c =
-    let G = tables c.args.txns.now c.args.locks.now c.args.versions.now in
-    told G c.in-Refused.is (ap (λ (r : Answer). outcome r G.txns G.locks G.versions) c.refused.ensures)
-
 pub returns-in-Waits : goal.returns-in-Waits
 returns-in-Waits c =
     let G = tables c.args.txns.now c.args.locks.now c.args.versions.now in
     told G c.in-Waits.is (c.waits.ensures G.versions)
-
-pub returns-in-Begins : goal.returns-in-Begins
-returns-in-Begins c =
-    let G = tables c.args.txns.now c.args.locks.now c.args.versions.now in
-    told G c.in-Begins.is (c.begins.ensures G.locks G.versions)
-
-pub returns-in-ReadsVersion : goal.returns-in-ReadsVersion
-returns-in-ReadsVersion c =
-    let G = tables c.args.txns.now c.args.locks.now c.args.versions.now in
-    told G c.in-ReadsVersion.is c.version.ensures
 
 pub returns-in-ReadsOwn : goal.returns-in-ReadsOwn
 returns-in-ReadsOwn c =
@@ -129,53 +111,3 @@ pub returns-in-ReadsNewest : goal.returns-in-ReadsNewest
 returns-in-ReadsNewest c =
     let G = tables c.args.txns.now c.args.locks.now c.args.versions.now in
     told G c.in-ReadsNewest.is (c.newest.ensures G.locks)
-
-pub returns-in-TakesShared : goal.returns-in-TakesShared
-returns-in-TakesShared c =
-    let G = tables c.args.txns.now c.args.locks.now c.args.versions.now in
-    told G c.in-TakesShared.is c.takes_shared.ensures
-
-pub returns-in-Replaces : goal.returns-in-Replaces
-returns-in-Replaces c =
-    let G = tables c.args.txns.now c.args.locks.now c.args.versions.now in
-    told G c.in-Replaces.is (c.replaces.ensures G.versions)
-
-pub returns-in-TakesExclusive : goal.returns-in-TakesExclusive
-returns-in-TakesExclusive c =
-    let G = tables c.args.txns.now c.args.locks.now c.args.versions.now in
-    told G c.in-TakesExclusive.is c.takes_exclusive.ensures
-
-pub returns-in-Commits : goal.returns-in-Commits
-returns-in-Commits c =
-    let G = tables c.args.txns.now c.args.locks.now c.args.versions.now in
-    told G c.in-Commits.is c.commits.ensures
-
-pub returns-in-CommitsEmpty : goal.returns-in-CommitsEmpty
-returns-in-CommitsEmpty c =
-    let G = tables c.args.txns.now c.args.locks.now c.args.versions.now in
-    told G c.in-CommitsEmpty.is (c.commits_empty.ensures G.versions)
-
-pub returns-in-Ends : goal.returns-in-Ends
-returns-in-Ends c =
-    let G = tables c.args.txns.now c.args.locks.now c.args.versions.now in
-    told G c.in-Ends.is (c.ends.ensures G.locks)
-
-pub returns-in-Aborts : goal.returns-in-Aborts
-returns-in-Aborts c =
-    let G = tables c.args.txns.now c.args.locks.now c.args.versions.now in
-    told G c.in-Aborts.is (c.aborts.ensures G.versions)
-
-pub returns-in-Settles : goal.returns-in-Settles
-returns-in-Settles c =
-    let G = tables c.args.txns.now c.args.locks.now c.args.versions.now in
-    told G c.in-Settles.is (c.settles.ensures G.versions)
-
-pub returns-in-CommitsSettled : goal.returns-in-CommitsSettled
-returns-in-CommitsSettled c =
-    let G = tables c.args.txns.now c.args.locks.now c.args.versions.now in
-    told G c.in-CommitsSettled.is c.commits_settled.ensures
-
-pub returns-in-AbortsSettled : goal.returns-in-AbortsSettled
-returns-in-AbortsSettled c =
-    let G = tables c.args.txns.now c.args.locks.now c.args.versions.now in
-    told G c.in-AbortsSettled.is c.aborts_settled.ensures
