@@ -1,25 +1,24 @@
 -- What is recorded of a script: the calls of its lines, and the answers to them.
-use Rattle.std.specs.Prelude.{ℕ, ◌+◌, ◌/◌, min, List, [], ◌∷◌, ◌++◌, length}
+use Rattle.std.specs.Prelude.{ℕ, ◌+◌, ◌/◌, min, List, [], ◌∷◌, ◌++◌, length, Option, Some, None}
 use Rattle.names.specs.Sizes.{base}
 use Rattle.names.specs.declared.Answer.{Answer}
 use Rattle.rules.specs.Tables.{Tables}
+use Rattle.rules.specs.Answers.{Call}
 use Rattle.rules.specs.Step.{step}
 use Rattle.call_words.specs.Calls.{fields_of, call_in}
 use Rattle.call_words.specs.declared.Fields.{Fields}
-use Rattle.script.specs.declared.calls.Parsed.{Parsed}
-use Rattle.script.specs.declared.calls.Parsed.TheVariants.{Call, Bad}
 use Rattle.journal.specs.Words.{greatest}
 use Rattle.journal.specs.Format.{record_size, calls_in}
 
 -- ---- the calls
 
 -- a line's call; a line that is none "calls nothing", and nothing of it is recorded
-unfoldable pub line_calls : Parsed → List Fields
-line_calls (Call m) = fields_of m ∷ []
-line_calls Bad = []
+unfoldable pub line_calls : Option Call → List Fields
+line_calls (Some m) = fields_of m ∷ []
+line_calls None = []
 
 -- line after line
-unfoldable pub script_calls : List Parsed → List Fields
+unfoldable pub script_calls : List (Option Call) → List Fields
 script_calls [] = []
 script_calls (p ∷ ps) = line_calls p ++ script_calls ps
 

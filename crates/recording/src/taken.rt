@@ -7,7 +7,7 @@ ghost use Rattle.texts.specs.Written.{buffer, put};
 ghost use Rattle.recording.specs.Records.{line_calls, script_calls, count_with};
 
 use lines::Lines;
-use script::Parsed;
+use names::Call;
 
 // What a chunk leaves: the line that is not ended yet, and how many bytes of records.
 #[derive(Clone, Copy)]
@@ -17,10 +17,10 @@ pub struct Taken {
 }
 
 // A line's call, put behind `used` bytes; how many are used then.
-fn take_line(parsed: Parsed, out: &mut [u8], used: usize) -> usize
+fn take_line(parsed: Option<Call>, out: &mut [u8], used: usize) -> usize
     ensures { buffer out.new result ≡ put (call_records (line_calls parsed)) (buffer out.old used) }
 {
-    let Parsed::Call(call) = parsed else {
+    let Some(call) = parsed else {
         return used;
     };
     journal::put_call(out, used, call_words::fields_of(call))
@@ -39,14 +39,15 @@ pub fn take_chunk(lines: Lines, chunk: &[u8], out: &mut [u8]) -> Taken
     let mut at: usize = 0;
     while at < chunk.len() {
         let next = held.next(chunk, at);
-        held = next.lines;
-        if next.ended {
-            at = next.at;
-            used = take_line(script::read_as(held), out, used);
-            held = Lines::new();
-        } else {
-            at = chunk.len();
-        }
+        let Some(end) = next.at else {
+            return Taken {
+                lines: next.lines,
+                used,
+            };
+        };
+        used = take_line(script::read_as(next.lines), out, used);
+        held = Lines::new();
+        at = end;
     }
     Taken { lines: held, used }
 }
@@ -64,12 +65,10 @@ pub fn take_last(lines: Lines, out: &mut [u8]) -> usize
 }
 
 // How many calls there are with those of so many bytes.
+#[tactic(auto, unfolding(crate::specs::Records::count_with))]
 pub fn count_with(count: u64, bytes: usize) -> u64
     ensures { result ≡ count_with count bytes }
 {
     let more = (bytes / journal::RECORD) as u64;
-    if u64::MAX - count < more {
-        return u64::MAX;
-    }
-    count + more
+    count.saturating_add(more)
 }
