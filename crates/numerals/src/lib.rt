@@ -4,5 +4,5 @@
 mod answers;
 mod numbers;
 
-pub use answers::{decimal, print, print_bad};
+pub use answers::{decimal, followed, print, print_bad};
 pub use numbers::number;

@@ -11,8 +11,7 @@ use Rattle.numerals.specs.Numbers.{Numbers, none as no-numbers, more as numeral_
 use Rattle.lines.specs.Lines.{lines_of}
 use Rattle.script.specs.Parse.{parsed}
 use Rattle.script.specs.Inputs.{parsed_lines}
-use Rattle.script.specs.declared.calls.Parsed.{Parsed}
-use Rattle.script.specs.declared.calls.Parsed.TheVariants.{Call as Calls, Bad}
+use Rattle.std.proofs.Common.{Option, Some, None}
 use Rattle.script.proofs.Spoken.{parsed-sound}
 use Rattle.journal.specs.Words.{greatest}
 use Rattle.journal.specs.Format.{CallFits, Every, none, more}
@@ -32,9 +31,9 @@ line-fits : (l : List ℕ) → Every CallFits (line_calls (parsed l))
 unfolding line_calls
 line-fits l = go (parsed l) refl
   where
-    go : (p : Parsed) → parsed l ≡ p → Every CallFits (line_calls p)
-    go (Calls m) e = more (fields_fit m (numbers-most (parsed-sound l m e).0.numbers)) none
-    go Bad e = none
+    go : (p : Option Call) → parsed l ≡ p → Every CallFits (line_calls p)
+    go (Some m) e = more (fields_fit m (numbers-most (parsed-sound l m e).0.numbers)) none
+    go None e = none
 
 every_append : {a b : List Fields} → Every CallFits a → Every CallFits b → Every CallFits (a ++ b)
 every_append none s = s

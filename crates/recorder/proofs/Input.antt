@@ -9,7 +9,8 @@ use lib.Seq.{take_at}
 use Rattle.call_words.specs.declared.Fields.{Fields}
 use Rattle.lines.specs.Lines.{Held, short, begun, left, joined}
 use Rattle.script.specs.Inputs.{read_as, reads, last, chunked}
-use Rattle.script.specs.declared.calls.Parsed.{Parsed}
+use Rattle.rules.specs.Answers.{Call}
+use Rattle.std.proofs.Common.{Option}
 use Rattle.script.proofs.Chunks.{chunks}
 use Rattle.journal.specs.Format.{record_size, call_records}
 use Rattle.journal.proofs.Sections.{length-call_records}
@@ -46,7 +47,7 @@ taken-chunked (c ∷ cs) h =
 
 taken_input : (cs : List (List ℕ)) → taken_all (short []) cs ≡ call_records (input_calls (joined cs))
 unfolding input_calls
-taken_input cs = taken-chunked cs (short []) ∙ ap (λ (ps : List Parsed). call_records (script_calls ps)) (chunks cs)
+taken_input cs = taken-chunked cs (short []) ∙ ap (λ (ps : List (Option Call)). call_records (script_calls ps)) (chunks cs)
 
 -- what was put out, and what will be, of whatever comes
 all_taken : {input put : List ℕ} {h : Held} → Taken input put h → (cs : List (List ℕ)) → put ++ taken_all h cs ≡ call_records (input_calls (input ++ joined cs))
@@ -87,7 +88,7 @@ last-most : (h : Held) → length (last h) ≤ 1
 unfolding last
 last-most h = go (begun h)
   where
-    go : (b : Bool) → length (cond {A = List Parsed} b (read_as h ∷ []) []) ≤ 1
+    go : (b : Bool) → length (cond {A = List (Option Call)} b (read_as h ∷ []) []) ≤ 1
     go true = omega arith
     go false = omega arith
 
