@@ -26,7 +26,7 @@ pub fn decimal(n: u64, out: &mut [u8], at: usize) -> usize
 }
 
 // Writes a number in decimal and a byte after it.
-fn followed(n: u64, byte: u8, out: &mut [u8], at: usize) -> usize
+pub fn followed(n: u64, byte: u8, out: &mut [u8], at: usize) -> usize
     requires { at + length (followed n byte) ≤ length out.old }
     ensures { Wrote out.old at (followed n byte) out.new result }
 {
