@@ -8,7 +8,7 @@ ghost use Rattle.recorder.specs.First.{input_calls, count_of};
 ghost use Rattle.recorder.specs.Second.{run_journal, longest, left, records_next, bytes_next, Answered};
 
 use journal::RECORD;
-use names::{LOCK_WORDS, Locks, TXN_WORDS, Txns, VERSION_WORDS, Versions};
+use names::{LOCK_WORDS, TXN_WORDS, VERSION_WORDS};
 
 // A word's bytes.
 fn word(w: u64) -> [u8; 8]
@@ -25,14 +25,24 @@ pub fn unfinished() -> [u8; 8]
     word(u64::MAX)
 }
 
+// The line of a count.
+fn count_line(count: u64, out: &mut [u8]) -> usize
+    requires { longest ≤ length out.old }
+    ensures upper_bound { result ≤ length out.old }
+    ensures wrote { Wrote out.old 0 (followed count 10) out.new result }
+{
+    let end = numerals::decimal(count, out, 0);
+    texts::put(out, end, b'\n')
+}
+
 // How many calls there are, how many of them are still asked for, and the tables.
 #[derive(Clone, Copy)]
 pub struct Answering {
     count: u64,
     left: u64,
-    txns: Txns,
-    locks: Locks,
-    versions: Versions,
+    txns: [u64; TXN_WORDS],
+    locks: [u64; LOCK_WORDS],
+    versions: [u64; VERSION_WORDS],
 }
 
 impl Answering {
@@ -40,9 +50,9 @@ impl Answering {
     pub(crate) fn new(count: u64) -> Self
         ensures { (input : List ℕ) → count ≡ count_of input → Answered input [] [] result }
     {
-        let mut txns = [0; TXN_WORDS];
-        let mut locks = [0; LOCK_WORDS];
-        let mut versions = [0; VERSION_WORDS];
+        let mut txns = [0u64; TXN_WORDS];
+        let mut locks = [0u64; LOCK_WORDS];
+        let mut versions = [0u64; VERSION_WORDS];
         fresh::fresh(&mut txns, &mut locks, &mut versions);
         Answering {
             count,
@@ -112,6 +122,6 @@ impl Answering {
         ensures upper_bound { result ≤ length out.old }
         ensures by_index { (input calls put : List ℕ) → Answered input calls put self → Wrote out.old 0 (followed (count_of input) 10) out.new result }
     {
-        numerals::followed(self.count, b'\n', out, 0)
+        count_line(self.count, out)
     }
 }

@@ -4,7 +4,6 @@ use Rattle.names.specs.Sizes.{base}
 use Rattle.names.specs.declared.Answer.{Answer}
 use Rattle.rules.specs.Answers.{Call}
 use Rattle.rules.specs.Tables.{Tables}
-use Rattle.rules.specs.Answers.{Call}
 use Rattle.rules.specs.Step.{step}
 use Rattle.call_words.specs.Calls.{fields_of, call_in}
 use Rattle.call_words.specs.declared.Fields.{Fields}

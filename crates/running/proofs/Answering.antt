@@ -4,9 +4,7 @@ use mathlib.Core.Path.{◌≡◌, refl, sym, ap, ap₂, ◌∙◌}
 use mathlib.Core.List.{List, [], ◌++◌}
 use native.Mathlib.Omega.{arith}
 use lib.ListN.{length, drop}
-use Rattle.rules.specs.Answers.{Call}
 use Rattle.rules.specs.Tables.{Tables}
-use Rattle.std.proofs.Common.{Option, Some, None}
 use Rattle.texts.specs.Written.{Wrote}
 use Rattle.texts.proofs.Parts.{Putting, putting_first, putting_on, putting_end}
 use Rattle.lines.specs.Lines.{Held, short, held_by, Goes}

@@ -37,7 +37,6 @@ pub struct Taken {
 }
 
 impl Runner {
-    #[tactic(auto, using(fresh::proofs::Exact::made_fresh), unfolding(crate::specs::Life::state_of, crate::specs::Life::born))]
     pub fn new() -> Runner
         ensures { state_of result ≡ born }
     {
@@ -55,7 +54,6 @@ impl Runner {
     }
 
     // A piece of the input.
-    #[tactic(auto, using(texts::proofs::Parts::front), unfolding(crate::specs::Life::state_of))]
     pub fn take(self, piece: &[u8], out: &mut [u8]) -> Taken
         requires { longest_reply * length piece.now ≤ length out.old }
         ensures runner_value { state_of result.runner ≡ after_piece piece.now (state_of self) }
@@ -81,7 +79,6 @@ impl Runner {
     }
 
     // The end of the input: how many bytes are put out.
-    #[tactic(auto, unfolding(crate::specs::Life::state_of))]
     pub fn end(self, out: &mut [u8]) -> usize
         requires { longest_reply ≤ length out.old }
         ensures upper_bound { result ≤ length out.old }
