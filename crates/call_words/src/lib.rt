@@ -11,7 +11,7 @@ ghost use Rattle.call_words.specs.Calls.{fields, fields_of, known_kind, call_in,
 use names::Call;
 
 // The kinds, in the order of the runner's words.
-// (a) numbers, since a journal's file has them as words (`fields_of`, and its bytes).
+// Stays: numbers, since a journal's file has them as words (`fields_of`, and its bytes).
 pub const BEGIN_UPDATE: u64 = 1;
 
 pub const BEGIN_QUERY: u64 = 2;

@@ -30,7 +30,7 @@ pub enum Finding {
 
 // The judge's answer: what was found, and the circle if it is a refusal: `length` pieces by their places
 // in the input, counted from 0; zeros behind them.
-// (a) Fixed memory, no heap; the definitions `shows` and `said` give these three fields.
+// Stays: Fixed memory, no heap; the definitions `shows` and `said` give these three fields.
 #[derive(Drop)]
 pub struct Judged {
     pub finding: Finding,

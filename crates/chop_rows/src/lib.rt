@@ -24,7 +24,7 @@ const WRITE: u64 = 1;
 const WORDS: usize = 96;
 
 // A row by its words.
-// (a) `mode` is a word and not an enum: what is neither 0 nor 1 is malformed, and the definition `row_at` gives the word.
+// Stays: `mode` is a word and not an enum: what is neither 0 nor 1 is malformed, and the definition `row_at` gives the word.
 #[derive(Clone, Copy)]
 pub struct Row {
     pub transaction: u64,
@@ -43,7 +43,7 @@ pub struct Noted {
 }
 
 // How many pieces there are so far, and those that have room, in the front of the array.
-// (a) Fixed memory, no heap; and the count goes one past the room, where a list of at most MOST could not.
+// Stays: Fixed memory, no heap; and the count goes one past the room, where a list of at most MOST could not.
 #[derive(Drop)]
 pub struct Notes {
     pub count: usize,

@@ -28,7 +28,7 @@ pub enum Finding {
 
 // The answer: what was found, and for each of `count` operations the place of the least operation of its
 // piece, counted from 0; zeros behind them.
-// (a) Fixed memory, no heap; the definitions `shows` and `said` give these three fields.
+// Stays: Fixed memory, no heap; the definitions `shows` and `said` give these three fields.
 #[derive(Drop)]
 pub struct Named {
     pub finding: Finding,

@@ -24,7 +24,7 @@ pub enum Verdict {
 
 // What the judge keeps beside the tables: how many calls it has seen, and the first wrong one of
 // them, counted from 1; 0 for none.
-// (a) 0 for none, as the definitions `first_wrong` and `spoken` have it.
+// Stays: 0 for none, as the definitions `first_wrong` and `spoken` have it.
 #[derive(Clone, Copy)]
 pub struct Judge {
     pub seen: u64,

@@ -8,7 +8,7 @@ ghost use Rattle.line_words.specs.Held.{KeepsBytes};
 pub const LONGEST: usize = 32;
 
 // The count is one more than the longest name has where there are too many to be kept.
-// (a) Fixed memory, no heap; the definition `KeepsBytes` gives these two fields, and the count may be past the room.
+// Stays: Fixed memory, no heap; the definition `KeepsBytes` gives these two fields, and the count may be past the room.
 #[derive(Clone, Copy)]
 pub struct Kept {
     pub bytes: [u8; 32],

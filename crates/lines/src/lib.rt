@@ -8,7 +8,7 @@ ghost use Rattle.lines.specs.Lines.{short, more, begun, held_by, Goes};
 
 // The bytes of the line that is not ended yet, and how many there are: one more than the longest
 // line has where there are too many to be kept.
-// (a) no heap: a line's bytes stand in the struct, and their count beside them.
+// Stays: no heap: a line's bytes stand in the struct, and their count beside them.
 #[derive(Clone, Copy)]
 pub struct Lines {
     pub bytes: [u8; 80],

@@ -43,7 +43,7 @@ pub enum Cell {
     Conflict,
 }
 
-// What may not change: a kind and a lock are words here, as the rules' `judged` and `done` have them.
+// Stays: a kind and a lock are words here, as the rules' `judged` and `done` have them.
 #[derive(Clone, Copy)]
 pub enum Deed {
     // Nothing is done.

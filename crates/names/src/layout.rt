@@ -35,7 +35,7 @@ pub const TXN_WORDS: usize = TXN_HEAD + TXN_ROW * (SLOTS as usize);
 
 pub type Txns = [u64; TXN_WORDS];
 
-// The kinds of transactions. C interface: numbers, since a lent table may have any word in their place.
+// The kinds of transactions. Stays: numbers, since a table that C lends may have any word in their place.
 pub const UPDATE_KIND: u64 = 0;
 
 pub const QUERY_KIND: u64 = 1;
@@ -44,7 +44,7 @@ pub const SETTLED_KIND: u64 = 2;
 
 pub const RELAXED_KIND: u64 = 3;
 
-// The locks that are awaited. C interface: numbers, as the kinds are.
+// The locks that are awaited. Stays: numbers, as the kinds are.
 pub const NO_LOCK: u64 = 0;
 
 pub const SHARED_LOCK: u64 = 1;

@@ -81,7 +81,7 @@ pub struct Stamp(pub u64);
 pub struct Item(pub u64);
 
 // The place of a live transaction.
-// What may not change: the rules' `item_of` and `found_at` make an item and a slot of a word by a test,
+// Stays: the rules' `item_of` and `found_at` make an item and a slot of a word by a test,
 // so neither type has an invariant, and a function asks for the bound that it needs.
 #[derive(Clone, Copy)]
 pub struct Slot(pub u64);

@@ -1,6 +1,6 @@
 // The transaction table: its head, and a row for each slot.
 //
-// (a) Kinds and locks are numbers, not enums, and a slot is below the number of slots by a `requires`, not by its type: any
+// Stays: Kinds and locks are numbers, not enums, and a slot is below the number of slots by a `requires`, not by its type: any
 // word may stand in a table, and the rules (`Txn`, `Deed`, `awaits_other`, `begin_by`, `item_of`) speak of words.
 ghost use Rattle.std.specs.Prelude.{◌≡◌, ◌+◌, ◌<◌, get_or, set, eqb, ◌&&◌, not};
 ghost use Rattle.names.specs.Sizes.{base};

@@ -23,7 +23,7 @@ const EVERY_ITEM: u64 = 18446744073709551615;
 // What one pass over the transaction rows sees: whether each is as the rules ask, but for what the
 // locks have a part in; the slots of the live updates; the slots of those that await a lock; the slots
 // of those past their writing; the slots of the relaxed queries; and whose sets there are.
-// (a) `ok` is no Option: the contract of `rows` says the words of rows that are not as asked, too.
+// Stays: `ok` is no Option: the contract of `rows` says the words of rows that are not as asked, too.
 #[derive(Clone, Copy)]
 pub struct Seen {
     pub ok: bool,

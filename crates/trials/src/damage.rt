@@ -6,7 +6,7 @@ use crate::state::Tables;
 use names::{Answer, Call};
 use tally::{Score, Tally};
 
-// What may not change: the expected codes are a test's values, written as document 01 has them.
+// Stays: the expected codes are a test's values, written as document 01 has them.
 const BAD_TABLES: u64 = 10;
 
 const UNKNOWN_TRANSACTION: u64 = 3;

@@ -51,7 +51,7 @@ fn unused_in(row: &Row, m: usize, part: usize) -> bool
     ) & words::zeros(row, VERSION_STAMP_AT + part, PAIRS - part)
 }
 
-// (d) Each part is named: in a loop over the parts the second length would not be known beforehand.
+// Stays: Each part is named: in a loop over the parts the second length would not be known beforehand.
 fn unused_ok(row: &Row, m: usize) -> bool
     requires { m ≤ base.places }
     ensures { result ≡ unused_ok row.now m }

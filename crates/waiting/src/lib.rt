@@ -18,7 +18,7 @@ use names::{
 
 // What one pass over the rows that await a lock sees: whether each may await it; whom each slot waits
 // for, as a word of slots.
-// (a) `ok` is no Option: the contract of `waits` says whom each waits for where one may not await, too.
+// Stays: `ok` is no Option: the contract of `waits` says whom each waits for where one may not await, too.
 #[derive(Drop)]
 pub struct Waiters {
     pub ok: bool,
