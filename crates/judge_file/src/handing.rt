@@ -1,7 +1,7 @@
 // A file's bytes, handed over as they are asked for. What is asked for, and what is said at the end,
 // is the machine's (`judging`): here nothing is decided, but that a file that cannot be read has no
 // verdict.
-ghost use Rattle.std.specs.Prelude.{◌≡◌, length, OnOk};
+ghost use Rattle.std.specs.Prelude.{◌≡◌, length, IfOk};
 ghost use Rattle.judging.specs.Counted.{wanted};
 ghost use Rattle.judging.specs.Handed.{left};
 
@@ -19,7 +19,7 @@ fn large_buffer() -> [u8; 65536]
 
 // Reads each count that is asked for where it stands.
 fn read_counts(size: u64, file: &mut File) -> Result<Counts, Fault>
-    ensures { OnOk result (λ counts. wanted counts ≡ 0) }
+    ensures { IfOk result (λ counts. wanted counts ≡ 0) }
 {
     let mut word = [0; WORD];
     let mut counts = Counts::new(size);
@@ -35,7 +35,7 @@ fn read_counts(size: u64, file: &mut File) -> Result<Counts, Fault>
 // goes on, since a file that cannot be read to its end has no verdict.
 fn read_records(counts: Counts, calls: &mut File, answers: &mut File) -> Result<Judging, Fault>
     requires { wanted counts ≡ 0 }
-    ensures { OnOk result (λ judging. left judging ≡ 0) }
+    ensures { IfOk result (λ judging. left judging ≡ 0) }
 {
     let mut from = large_buffer();
     let mut to = large_buffer();

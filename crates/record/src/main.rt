@@ -12,7 +12,7 @@
 
 mod fault;
 
-ghost use Rattle.std.specs.Prelude.{◌≡◌, length, OnOk};
+ghost use Rattle.std.specs.Prelude.{◌≡◌, length, IfOk};
 ghost use Rattle.recorder.specs.Second.{left};
 
 use fault::Fault;
@@ -71,7 +71,7 @@ fn end_input(taking: Taking, file: &mut File) -> Result<Answering, Fault> {
 
 // Hands the calls over that are asked for, from where a file stands, and writes the answers.
 fn answer_from(born: Answering, back: &mut File, file: &mut File) -> Result<Answering, Fault>
-    ensures { OnOk result (λ answering. left answering ≡ 0) }
+    ensures { IfOk result (λ answering. left answering ≡ 0) }
 {
     let mut input = large_buffer();
     let mut output = large_buffer();
@@ -92,7 +92,7 @@ fn answer_all(
     file: &mut File,
     path: &str,
 ) -> Result<Answering, Fault>
-    ensures { OnOk result (λ answering. left answering ≡ 0) }
+    ensures { IfOk result (λ answering. left answering ≡ 0) }
 {
     let mut back = File::open(rt, path)?;
     let mut head = [0; WORD];

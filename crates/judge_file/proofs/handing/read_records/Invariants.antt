@@ -3,4 +3,4 @@ use Rattle.judging.specs.Handed.{left}
 use Rattle.judge_file.proofs.handing.read_records.Given as goal
 
 abbrev pub decreases-loop-from : goal.decreases-loop-from
-decreases-loop-from g l = left l.judging
+decreases-loop-from l = left l.judging
