@@ -17,7 +17,7 @@ ghost use Rattle.recorder.specs.Second.{left};
 
 use fault::Fault;
 use journal::{RECORD, WORD};
-use recorder::{AfterInput, Answering, Taking};
+use recorder::{Answering, Taking};
 use std::env::{Env, FillError};
 use std::fmt::Display;
 use std::fs::File;
@@ -88,7 +88,7 @@ fn answer_all(
     answer_from(answering, &mut back, file)
 }
 
-fn print(rt: &HostRuntime, answering: Answering) -> Result<(), Fault> {
+fn print(rt: &HostRuntime, answering: &Answering) -> Result<(), Fault> {
     let mut out = [0; 4096];
     let used = answering.line(&mut out);
     rt.stdout().write_all(&out[..used]).map_err(Fault::Output)
@@ -101,15 +101,12 @@ fn fill(rt: &HostRuntime, path: &str) -> Result<(), Fault> {
     file.write_all(&recorder::unfinished())?;
     let taking = take_all(rt, &mut file)?;
     let mut last = [0; RECORD];
-    let AfterInput {
-        mut answering,
-        used,
-    } = taking.end(&mut last);
-    file.write_all(&last[..used])?;
-    file.write_all(&answering.second())?;
-    answer_all(rt, &mut answering, &mut file, path)?;
-    file.write_all_at(&answering.first(), 0)?;
-    print(rt, answering)
+    let mut ended = taking.end(&mut last);
+    file.write_all(&last[..ended.used])?;
+    file.write_all(&ended.answering.second())?;
+    answer_all(rt, &mut ended.answering, &mut file, path)?;
+    file.write_all_at(&ended.answering.first(), 0)?;
+    print(rt, &ended.answering)
 }
 
 // Says what failed, and why.
