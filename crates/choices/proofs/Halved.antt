@@ -1,11 +1,11 @@
 -- The search by halving for the version that a reader reads, and the words of that version in the table.
-use Prim.Native.Nat.{ℕ, zero, suc, ◌+◌, ◌-◌, ◌/◌, ◌<◌, ◌≤◌}
+use Prim.Native.Nat.{ℕ, zero, suc, ◌+◌, ◌-◌, ◌*◌, ◌/◌, ◌<◌, ◌≤◌}
 use mathlib.Core.Path.{◌≡◌, refl, sym, ap, ◌∙◌, subst}
 use mathlib.Core.Bool.{Bool, true, false, ◌&&◌, not}
 use mathlib.Core.List.{List}
 use native.Mathlib.Omega.{arith}
 use native.Mathlib.Nat.{not-suc-le-zero}
-use lib.ListN.{get_or}
+use lib.ListN.{get_or, take, drop}
 use lib.Dec.{T, ltb, leb→le, le→leb}
 use borrow.Author.Tests.{ltb-false}
 use Rattle.names.specs.Sizes.{base}
@@ -18,7 +18,7 @@ use Rattle.rules.proofs.Reading.{place_is}
 use Rattle.choices.specs.Pairs.{count_in, stamp_in}
 use Rattle.choices.specs.Choosable.{Choosable, ChoosableIn}
 use Rattle.choices.specs.Looks.{halvings, most_looks}
-use Rattle.choices.proofs.Lent.{length-row}
+use Rattle.choices.proofs.Lent.{lent, length-row}
 use Rattle.choices.proofs.Halvings.{fewer, at_most}
 use Rattle.choices.proofs.Read.{seen_up_to}
 
@@ -144,6 +144,22 @@ pub found_in : (v : List ℕ) (x : ℕ) (q : Reader) → Choosable v x q → Cho
 unfolding versions_of
 found_in v x q f =
     record { size = length-row x v f.size f.known; sound = f.sound; found = f.found }
+
+-- what is known of the place that the search finds in the part of the table that is lent
+pub record Placed (v : List ℕ) (x : ℕ) (q : Reader) (k : ℕ) : Type 0 where
+  pub is : k ≡ place q (versions_of base v x)
+  pub counted : k < count_in (row (version_row base) x v)
+  pub room : k < base.places
+
+pub placed :
+    (v : List ℕ) (x : ℕ) (q : Reader) → Choosable v x q → (k : ℕ)
+    → k ≡ place q (versions_in base (take ((version_row base * x + version_row base) - version_row base * x) (drop (version_row base * x) v)))
+    → Placed v x q k
+unfolding versions_of
+placed v x q f k e =
+    let i : k ≡ place q (versions_of base v x) = e ∙ ap (λ (r : List ℕ). place q (versions_in base r)) (lent x v) in
+    let c : k < count_in (row (version_row base) x v) = omega (arith, within (row (version_row base) x v) q (found_in v x q f)) in
+    record { is = i; counted = c; room = let m = f.sound.most in omega arith }
 
 -- the place that the search finds is one of the row's
 pub in_row : (r : List ℕ) (q : Reader) → ChoosableIn r q → (k : ℕ) → k ≡ place q (versions_in base r) → (k < count_in r) × (k < base.places)

@@ -51,7 +51,7 @@ impl Cutting {
         let mut tally = self.tally;
         for &byte in piece {
             if byte == LINE_END {
-                tally = tally.count(line.ended());
+                tally.count(line.ended());
                 line = Line::new();
                 begun = false;
             } else {
@@ -77,9 +77,10 @@ impl Cutting {
         ensures { (input : List ℕ) → Took input self → Counts (said_lines input) result }
     {
         let begun = self.begun;
+        let mut tally = self.tally;
         if begun {
-            return self.tally.count(self.line.ended());
+            tally.count(self.line.ended());
         }
-        self.tally
+        tally
     }
 }

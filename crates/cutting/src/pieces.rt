@@ -34,33 +34,20 @@ impl Pieces {
     }
 
     // A piece more.
-    pub fn add(self, noted: Noted) -> Self
-        ensures { (ps : List Piece) (p : Piece) → Holds ps self → KeepsPiece p noted → Name p.name → Holds (ps ++ (p ∷ [])) result }
+    pub fn add(&mut self, noted: Noted)
+        ensures { (ps : List Piece) (p : Piece) → Holds ps self.old → KeepsPiece p noted → Name p.name → Holds (ps ++ (p ∷ [])) self.new }
     {
         let at = self.count;
-        let other = noted.unknown;
-        let unknown = self.unknown | other;
-        let mut names = self.names;
-        let mut rows = self.rows;
+        self.unknown |= noted.unknown;
         if MOST <= at {
-            return Pieces {
-                count: MOST + 1,
-                unknown,
-                names,
-                rows,
-            };
+            self.count = MOST + 1;
+            return;
         }
         let name = noted.name;
-        let transaction = place(&names, at, &name);
-        let from = at * WIDE;
-        put_text(&mut names, from, &name);
-        put_row(&mut rows, at, transaction, noted.reads, noted.writes);
-        Pieces {
-            count: at + 1,
-            unknown,
-            names,
-            rows,
-        }
+        let transaction = place(&self.names, at, &name);
+        put_text(&mut self.names, at * WIDE, &name);
+        put_row(&mut self.rows, at, transaction, noted.reads, noted.writes);
+        self.count = at + 1;
     }
 }
 

@@ -31,26 +31,14 @@ impl Tally {
     }
 
     // A line more, by what it says.
-    pub fn count(self, ended: Ended) -> Self
-        ensures { (ss : List (Said Piece)) (line : List ℕ) → Counts ss self → Tells (said line) ended → Counts (ss ++ (said line ∷ [])) result }
+    pub fn count(&mut self, ended: Ended)
+        ensures { (ss : List (Said Piece)) (line : List ℕ) → Counts ss self.old → Tells (said line) ended → Counts (ss ++ (said line ∷ [])) self.new }
     {
-        let told = ended.told;
-        let noted = ended.noted;
-        let bad = self.bad;
-        let pieces = self.pieces;
-        let lines = next(self.lines);
-        match told {
-            Told::Comment => Tally { lines, bad, pieces },
-            Told::Piece => Tally {
-                lines,
-                bad,
-                pieces: pieces.add(noted),
-            },
-            Told::Bad => Tally {
-                lines,
-                bad: first(bad, lines),
-                pieces,
-            },
+        self.lines = next(self.lines);
+        match ended.told {
+            Told::Comment => {}
+            Told::Piece => self.pieces.add(ended.noted),
+            Told::Bad => self.bad = first(self.bad, self.lines),
         }
     }
 }

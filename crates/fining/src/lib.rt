@@ -52,7 +52,7 @@ impl Fining {
         let mut tally = self.tally;
         for &byte in piece {
             if byte == LINE_END {
-                tally = tally.count(line.ended());
+                tally.count(line.ended());
                 line = Line::new();
                 begun = false;
             } else {
@@ -78,9 +78,10 @@ impl Fining {
         ensures { (input : List ℕ) → Took input self → Counts (said_lines input) result }
     {
         let begun = self.begun;
+        let mut tally = self.tally;
         if begun {
-            return self.tally.count(self.line.ended());
+            tally.count(self.line.ended());
         }
-        self.tally
+        tally
     }
 }

@@ -37,39 +37,27 @@ impl Operations {
     }
 
     // An operation more.
-    pub fn add(self, noted: Noted) -> Self
-        ensures { (os : List Operation) (o : Operation) → Holds os self → KeepsOperation o noted → Name o.name → Holds (os ++ (o ∷ [])) result }
+    pub fn add(&mut self, noted: Noted)
+        ensures { (os : List Operation) (o : Operation) → Holds os self.old → KeepsOperation o noted → Name o.name → Holds (os ++ (o ∷ [])) self.new }
     {
         let at = self.count;
-        let unknown = self.unknown | (ITEMS <= noted.item);
-        let mut names = self.names;
-        let mut rows = self.rows;
+        self.unknown |= (ITEMS <= noted.item);
         if MOST <= at {
-            return Operations {
-                count: MOST + 1,
-                unknown,
-                names,
-                rows,
-            };
+            self.count = MOST + 1;
+            return;
         }
         let name = noted.name;
-        let program = place(&names, at, &name);
-        let from = at * WIDE;
-        put_text(&mut names, from, &name);
+        let program = place(&self.names, at, &name);
+        put_text(&mut self.names, at * WIDE, &name);
         put_row(
-            &mut rows,
+            &mut self.rows,
             at,
             program,
             noted.item,
             word(noted.writes),
             word(noted.marked),
         );
-        Operations {
-            count: at + 1,
-            unknown,
-            names,
-            rows,
-        }
+        self.count = at + 1;
     }
 }
 

@@ -32,30 +32,14 @@ impl Tally {
     }
 
     // A line more, by what it says.
-    pub fn count(self, ended: Ended) -> Self
-        ensures { (ss : List (Said Operation)) (line : List ℕ) → Counts ss self → Tells (said line) ended → Counts (ss ++ (said line ∷ [])) result }
+    pub fn count(&mut self, ended: Ended)
+        ensures { (ss : List (Said Operation)) (line : List ℕ) → Counts ss self.old → Tells (said line) ended → Counts (ss ++ (said line ∷ [])) self.new }
     {
-        let told = ended.told;
-        let noted = ended.noted;
-        let bad = self.bad;
-        let operations = self.operations;
-        let lines = next(self.lines);
-        match told {
-            Told::Comment => Tally {
-                lines,
-                bad,
-                operations,
-            },
-            Told::Operation => Tally {
-                lines,
-                bad,
-                operations: operations.add(noted),
-            },
-            Told::Bad => Tally {
-                lines,
-                bad: first(bad, lines),
-                operations,
-            },
+        self.lines = next(self.lines);
+        match ended.told {
+            Told::Comment => {}
+            Told::Operation => self.operations.add(ended.noted),
+            Told::Bad => self.bad = first(self.bad, self.lines),
         }
     }
 }

@@ -91,6 +91,7 @@ impl Line {
     }
 
     // The word ends.
+    #[inline(always)]
     fn word_ended(self) -> Self
         ensures { (h : Heard) (w : List ℕ) → KeepsHeard h self → KeepsWord w self.speech.word → KeepsHeard (hear h w) result }
     {

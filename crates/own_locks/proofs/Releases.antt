@@ -70,3 +70,12 @@ one_kept f before after x i r e =
     go : (y : ℕ) → y < x + 1 → (y ≡ x) ⊎ (y ≢ x) → lock after y ≡ f (lock before y)
     go y b (inl q) = subst (λ (z : ℕ). lock after z ≡ f (lock before z)) (sym q) (e ∙ ap f (r.left x (omega arith)))
     go y b (inr d) = r.done y (omega arith)
+
+-- a lock written back as it stands changes nothing
+pub lock-back : (l : List ℕ) (x : ℕ) → length l ≡ lock_words base → x < base.items → set_lock l x (lock l x) ≡ l
+lock-back l x e i =
+    locks-same base (set_lock l x (lock l x)) l (length-set_lock l x (lock l x) ∙ e) e (λ y b. go y (same? y x))
+  where
+    go : (y : ℕ) → (y ≡ x) ⊎ (y ≢ x) → lock (set_lock l x (lock l x)) y ≡ lock l y
+    go y (inl q) = subst (λ (z : ℕ). lock (set_lock l x (lock l x)) z ≡ lock l z) (sym q) (lock-set_lock l x (lock l x) base e i)
+    go y (inr d) = lock-set_lock-other l x (lock l x) y d

@@ -16,7 +16,7 @@ ghost use Rattle.std.specs.Prelude.{◌≡◌, length, IfOk};
 ghost use Rattle.recorder.specs.Second.{left};
 
 use fault::Fault;
-use journal::WORD;
+use journal::{RECORD, WORD};
 use recorder::{Answering, Taking};
 use std::env::{Env, FillError};
 use std::fmt::Display;
@@ -58,41 +58,29 @@ fn take_all(rt: &HostRuntime, file: &mut File) -> Result<Taking, Fault> {
     Ok(taking)
 }
 
-// What is put out at the end of the input, and the second count.
-fn end_input(taking: Taking, file: &mut File) -> Result<Answering, Fault> {
-    let mut output = large_buffer();
-    let after = taking.end(&mut output);
-    let used = after.used;
-    let answering = after.answering;
-    file.write_all(&output[..used])?;
-    file.write_all(&answering.second())?;
-    Ok(answering)
-}
-
 // Hands the calls over that are asked for, from where a file stands, and writes the answers.
-fn answer_from(born: Answering, back: &mut File, file: &mut File) -> Result<Answering, Fault>
-    ensures { IfOk result (λ answering. left answering ≡ 0) }
+fn answer_from(answering: &mut Answering, back: &mut File, file: &mut File) -> Result<(), Fault>
+    ensures { IfOk result (λ u. left answering.new ≡ 0) }
 {
     let mut input = large_buffer();
     let mut output = large_buffer();
-    let mut answering = born;
     while answering.asks() > 0 {
         let size = answering.bytes();
         back.read_exact(&mut input[..size])?;
-        answering = answering.answer(&input[..size], &mut output);
+        *answering = answering.answer(&input[..size], &mut output);
         file.write_all(&output[..size])?;
     }
-    Ok(answering)
+    Ok(())
 }
 
 // The same with the calls behind the first count of the file of this name.
 fn answer_all(
     rt: &HostRuntime,
-    answering: Answering,
+    answering: &mut Answering,
     file: &mut File,
     path: &str,
-) -> Result<Answering, Fault>
-    ensures { IfOk result (λ answering. left answering ≡ 0) }
+) -> Result<(), Fault>
+    ensures { IfOk result (λ u. left answering.new ≡ 0) }
 {
     let mut back = File::open(rt, path)?;
     let mut head = [0; WORD];
@@ -100,21 +88,25 @@ fn answer_all(
     answer_from(answering, &mut back, file)
 }
 
-fn print(rt: &HostRuntime, answering: Answering) -> Result<(), Fault> {
+fn print(rt: &HostRuntime, answering: &Answering) -> Result<(), Fault> {
     let mut out = [0; 4096];
     let used = answering.line(&mut out);
     rt.stdout().write_all(&out[..used]).map_err(Fault::Output)
 }
 
-// The whole journal of this name: its first count is set once all is written.
+// The whole journal of this name: its calls, the second count, the answers; its first count is set once
+// all is written.
 fn fill(rt: &HostRuntime, path: &str) -> Result<(), Fault> {
     let mut file = File::create(rt, path)?;
     file.write_all(&recorder::unfinished())?;
     let taking = take_all(rt, &mut file)?;
-    let ended = end_input(taking, &mut file)?;
-    let answering = answer_all(rt, ended, &mut file, path)?;
-    file.write_all_at(&answering.first(), 0)?;
-    print(rt, answering)
+    let mut last = [0; RECORD];
+    let mut ended = taking.end(&mut last);
+    file.write_all(&last[..ended.used])?;
+    file.write_all(&ended.answering.second())?;
+    answer_all(rt, &mut ended.answering, &mut file, path)?;
+    file.write_all_at(&ended.answering.first(), 0)?;
+    print(rt, &ended.answering)
 }
 
 // Says what failed, and why.

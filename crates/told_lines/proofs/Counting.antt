@@ -1,12 +1,12 @@
 -- Lines counted, the first bad one, and what is said: with a line more.
-use Prim.Native.Nat.{ℕ, suc, ◌+◌, ◌<◌, ◌≤◌}
+use Prim.Native.Nat.{ℕ, zero, suc, ◌+◌, ◌<◌, ◌≤◌}
 use mathlib.Core.Path.{◌≡◌, refl, sym, ap, ap₂, subst, ◌∙◌}
 use mathlib.Core.Bool.{Bool, true, false, cond}
 use mathlib.Core.List.{List, [], ◌∷◌, ◌++◌}
 use native.Mathlib.Omega.{arith}
 use lib.Dec.{eqb, leb}
 use lib.ListN.{length, length-append}
-use borrow.Author.Tests.{le-leb, lt-leb, leb-true, leb-false, ne_eqb, eqb-true, eqb-false}
+use borrow.Author.Tests.{le-leb, lt-leb, leb-true, leb-false, eq-eqb, ne_eqb, eqb-true, eqb-false}
 use Rattle.std.specs.Prelude.{Option, Some, None}
 use Rattle.std.specs.Option.{unwrap_or}
 use Rattle.numerals.specs.Numbers.{greatest}
@@ -42,6 +42,19 @@ next-most l n h e =
     low_or_high n
     (λ k. let q = capped-low n k in let g : greatest < suc n = omega arith in let z = capped_high (suc n) g in omega arith)
     (λ k. let q = capped_high n k in let g : greatest < suc n = omega arith in let z = capped_high (suc n) g in omega arith)
+
+pub capped_none : (n : ℕ) → eqb (capped n) 0 ≡ eqb n 0
+capped_none n =
+    low_or_high n
+    (λ k. ap (λ (m : ℕ). eqb m 0) (capped-low n k))
+    (λ k. let q = capped_high n k in ne_eqb (capped n) 0 (λ z. omega arith) ∙ sym (ne_eqb n 0 (λ z. omega arith)))
+
+pub capped_zero : (n : ℕ) → capped n ≡ 0 → n ≡ 0
+capped_zero n e = eqb-true n 0 (sym (capped_none n) ∙ eq-eqb (capped n) 0 e)
+
+pub capped_some : (n : ℕ) → 0 < capped n → 0 < n
+capped_some zero h = let z = capped-low 0 (omega arith) in absurd (omega arith)
+capped_some (suc n) h = omega arith
 
 -- ---- a line more
 

@@ -31,8 +31,8 @@ const DAMAGE: u8 = b'd';
 
 const GOOD: u8 = b'g';
 
-#[derive(Drop)]
-struct Stage {
+#[derive(Clone, Copy)]
+pub struct Stage {
     tables: Tables,
     tally: Tally,
     rows: Rows,

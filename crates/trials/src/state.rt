@@ -47,7 +47,7 @@ impl Table {
 
 // How many words of each table are lent.
 #[derive(Clone, Copy)]
-struct Lent {
+pub struct Lent {
     txns: usize,
     locks: usize,
     versions: usize,

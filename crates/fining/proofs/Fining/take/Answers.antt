@@ -21,7 +21,7 @@ loop-byte-preserved c =
       | then-byte-eq-LINE_END w ↦ (λ s q.
           let k = l.invariant s q in
           rw (see-next p l.byte-index s t, w.line-is, w.begun-is, w.tally-is)
-          (keeps_end (see_all s (take l.byte-index p)) (record { line = l.line; begun = l.begun; tally = l.tally }) k _ w.if-byte-eq-LINE_END.true w.new-line.ensures (w.count-tally.ensures _ _ k.tally (w.ended.ensures _ k.line))))
+          (keeps_end (see_all s (take l.byte-index p)) (record { line = l.line; begun = l.begun; tally = l.tally }) k _ w.if-byte-eq-LINE_END.true w.new-line.ensures (w.count.ensures _ _ k.tally (w.ended.ensures _ k.line))))
       | else-byte-eq-LINE_END w ↦ (λ s q.
           let k = l.invariant s q in
           rw (see-next p l.byte-index s t, w.line-is, w.begun-is, w.tally-is)

@@ -25,7 +25,7 @@ pub overflow_add-end : goal.overflow_add-end
 overflow_add-end c = let h = fits c in omega arith
 
 pub slice_bounds-copy_from_slice-end : goal.slice_bounds-copy_from_slice-end
-slice_bounds-copy_from_slice-end c = fits c
+slice_bounds-copy_from_slice-end c = let h = fits c in omega arith
 
 pub returns : goal.returns
 returns c =

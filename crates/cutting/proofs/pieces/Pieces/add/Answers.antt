@@ -7,22 +7,22 @@ use Rattle.cutting.proofs.Rows.{add_full, add-room}
 use Rattle.cutting.proofs.pieces.Pieces.add.Goals as goal
 
 pub returns-then-at-ge-MOST : goal.returns-then-at-ge-MOST
-returns-then-at-ge-MOST c = λ ps p k q named. add_full ps p c.args.self k c.args.noted q named (omega (arith, c.if-at-ge-MOST.true))
+returns-then-at-ge-MOST c = λ ps p k q named. add_full ps p c.args.self.now k c.args.noted q named (omega (arith, c.if-at-ge-MOST.true))
 
-pub put_text-requires : goal.put_text-requires
-put_text-requires c =
-    let size : length c.args.self.names ≡ 1024 = search rules in
+pub put_text-self-requires : goal.put_text-self-requires
+put_text-self-requires c =
+    let size : length c.args.self.now.names ≡ 1024 = search rules in
     let wide : length c.args.noted.name ≡ 32 = search rules in
     omega arith
 
 pub put_row-requires : goal.put_row-requires
 put_row-requires c =
-    let size : length c.args.self.rows ≡ 96 = search rules in
+    let size : length c.args.self.now.rows ≡ 96 = search rules in
     (omega arith, omega arith)
 
 pub returns : goal.returns
 returns c = λ ps p k q named.
     let a = c.args in
-    let size : length a.self.names ≡ 1024 = search rules in
-    let wide : length a.self.rows ≡ 96 = search rules in
-    add-room ps p a.self k a.noted q named c.if-at-ge-MOST.false size wide c.place-transaction.ensures c.put_text.ensures.bytes c.put_row.ensures
+    let size : length a.self.now.names ≡ 1024 = search rules in
+    let wide : length a.self.now.rows ≡ 96 = search rules in
+    add-room ps p a.self.now k a.noted q named c.if-at-ge-MOST.false size wide c.place-transaction.ensures c.put_text-self.ensures.bytes c.put_row.ensures

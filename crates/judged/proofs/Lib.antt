@@ -1,0 +1,2 @@
+-- Laws of the judging.
+pub mod Exits
