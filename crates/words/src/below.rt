@@ -2,7 +2,7 @@
 // passes, whether one does, how many do, the word of those that do, and the lowest of them.
 //
 // Each test is pure, so what it answers at a number is a fact; a contract says what comes of the facts.
-// All but `first_below` try every number: the tests of tables take one time whatever they find.
+// All but `first_below` try every number, whatever they find.
 ghost use Rattle.std.specs.Prelude.{◌≡◌, ℕ, Bool, ◌<◌, ◌≤◌};
 ghost use Rattle.rules.specs.Words.{every_below, some_below, count_below, slots_that, first_from};
 ghost use Rattle.words.specs.Below.{found_below};

@@ -14,4 +14,6 @@ returns c =
       | in-Some w ↦ ap (word_at 0) (w.word-is ∙ w.in-Some.ensures.cases.same) ∙ word_piece 0 word_size c.from-rest.result.now (omega arith)
       | in-None w ↦ ap (word_at 0) w.word-is ∙ w.filled_up-word.ensures
     ] in
-    c.from_le_bytes.ensures ∙ word-of_le c.match-first_chunk.word ∙ whole ∙ ap (word_at 0) c.from-rest.ensures ∙ sym (word-drop a.at a.bytes.now)
+    let is : c.from_le_bytes.result ≡ word_at a.at a.bytes.now
+    = c.from_le_bytes.ensures ∙ word-of_le c.match-first_chunk.word ∙ whole ∙ ap (word_at 0) c.from-rest.ensures ∙ sym (word-drop a.at a.bytes.now) in
+    omega arith
